@@ -1,0 +1,3 @@
+pub mod NodeId
+pub mod Codes
+pub mod Frames
