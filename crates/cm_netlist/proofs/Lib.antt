@@ -1,0 +1,4 @@
+pub mod Maps
+pub mod Kept
+pub mod Listed
+pub mod Networks
