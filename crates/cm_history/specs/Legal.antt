@@ -1,0 +1,20 @@
+-- Which histories are legal (own). A history is given with its newest entry first.
+use Rattle.std.specs.Prelude.{◌≡◌, ℕ, ◌+◌, ◌<◌, List, [], ◌∷◌, length, take, reverse}
+use Rattle.cm_history.specs.Listing.{Listing}
+use Rattle.cm_history.specs.Answering.{answer_of}
+use Rattle.cm_history.specs.declared.call.Entry.{Entry}
+
+-- the entry has the reply and the orders that answer its call after what was before it
+abbrev pub IsAnswered : Listing → Entry → List Entry → Type 0
+IsAnswered net e past = (e.reply, e.orders) ≡ answer_of net past e.call
+
+-- every entry does
+abbrev pub IsLegal : Listing → List Entry → Type 0
+IsLegal net [] = Unit {0}
+IsLegal net (e ∷ past) = IsAnswered net e past × IsLegal net past
+
+-- of entries whose oldest comes first, those before this place are a legal history, and with the one at it they aren't
+pub record IsFirstFault (net : Listing) (entries : List Entry) (place : ℕ) : Type 0 where
+  pub inside : place < length entries
+  pub before : IsLegal net (reverse (take place entries))
+  pub wrong : IsLegal net (reverse (take (place + 1) entries)) → ⊥

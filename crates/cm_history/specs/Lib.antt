@@ -1,0 +1,11 @@
+pub mod Phases
+pub mod Listing
+pub mod Orders
+pub mod History
+pub mod Answering
+pub mod Legal
+pub mod Frames
+pub mod Standing
+pub mod Plan
+pub mod Kept
+pub mod Steps

@@ -1,0 +1,54 @@
+-- What orders do: commands to one node and to all.
+use Rattle.std.specs.Prelude.{ℕ, Bool, true, false, ◌==◌, ◌&&◌, if◌then◌else◌, Option, Some, None}
+use Rattle.cm_nmt.specs.declared.command.Command.{Command}
+use Rattle.cm_nmt.specs.declared.command.Command.TheVariants as command
+use Rattle.cm_nmt.specs.declared.frame.Target.{Target}
+use Rattle.cm_nmt.specs.declared.frame.Target.TheVariants as target
+use Rattle.cm_history.specs.declared.call.Orders.{Orders}
+use Rattle.cm_history.specs.declared.call.Orders.TheVariants as orders
+
+-- reset node or reset communication (CiA 301, NMT node control)
+abbrev pub is_reset : Command → Bool
+is_reset command.ResetNode = true
+is_reset command.ResetComm = true
+is_reset _ = false
+
+abbrev pub is_start : Command → Bool
+is_start command.Start = true
+is_start _ = false
+
+-- the state in which a command leaves a device, 0 (unknown) for a reset
+abbrev pub state_left : Command → ℕ
+state_left command.Start = 5
+state_left command.Stop = 4
+state_left command.EnterPre = 127
+state_left command.ResetNode = 0
+state_left command.ResetComm = 0
+
+abbrev pub is_all : Target → Bool
+is_all target.All = true
+is_all (target.Node i) = false
+
+abbrev pub is_node : Target → ℕ → Bool
+is_node target.All i = false
+is_node (target.Node j) i = j == i
+
+-- the command to all nodes in the orders
+abbrev pub to_all : Orders → Option Command
+to_all orders.None = None
+to_all (orders.One f) = if is_all f.target then Some f.command else None
+to_all orders.ResetUnkept = None
+
+-- the orders are a start of node i alone
+abbrev pub is_start_of : Orders → ℕ → Bool
+is_start_of orders.None i = false
+is_start_of (orders.One f) i = is_node f.target i && is_start f.command
+is_start_of orders.ResetUnkept i = false
+
+-- a command to all nodes
+abbrev pub to_every : Command → Orders
+to_every c = orders.One (record { command = c; target = target.All })
+
+-- a command to one node
+abbrev pub to_node : Command → ℕ → Orders
+to_node c i = orders.One (record { command = c; target = target.Node i })
