@@ -1,5 +1,4 @@
 ghost use Rattle.std.specs.Prelude.{◌≡◌, ◌≤◌, ◌==◌, ◌∷◌, [], ℕ, MatchOption, IfSome, position};
-ghost use Rattle.std.specs.List.{slice_split};
 ghost use Rattle.cm_text.specs.Words.{split};
 ghost use Rattle.cm_text.specs.Decimal.{dec_of};
 ghost use Rattle.cm_text.specs.Hex.{two_of, four_of, eight_of};
@@ -39,7 +38,7 @@ impl<'a> Fields<'a> {
 
     // What stands before the first separator, and what stands after it.
     fn cut(bytes: &[u8], separator: u8) -> (&[u8], Option<&[u8]>)
-        ensures { slice_split (λ b. b == separator) bytes.now ≡ result.0.now ∷ parts separator result.1 }
+        ensures { split separator bytes.now ≡ result.0.now ∷ parts separator result.1 }
     {
         match place(bytes, separator) {
             Some(at) => (&bytes[..at], Some(&bytes[at + 1..])),

@@ -107,3 +107,12 @@ fn a_line_is_read_field_by_field(rt: HostRuntime) {
     assert_eq!(rt; Fields::new(b"128", b' ').decimal(127), None);
     assert_eq!(rt; Fields::new(b"", b' ').is_done(), false);
 }
+
+#[test]
+fn asking_for_the_end_reads_one_field(rt: HostRuntime) {
+    let mut fields = Fields::new(b"a b", b' ');
+    assert_eq!(rt; fields.is_done(), false);
+    assert_eq!(rt; fields.next_field(), Some(b"b".as_slice()));
+    assert_eq!(rt; fields.is_done(), true);
+    assert_eq!(rt; fields.is_done(), true);
+}
