@@ -1,0 +1,141 @@
+-- Hexadecimal fields are read exactly.
+use Rattle.std.proofs.Common.{◌≡◌, ℕ, ◌+◌, ◌*◌, ◌/◌, ◌%◌, ◌^◌, ◌<◌, Bool, true, false, cond, ltb, List, [], ◌∷◌, length, get_or, Some, None, refl, sym, ap, ◌∙◌, arith}
+use Rattle.std.proofs.lemmas.Bool.Decides.{nat_tests}
+use Rattle.cm_text.specs.Exact.{IsExact, respelled}
+use Rattle.cm_text.specs.Plain.{is_plain}
+use Rattle.cm_text.specs.Hex.{glyph, nibble, two, four, hex_two, hex_four, hex_eight, two_of, four_of, eight_of}
+use Rattle.cm_text.proofs.Fronts.{same, same_itself}
+
+-- ---- a value that is spelled again
+
+pub respelled_is : {A : Type 0} (b : Bool) (x y : A) → cond b (Some x) None ≡ Some y → (b ≡ true) × (x ≡ y)
+respelled_is true x y e = (refl, cc)
+respelled_is false x y e = absurd cc
+
+pub respelled_again : {A : Type 0} (spell : A → List ℕ) (x y : A) → y ≡ x → respelled spell y (spell x) ≡ Some x
+respelled_again spell x y e = rw (e, same_itself (spell x)) refl
+
+-- ---- one digit
+
+nibble_glyph : (d : ℕ) → d < 16 → nibble (glyph d) ≡ d
+nibble_glyph d lt = grind (arith, nat_tests)
+
+glyph_plain : (d : ℕ) → ltb 32 (glyph d) ≡ true
+glyph_plain d = grind (arith, nat_tests)
+
+glyph_small : (d : ℕ) → d < 16 → glyph d < 71
+glyph_small d lt = grind (arith, nat_tests)
+
+nibble_small : (c : ℕ) → nibble c < 16
+nibble_small c = grind (arith, nat_tests)
+
+-- ---- two digits
+
+two_small : (a b : ℕ) → two a b < 2 ^ 8
+unfolding two
+two_small a b = omega (arith, nibble_small a, nibble_small b)
+
+two_glyphs : (n : ℕ) → n < 2 ^ 8 → two (glyph (n / 16)) (glyph (n % 16)) ≡ n
+unfolding two
+two_glyphs n lt =
+    let high : n / 16 < 16 = omega arith in
+    let low : n % 16 < 16 = omega arith in
+    rw (nibble_glyph (n / 16) high, nibble_glyph (n % 16) low) (omega arith)
+
+two_takes : (w : List ℕ) (n : ℕ) → two_of w ≡ Some n → (w ≡ hex_two n) × (n < 2 ^ 8)
+unfolding two_of
+two_takes (a ∷ b ∷ []) n e =
+    let h = respelled_is _ _ _ e in
+    (sym (same _ _ h.0) ∙ ap hex_two h.1, omega (arith, h.1, two_small a b))
+two_takes [] n e = absurd cc
+two_takes (a ∷ []) n e = absurd cc
+two_takes (a ∷ b ∷ c ∷ w) n e = absurd cc
+
+two_again : (n : ℕ) → n < 2 ^ 8 → two_of (hex_two n) ≡ Some n
+unfolding two_of hex_two
+two_again n lt = respelled_again hex_two n _ (two_glyphs n lt)
+
+pub hex_two_exact : IsExact hex_two two_of (λ n. n < 2 ^ 8)
+hex_two_exact = record { takes = two_takes; again = two_again }
+
+pub hex_two_plain : (n : ℕ) → is_plain (hex_two n) ≡ true
+unfolding hex_two
+hex_two_plain n = rw (glyph_plain (n / 16), glyph_plain (n % 16)) refl
+
+-- ---- four digits
+
+four_small : (a b c d : ℕ) → four a b c d < 2 ^ 16
+unfolding four
+four_small a b c d = omega (arith, two_small a b, two_small c d)
+
+four_glyphs : (n : ℕ) → n < 2 ^ 16 → four (glyph (n / 256 / 16)) (glyph (n / 256 % 16)) (glyph (n % 256 / 16)) (glyph (n % 256 % 16)) ≡ n
+unfolding four
+four_glyphs n lt =
+    let high : n / 256 < 2 ^ 8 = omega arith in
+    let low : n % 256 < 2 ^ 8 = omega arith in
+    rw (two_glyphs (n / 256) high, two_glyphs (n % 256) low) (omega arith)
+
+four_takes : (w : List ℕ) (n : ℕ) → four_of w ≡ Some n → (w ≡ hex_four n) × (n < 2 ^ 16)
+unfolding four_of
+four_takes (a ∷ b ∷ c ∷ d ∷ []) n e =
+    let h = respelled_is _ _ _ e in
+    (sym (same _ _ h.0) ∙ ap hex_four h.1, omega (arith, h.1, four_small a b c d))
+four_takes [] n e = absurd cc
+four_takes (a ∷ []) n e = absurd cc
+four_takes (a ∷ b ∷ []) n e = absurd cc
+four_takes (a ∷ b ∷ c ∷ []) n e = absurd cc
+four_takes (a ∷ b ∷ c ∷ d ∷ x ∷ w) n e = absurd cc
+
+four_again : (n : ℕ) → n < 2 ^ 16 → four_of (hex_four n) ≡ Some n
+unfolding four_of hex_four hex_two
+four_again n lt = respelled_again hex_four n _ (four_glyphs n lt)
+
+pub hex_four_exact : IsExact hex_four four_of (λ n. n < 2 ^ 16)
+hex_four_exact = record { takes = four_takes; again = four_again }
+
+pub hex_four_plain : (n : ℕ) → is_plain (hex_four n) ≡ true
+unfolding hex_four hex_two
+hex_four_plain n = simp glyph_plain
+
+-- ---- eight digits
+
+eight_takes : (w : List ℕ) (n : ℕ) → eight_of w ≡ Some n → (w ≡ hex_eight n) × (n < 2 ^ 32)
+unfolding eight_of
+eight_takes (a ∷ b ∷ c ∷ d ∷ e ∷ f ∷ g ∷ h ∷ []) n eq =
+    let k = respelled_is _ _ _ eq in
+    (sym (same _ _ k.0) ∙ ap hex_eight k.1, omega (arith, k.1, four_small a b c d, four_small e f g h))
+eight_takes [] n eq = absurd cc
+eight_takes (a ∷ []) n eq = absurd cc
+eight_takes (a ∷ b ∷ []) n eq = absurd cc
+eight_takes (a ∷ b ∷ c ∷ []) n eq = absurd cc
+eight_takes (a ∷ b ∷ c ∷ d ∷ []) n eq = absurd cc
+eight_takes (a ∷ b ∷ c ∷ d ∷ e ∷ []) n eq = absurd cc
+eight_takes (a ∷ b ∷ c ∷ d ∷ e ∷ f ∷ []) n eq = absurd cc
+eight_takes (a ∷ b ∷ c ∷ d ∷ e ∷ f ∷ g ∷ []) n eq = absurd cc
+eight_takes (a ∷ b ∷ c ∷ d ∷ e ∷ f ∷ g ∷ h ∷ i ∷ w) n eq = absurd cc
+
+eight_again : (n : ℕ) → n < 2 ^ 32 → eight_of (hex_eight n) ≡ Some n
+unfolding eight_of hex_eight hex_four hex_two
+eight_again n lt =
+    let high : n / 65536 < 2 ^ 16 = omega arith in
+    let low : n % 65536 < 2 ^ 16 = omega arith in
+    let value : four (glyph (n / 65536 / 256 / 16)) (glyph (n / 65536 / 256 % 16)) (glyph (n / 65536 % 256 / 16)) (glyph (n / 65536 % 256 % 16)) * 65536
+    + four (glyph (n % 65536 / 256 / 16)) (glyph (n % 65536 / 256 % 16)) (glyph (n % 65536 % 256 / 16)) (glyph (n % 65536 % 256 % 16)) ≡ n =
+    rw (four_glyphs (n / 65536) high, four_glyphs (n % 65536) low) (omega arith) in
+    respelled_again hex_eight n _ value
+
+pub hex_eight_exact : IsExact hex_eight eight_of (λ n. n < 2 ^ 32)
+hex_eight_exact = record { takes = eight_takes; again = eight_again }
+
+pub hex_eight_plain : (n : ℕ) → is_plain (hex_eight n) ≡ true
+unfolding hex_eight hex_four hex_two
+hex_eight_plain n = simp glyph_plain
+
+pub hex_eight_length : (n : ℕ) → length (hex_eight n) ≡ 8
+unfolding hex_eight hex_four hex_two
+hex_eight_length n = refl
+
+-- the first digit is no small letter, so no lower-case word begins so
+pub hex_eight_head : (n : ℕ) → n < 2 ^ 32 → get_or (hex_eight n) 0 0 < 71
+unfolding hex_eight hex_four hex_two
+hex_eight_head n lt = glyph_small (n / 65536 / 256 / 16) (omega arith)

@@ -1,0 +1,147 @@
+ghost use Rattle.std.specs.Prelude.{◌≡◌, ◌≢◌, ◌<◌, ◌^◌, ℕ, MatchOption};
+ghost use Rattle.cm_text.specs.Hex.{glyph, nibble, hex_two, hex_four, hex_eight, two, four, two_of, four_of, eight_of};
+
+fn digit(worth: u8) -> u8
+    requires { worth < 16 }
+    ensures { result ≡ glyph worth }
+{
+    if worth < 10 {
+        b'0' + worth
+    } else {
+        b'A' + (worth - 10)
+    }
+}
+
+/// The two digits that spell a byte, the high one first, as `0D` for 13.
+#[tactic(auto, unfolding(crate::specs::Hex::hex_two))]
+pub fn hex2(n: u8) -> [u8; 2]
+    ensures { result ≡ hex_two n }
+{
+    [digit(n / 16), digit(n % 16)]
+}
+
+/// The four digits that spell a number of 16 bits, the high one first.
+#[tactic(auto, unfolding(crate::specs::Hex::hex_four))]
+pub fn hex4(n: u16) -> [u8; 4]
+    ensures { result ≡ hex_four n }
+{
+    let [a, b] = hex2((n / 256) as u8);
+    let [c, d] = hex2((n % 256) as u8);
+    [a, b, c, d]
+}
+
+/// The eight digits that spell a number of 32 bits, the high one first.
+#[tactic(auto, unfolding(crate::specs::Hex::hex_eight))]
+pub fn hex8(n: u32) -> [u8; 8]
+    ensures { result ≡ hex_eight n }
+{
+    let [a, b, c, d] = hex4((n / 65536) as u16);
+    let [e, f, g, h] = hex4((n % 65536) as u16);
+    [a, b, c, d, e, f, g, h]
+}
+
+// What a digit is worth, and 0 for any other byte: spelling the number again finds that one.
+fn worth(byte: u8) -> u8
+    ensures value { result ≡ nibble byte }
+    ensures small { result < 16 }
+{
+    match byte {
+        b'0'..=b'9' => byte - b'0',
+        b'A'..=b'F' => byte - b'A' + 10,
+        _ => 0,
+    }
+}
+
+#[tactic(auto, unfolding(crate::specs::Hex::two))]
+fn pair(a: u8, b: u8) -> u8
+    ensures { result ≡ two a b }
+{
+    worth(a) * 16 + worth(b)
+}
+
+#[tactic(auto, unfolding(crate::specs::Hex::four))]
+fn quad(a: u8, b: u8, c: u8, d: u8) -> u16
+    ensures { result ≡ four a b c d }
+{
+    u16::from(pair(a, b)) * 256 + u16::from(pair(c, d))
+}
+
+/// The byte that exactly two digits, `0` to `9` and `A` to `F`, spell; `None` exactly where the
+/// field is no such digits.
+pub fn read_hex2(word: &[u8]) -> Option<u8>
+    ensures value { result ≡ two_of word.now }
+    ensures exact { MatchOption result
+        ((n : ℕ) → n < 2 ^ 8 → word.now ≢ hex_two n)
+        (λ n. word.now ≡ hex_two n) }
+{
+    hex2_value(word)
+}
+
+#[tactic(auto, unfolding(crate::specs::Hex::two_of))]
+fn hex2_value(word: &[u8]) -> Option<u8>
+    ensures { result ≡ two_of word.now }
+{
+    let [a, b] = word else {
+        return None;
+    };
+    let n = pair(*a, *b);
+    if hex2(n).as_slice() == word {
+        Some(n)
+    } else {
+        None
+    }
+}
+
+/// The number of 16 bits that exactly four digits, `0` to `9` and `A` to `F`, spell; `None`
+/// exactly where the field is no such digits.
+pub fn read_hex4(word: &[u8]) -> Option<u16>
+    ensures value { result ≡ four_of word.now }
+    ensures exact { MatchOption result
+        ((n : ℕ) → n < 2 ^ 16 → word.now ≢ hex_four n)
+        (λ n. word.now ≡ hex_four n) }
+{
+    hex4_value(word)
+}
+
+#[tactic(auto, unfolding(crate::specs::Hex::four_of))]
+fn hex4_value(word: &[u8]) -> Option<u16>
+    ensures { result ≡ four_of word.now }
+{
+    let [a, b, c, d] = word else {
+        return None;
+    };
+    let n = quad(*a, *b, *c, *d);
+    if hex4(n).as_slice() == word {
+        Some(n)
+    } else {
+        None
+    }
+}
+
+/// The number of 32 bits that exactly eight digits, `0` to `9` and `A` to `F`, spell; `None`
+/// exactly where the field is no such digits.
+pub fn read_hex8(word: &[u8]) -> Option<u32>
+    ensures value { result ≡ eight_of word.now }
+    ensures exact { MatchOption result
+        ((n : ℕ) → n < 2 ^ 32 → word.now ≢ hex_eight n)
+        (λ n. word.now ≡ hex_eight n) }
+{
+    hex8_value(word)
+}
+
+#[tactic(auto, unfolding(crate::specs::Hex::eight_of))]
+fn hex8_value(word: &[u8]) -> Option<u32>
+    ensures { result ≡ eight_of word.now }
+{
+    let [a, b, c, d, e, f, g, h] = word else {
+        return None;
+    };
+    let high = quad(*a, *b, *c, *d);
+    let low = quad(*e, *f, *g, *h);
+    let n = u32::from(high) * 65536 + u32::from(low);
+    if hex8(n).as_slice() == word {
+        Some(n)
+    } else {
+        None
+    }
+}
