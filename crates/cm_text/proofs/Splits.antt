@@ -1,7 +1,12 @@
 -- Where a list is cut first.
-use Rattle.std.proofs.Common.{◌≡◌, ℕ, ◌+◌, ◌≤◌, Bool, true, false, cond, ltb, List, [], ◌∷◌, length, take, drop, Some, None, refl, ap, arith, inl, inr}
+use Rattle.std.proofs.Common.{◌≡◌, ℕ, ◌+◌, ◌≤◌, Bool, true, false, not, cond, ltb, List, [], ◌∷◌, length, take, drop, Option, Some, None, eqb, refl, sym, ap, arith, inl, inr}
 use Rattle.std.specs.List.{slice_split, onto_first, position, position_or_len}
-use Rattle.std.proofs.lemmas.List.Splits.{slice_split_first}
+use Rattle.std.specs.Option.{is_some}
+use Rattle.std.proofs.lemmas.List.Splits.{slice_split_first, length-slice_split}
+use Rattle.cm_text.specs.Words.{Words, split}
+use Rattle.cm_text.specs.Left.{parts}
+use Rattle.cm_text.specs.Reading.{is_empty}
+use denote.Ref.{Bor}
 use Rattle.std.proofs.lemmas.Bool.{cases_Bool, ltb-true, ltb-false}
 
 found : (b : Bool) (n k : ℕ) → cond b (Some n) None ≡ Some k → (b ≡ true) × (n ≡ k)
@@ -29,3 +34,14 @@ split_at_place p xs k e =
 -- with no separator it stays whole
 pub split_nowhere : (p : ℕ → Bool) (xs : List ℕ) → position p xs ≡ None → slice_split p xs ≡ xs ∷ []
 split_nowhere p xs e = whole p xs (ltb-false _ _ (unfound (ltb (position_or_len p xs) (length xs)) (position_or_len p xs) e))
+
+some_part : (n : ℕ) (ws : Words) → length ws ≡ n + 1 → is_empty ws ≡ false
+some_part n [] e = absurd (omega arith)
+some_part n (w ∷ ws) e = refl
+
+-- nothing is left exactly where no bytes are, since even empty bytes are one part
+pub none_left : (separator : ℕ) (rest : Option (Bor (List ℕ))) (none : Bool) → is_some rest ≡ not none → none ≡ is_empty (parts separator rest)
+none_left separator None true e = refl
+none_left separator None false e = absurd cc
+none_left separator (Some bytes) true e = absurd cc
+none_left separator (Some bytes) false e = sym (some_part _ (split separator bytes.now) (length-slice_split (λ b. eqb b separator) bytes.now))

@@ -17,7 +17,7 @@ fn place(bytes: &[u8], separator: u8) -> Option<usize>
 /// separator, or the lines of a text, with a line feed. Contracts see the list of these parts.
 ///
 /// Where a reading method gives `None`, nothing is said of what is left then.
-#[derive(Drop)]
+#[derive(Clone, Copy)]
 pub struct Fields<'a> {
     separator: u8,
     rest: Option<&'a [u8]>,
@@ -105,11 +105,10 @@ impl<'a> Fields<'a> {
         }
     }
 
-    /// Whether no part is left. It reads one field to find out, so where one is left that field is
-    /// gone.
-    pub fn is_done(&mut self) -> bool
-        ensures { result ≡ is_empty (left self.old) }
+    /// Whether no part is left.
+    pub fn is_done(&self) -> bool
+        ensures { result ≡ is_empty (left self.now) }
     {
-        self.next_field().is_none()
+        self.rest.is_none()
     }
 }
