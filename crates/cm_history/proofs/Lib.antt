@@ -4,5 +4,5 @@ mod Slaves
 mod Phases
 mod Serving
 mod Listings
-mod Replays
+pub mod Replays
 mod Resets
