@@ -76,10 +76,15 @@ comes_to_beat t a =
     || (may_configure t a && date_agrees t a)
     || (must_write t a && a.acked == t.writes && not (is_answered a.refused))
 
--- where the field's question is asked: 1000h where the slave is to be booted, an identity where the
--- one before agrees and its expected value isn't 0, the state where the slave is kept alive, the
--- date where one is expected, the time where the date agrees, the writes where a configuration is
--- needed, the beat where a heartbeat time is listed (CiA 302-2, boot slave; the order is own)
+-- where the field's question is asked (CiA 302-2, boot slave; the order and the conditions are own):
+--   Device            the slave is to be booted, 1F81h bit 2, also where no device type is expected
+--   Vendor to Serial  all before it agrees, and its expected value isn't 0: what isn't compared
+--                     isn't read
+--   State             the identity agrees, and the slave is kept alive, 1F81h bit 4
+--   Date              the slave may be configured, and a date and a time are expected
+--   Time              the same, and the expected date was read
+--   Writes            the slave may be configured, and needs to be
+--   Beat              a heartbeat time is listed, and nothing else is left
 unfoldable pub condition : Terms → Answers → Field → Bool
 condition t a Device = has_bit t.assignment.0 2
 condition t a Vendor = asks_identity t a && not (t.vendor == 0)

@@ -25,6 +25,7 @@ pub view-insert : (n : Inside) (k : ℕ) (e : SlaveEntry) (m : BTreeMap ℕ Slav
 view-insert n k e m kept is =
     ap (λ (s : FinMap nat_cmp SlaveEntry). record (view_of n) { slaves = s }) (ap (λ es. from_sorted es) is ∙ insert-sorted k e n.slaves.entries kept.sorted)
 
+-- an insert of an entry that may be added keeps what every network list is
 pub IsKept-insert : (n : Inside) (k : ℕ) (e : SlaveEntry) (m : BTreeMap ℕ SlaveEntry) → IsKept n → IsEntry n.own k e → m.entries ≡ insert_entry nat_cmp n.slaves.entries k e → IsKept (record n { slaves = m })
 IsKept-insert n k e m kept ok is = record {
   sorted = rw is (sorted-insert k e n.slaves.entries kept.sorted);
