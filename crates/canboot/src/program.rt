@@ -1,0 +1,44 @@
+use crate::command_line::{Order, parse};
+use crate::replay::{FAILED, fault_line, replay_text};
+use clap::error::ErrorKind;
+use std::env;
+use std::io::{self, BufWriter, Write};
+use std::process::ExitCode;
+use std::rt::Env;
+
+/// Runs the program with `err` for the lines of faults, and gives its exit status.
+pub fn run<R: Env + Print + Eprint + Input + AllocGlobal, E: Write>(
+    rt: &R,
+    err: &mut E,
+) -> ExitCode {
+    ExitCode::from(status(rt, err))
+}
+
+fn status<R: Env + Print + Eprint + Input + AllocGlobal, E: Write>(rt: &R, err: &mut E) -> u8 {
+    let Ok(words) = env::args(rt) else {
+        return fault_line(err, FAILED, "read failed");
+    };
+    let Ok(words) = words.collect::<Vec<String>>(rt.alloc()) else {
+        return fault_line(err, FAILED, "out of memory");
+    };
+    match parse(rt.alloc(), words.as_slice()) {
+        Ok(Order::Replay) => replay(rt, err),
+        Err(error) => {
+            if error.kind() == ErrorKind::OutOfMemory {
+                return fault_line(err, FAILED, "out of memory");
+            }
+            match error.print(rt) {
+                Ok(()) => error.exit_code() as u8,
+                Err(_) => fault_line(err, FAILED, "write failed"),
+            }
+        }
+    }
+}
+
+/// `canboot replay`, over the standard streams.
+fn replay<R: Print + Input + AllocGlobal, E: Write>(rt: &R, err: &mut E) -> u8 {
+    let Ok(mut out) = BufWriter::new(rt.alloc(), io::writer(rt)) else {
+        return fault_line(err, FAILED, "out of memory");
+    };
+    replay_text(rt.alloc(), &mut rt.reader(), &mut out, err)
+}

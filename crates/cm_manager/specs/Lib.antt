@@ -1,0 +1,12 @@
+pub use Rattle.cm_history.specs.Phases
+pub use Rattle.cm_history.specs.Listing
+pub use Rattle.cm_history.specs.Orders
+pub use Rattle.cm_history.specs.History
+pub use Rattle.cm_history.specs.Answering
+pub use Rattle.cm_history.specs.Legal
+pub use Rattle.cm_history.specs.Frames
+pub use Rattle.cm_history.specs.Standing
+pub use Rattle.cm_journal.specs.Text
+pub use Rattle.cm_journal.specs.Fits
+pub use Rattle.cm_journal.specs.Journals
+pub use Rattle.cm_journal.specs.Report
