@@ -3,4 +3,4 @@
 #![tactic(auto)]
 
 pub use cm_history::{Call, Entry, Manager, Orders, Phase, Reply, frames, replay, replay_to_fault};
-pub use cm_journal::{FaultKind, Head, Journal, JournalFault, journal_read, report};
+pub use cm_journal::{FaultKind, Head, Journal, JournalFault, journal_read, one_text, report};
