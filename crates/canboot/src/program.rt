@@ -15,10 +15,11 @@ pub fn run<R: Env + Print + Eprint + Input + AllocGlobal, E: Write>(
 }
 
 fn status<R: Env + Print + Eprint + Input + AllocGlobal, E: Write>(rt: &R, err: &mut E) -> u8 {
-    let Ok(words) = env::args(rt) else {
-        return fault_line(err, FAILED, "read failed");
+    let args = match env::args(rt) {
+        Ok(args) => args,
+        Err(error) => return args_fault(err, error.kind()),
     };
-    let Ok(words) = words.collect::<Vec<String>>(rt.alloc()) else {
+    let Ok(words) = args.collect::<Vec<String>>(rt.alloc()) else {
         return fault_line(err, FAILED, "out of memory");
     };
     match parse(rt.alloc(), words.as_slice()) {
@@ -32,6 +33,14 @@ fn status<R: Env + Print + Eprint + Input + AllocGlobal, E: Write>(rt: &R, err: 
                 Err(_) => fault_line(err, FAILED, "write failed"),
             }
         }
+    }
+}
+
+/// The fault of a command line that can't be read.
+fn args_fault<E: Write>(err: &mut E, kind: io::ErrorKind) -> u8 {
+    match kind {
+        io::ErrorKind::OutOfMemory => fault_line(err, FAILED, "out of memory"),
+        _ => fault_line(err, FAILED, "read failed"),
     }
 }
 
