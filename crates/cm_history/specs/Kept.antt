@@ -1,3 +1,4 @@
+-- Working definitions, behind `Stands`: what they hold shows in the contracts of the manager's readers.
 -- What the manager keeps of its network and of each slave, and how a slave's part changes.
 use Rattle.std.specs.Prelude.{ℕ, Bool, ◌==◌, ◌&&◌, ◌||◌, not, if◌then◌else◌, List, filter, None}
 use Rattle.std.specs.List.{slice_index_or}

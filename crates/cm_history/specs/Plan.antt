@@ -1,3 +1,4 @@
+-- Working definitions, behind `Stands`: what they hold shows in the contracts of the manager's readers.
 -- The manager's own copy of its network list.
 use Rattle.std.specs.Prelude.{None}
 use Rattle.std.specs.List.{slice_index_or}

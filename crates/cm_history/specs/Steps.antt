@@ -1,3 +1,4 @@
+-- Working definitions, behind `Stands`: what they hold shows in the contracts of the manager's readers.
 -- What the manager keeps, read as what a history says, and how a call changes it.
 use Rattle.std.specs.Prelude.{◌≡◌, ◌<◌, ℕ, Bool, if◌then◌else◌, ◌+◌, MatchOption, List, Option, Some, None, unwrap_or}
 use Rattle.cm_nmt.specs.declared.state.NmtState.{NmtState}
