@@ -12,6 +12,8 @@ mod plan;
 mod replaying;
 mod sending;
 mod slave;
+#[cfg(test)]
+mod tests;
 
 pub use call::{Call, Entry, Orders, Reply};
 pub use manager::Manager;
