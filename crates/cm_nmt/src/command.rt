@@ -17,7 +17,7 @@ impl Command {
 
     /// The command specifier, the first byte of the message.
     pub fn specifier(self) -> u8
-        ensures { result ≡ specifier_code self }
+        ensures specifier { result ≡ specifier_code self }
     {
         match self {
             Command::Start => 0x01,
@@ -30,7 +30,7 @@ impl Command {
 
     /// The command that has this specifier; `None` exactly where no command has it.
     pub fn from_specifier(specifier: u8) -> Option<Command>
-        ensures { MatchOption result
+        ensures exact { MatchOption result
             ((c : AnyCommand) → specifier_code c ≢ specifier)
             (λ c. specifier_code c ≡ specifier) }
     {

@@ -23,7 +23,7 @@ pub struct Frame {
 impl Frame {
     /// The two bytes: command specifier, node-ID.
     pub fn bytes(self) -> [u8; 2]
-        ensures { result ≡ frame_bytes self }
+        ensures bytes { result ≡ frame_bytes self }
     {
         let node = match &self.target {
             Target::Node(id) => id.get(),
@@ -35,7 +35,7 @@ impl Frame {
     /// The frame whose two bytes these are; `None` exactly where they are those of no frame:
     /// another length, an unknown specifier, or a node-ID above 127.
     pub fn read(bytes: &[u8]) -> Option<Frame>
-        ensures { IsFrameRead bytes.now result }
+        ensures exact { IsFrameRead bytes.now result }
     {
         let [specifier, node] = bytes else {
             return None;

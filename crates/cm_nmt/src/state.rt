@@ -14,7 +14,7 @@ impl NmtState {
 
     /// The state's number in an error control message.
     pub fn code(self) -> u8
-        ensures { result ≡ state_code self }
+        ensures code { result ≡ state_code self }
     {
         match self {
             NmtState::Stopped => 4,
@@ -25,7 +25,7 @@ impl NmtState {
 
     /// The state that has this number; `None` exactly where no state has it.
     pub fn from_code(code: u8) -> Option<NmtState>
-        ensures { MatchOption result ((s : State) → state_code s ≢ code) (λ s. state_code s ≡ code) }
+        ensures exact { MatchOption result ((s : State) → state_code s ≢ code) (λ s. state_code s ≡ code) }
     {
         match code {
             4 => Some(NmtState::Stopped),
