@@ -2,3 +2,6 @@ pub mod Maps
 pub mod Kept
 pub mod Listed
 pub mod Networks
+mod Items
+mod Build
+mod Plain

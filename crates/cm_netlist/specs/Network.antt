@@ -1,5 +1,5 @@
 -- The network list: the own node-ID, two objects, and a finite map from node-ID to entry.
-use Rattle.std.specs.Prelude.{◌≡◌, ◌≢◌, ℕ, Bool, true, false, List, IfSome, Option, Some, None, is_some, option_map, length, refl}
+use Rattle.std.specs.Prelude.{◌≡◌, ◌≢◌, ℕ, Bool, true, false, List, [], ◌∷◌, IfSome, Option, Some, None, is_some, option_map, length, refl}
 use Rattle.std.specs.Coded.{Coded, code_by, coded×, coded_ℕ}
 use Rattle.std.specs.Ordering.{nat_cmp}
 use Rattle.std.specs.List.{filter, range_with_len}
@@ -85,6 +85,15 @@ terms_of e = record {
 -- the terms of the node, if it is listed
 abbrev pub terms : Network → ℕ → Option Terms
 terms net i = option_map terms_of (entry net i)
+
+-- the values that are expected of a slave, in order: device type, vendor-ID, product code, revision
+-- number, serial number (CiA 302-2, 1F84h to 1F88h)
+abbrev pub expected_of : SlaveEntry → List ℕ
+expected_of e = e.device_type ∷ e.vendor ∷ e.product ∷ e.revision ∷ e.serial ∷ []
+
+-- the values that are expected of the node, if it is listed
+abbrev pub expected : Network → ℕ → Option (List ℕ)
+expected net i = option_map expected_of (entry net i)
 
 -- the node-IDs 1 to 127, in rising order
 unfoldable pub node_ids : List ℕ

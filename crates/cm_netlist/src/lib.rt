@@ -3,9 +3,11 @@
 //!
 //! A [`Network`] keeps what makes a list sensible: its own node-ID is no slave, each entry has
 //! 1F81h bit 0 and a node-ID of 1 to 127, and the value of each write fits the write's size.
+//! [`Network::from_toml`] reads a list from TOML.
 #![tactic(auto)]
 
 mod assignment;
+mod document;
 mod entry;
 mod fault;
 mod network;

@@ -1,6 +1,6 @@
 ghost use Rattle.std.specs.Prelude.{◌≡◌, ◌≢◌, ◌≤◌, IfErr, IfSome, OnErr, OnOk, option_copied};
 ghost use Rattle.std.specs.FinMap as map;
-ghost use Rattle.cm_netlist.specs.Network.{IsNetwork, entry, is_kept, is_listed, is_mandatory, listed_ids, terms, with_entry};
+ghost use Rattle.cm_netlist.specs.Network.{IsNetwork, entry, expected, is_kept, is_listed, is_mandatory, listed_ids, terms, with_entry};
 ghost use Rattle.cm_netlist.specs.Add.{add_fault};
 
 use crate::{NetFault, SlaveEntry, Startup, Terms};
@@ -126,6 +126,23 @@ impl Network {
     {
         match self.entry(id) {
             Some(entry) => Some(entry.terms()),
+            None => None,
+        }
+    }
+
+    /// The values that are expected of the node, 1F84h to 1F88h in order: device type, vendor-ID,
+    /// product code, revision number, serial number. `None` where the node isn't listed.
+    pub fn expected(&self, id: NodeId) -> Option<[u32; 5]>
+        ensures { result ≡ expected self.now id }
+    {
+        match self.entry(id) {
+            Some(entry) => Some([
+                entry.device_type,
+                entry.vendor,
+                entry.product,
+                entry.revision,
+                entry.serial,
+            ]),
             None => None,
         }
     }
