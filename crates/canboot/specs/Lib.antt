@@ -1,2 +1,3 @@
 pub mod Input
 pub mod Replay
+pub mod Check

@@ -1,10 +1,13 @@
 //! canboot: the NMT master of a CANopen network, on the command line.
 //!
-//! `canboot replay` reads a journal on standard input, makes sure that it is a legal history, and
-//! prints its status report.
+//! `canboot check` reads a network list and prints how many slaves it lists. `canboot replay` reads
+//! a journal on standard input, makes sure that it is a legal history, and prints its status report.
 #![tactic(auto)]
 
+mod check;
 mod command_line;
+#[cfg(test)]
+mod fakes;
 mod input;
 mod program;
 mod replay;

@@ -1,0 +1,84 @@
+#[cfg(test)]
+mod tests;
+
+ghost use Rattle.std.specs.Prelude.{◌≡◌, ◌⊎◌, List, OnOk, length};
+ghost use Rattle.std.specs.Io.KnownBytes.{Appends};
+ghost use Rattle.canboot.specs.Check.{Checks, RefusesList, check_line, kept_ids, mandatory_ids};
+
+use crate::input::{InputFault, LONGEST_LIST, read_input};
+use crate::replay::{DONE, FAILED, REFUSED, fault_line};
+use cm_netlist::{NetFault, Network};
+use std::alloc::Global;
+use std::io::{self, Read, Write};
+use std::str;
+
+/// How many slaves are mandatory.
+fn count_mandatory(network: &Network) -> usize
+    ensures { result ≡ length (mandatory_ids network.now) }
+{
+    let ids = network.listed_ids();
+    ids.iter().filter(|id| network.mandatory(**id)).count()
+}
+
+/// How many slaves are kept alive.
+fn count_kept(network: &Network) -> usize
+    ensures { result ≡ length (kept_ids network.now) }
+{
+    let ids = network.listed_ids();
+    ids.iter().filter(|id| network.kept(**id)).count()
+}
+
+/// Writes the line of a network list, and all of it.
+fn put_check<W: Write>(network: &Network, out: &mut W) -> io::Result<()>
+    ensures { OnOk result (Appends (W.contents out.old) (W.contents out.new) (check_line network.now)) }
+{
+    let slaves = network.listed_ids().len();
+    let mandatory = count_mandatory(network);
+    let kept = count_kept(network);
+    writeln!(out, "ok slaves {slaves} mandatory {mandatory} kept {kept}")?;
+    out.flush()
+}
+
+/// Writes the line of a network list's fault, and gives the exit status of it.
+fn refuse<E: Write>(err: &mut E, fault: NetFault) -> u8
+    ensures { result ≡ 1 }
+{
+    let _ = writeln!(err, "canboot: network: {fault}");
+    REFUSED
+}
+
+/// Reads a network list in TOML to the end of the input, and writes how many slaves it lists, how
+/// many of them are mandatory, and how many are kept alive. The answer is the exit status:
+///
+/// - 0: the line is written;
+/// - 1: a fault of network lists applies to the bytes, of which those that aren't UTF-8 aren't
+///   TOML; `err` has one line that names the first that applies, and nothing is written to `out`;
+/// - 3: a read or a write failed, the input is longer than 1,048,576 bytes, or memory was refused;
+///   `err` has one line that says which.
+pub fn check_text<R: Read, W: Write, E: Write>(
+    alloc: Global,
+    reader: &mut R,
+    out: &mut W,
+    err: &mut E,
+) -> u8
+    ensures done { result ≡ 0 → Checks (R.remaining reader.old) (R.remaining reader.new) (W.contents out.old) (W.contents out.new) }
+    ensures refused { result ≡ 1 → RefusesList (R.remaining reader.old) (R.remaining reader.new) (W.contents out.old) (W.contents out.new) }
+    ensures statuses { (result ≡ 0) ⊎ ((result ≡ 1) ⊎ (result ≡ 3)) }
+{
+    let bytes = match read_input(alloc, reader, LONGEST_LIST) {
+        Ok(bytes) => bytes,
+        Err(InputFault::Read) => return fault_line(err, FAILED, "read failed"),
+        Err(InputFault::Memory) => return fault_line(err, FAILED, "out of memory"),
+    };
+    let Ok(text) = str::from_utf8(&bytes) else {
+        return refuse(err, NetFault::NotToml);
+    };
+    match Network::from_toml(alloc, text) {
+        Ok(network) => match put_check(&network, out) {
+            Ok(()) => DONE,
+            Err(_) => fault_line(err, FAILED, "write failed"),
+        },
+        Err(NetFault::OutOfMemory) => fault_line(err, FAILED, "out of memory"),
+        Err(fault) => refuse(err, fault),
+    }
+}
