@@ -339,44 +339,51 @@ fn toml_of_two_faults_has_the_lesser(rt: HostRuntime) -> Result<(), Fail> {
     Ok(())
 }
 
-#[test]
-fn toml_integers_have_their_ranges(rt: HostRuntime) -> Result<(), Fail> {
-    let top = "own = 9\nstartup = 1\n";
-    let slave = "own = 9\nstartup = 1\n[[slave]]\nid = 2\nassignment = 5\n";
-    for (head, before, low, high, after) in [
+/// A list with no slave.
+const TOP: &str = "own = 9\nstartup = 1\n";
+/// A list with one slave.
+const SLAVE: &str = "own = 9\nstartup = 1\n[[slave]]\nid = 2\nassignment = 5\n";
+
+/// Each integer of a list: what stands before it, its ends, and what stands behind it.
+fn integers() -> [(&'static str, &'static str, i64, i64, &'static str); 18] {
+    [
         ("startup = 1\n", "own = ", 1, 127, ""),
         ("own = 1\n", "startup = ", 0, 4_294_967_295, ""),
-        (top, "boot_time = ", 0, 4_294_967_295, ""),
-        (top, "slave = [{assignment = 5, id = ", 1, 127, "}]"),
+        (TOP, "boot_time = ", 0, 4_294_967_295, ""),
+        (TOP, "slave = [{assignment = 5, id = ", 1, 127, "}]"),
         (
-            top,
+            TOP,
             "slave = [{id = 2, assignment = ",
             0,
             4_294_967_295,
             "}]",
         ),
-        (slave, "device_type = ", 0, 4_294_967_295, ""),
-        (slave, "vendor = ", 0, 4_294_967_295, ""),
-        (slave, "product = ", 0, 4_294_967_295, ""),
-        (slave, "revision = ", 0, 4_294_967_295, ""),
-        (slave, "serial = ", 0, 4_294_967_295, ""),
-        (slave, "heartbeat = ", 0, 65_535, ""),
-        (slave, "date = ", 0, 4_294_967_295, ""),
-        (slave, "time = ", 0, 4_294_967_295, ""),
-        (slave, "writes = [[", 0, 65_535, ", 0, 1, 0]]"),
-        (slave, "writes = [[0, ", 0, 255, ", 1, 0]]"),
-        (slave, "writes = [[0, 0, ", 1, 2, ", 0]]"),
-        (slave, "writes = [[0, 0, ", 4, 4, ", 0]]"),
-        (slave, "writes = [[0, 0, 4, ", 0, 4_294_967_295, "]]"),
-    ] {
-        let low: i64 = low;
-        let high: i64 = high;
-        for (value, outside) in [
-            (low - 1, true),
+        (SLAVE, "device_type = ", 0, 4_294_967_295, ""),
+        (SLAVE, "vendor = ", 0, 4_294_967_295, ""),
+        (SLAVE, "product = ", 0, 4_294_967_295, ""),
+        (SLAVE, "revision = ", 0, 4_294_967_295, ""),
+        (SLAVE, "serial = ", 0, 4_294_967_295, ""),
+        (SLAVE, "heartbeat = ", 0, 65_535, ""),
+        (SLAVE, "date = ", 0, 4_294_967_295, ""),
+        (SLAVE, "time = ", 0, 4_294_967_295, ""),
+        (SLAVE, "writes = [[", 0, 65_535, ", 0, 1, 0]]"),
+        (SLAVE, "writes = [[0, ", 0, 255, ", 1, 0]]"),
+        (SLAVE, "writes = [[0, 0, ", 1, 2, ", 0]]"),
+        (SLAVE, "writes = [[0, 0, ", 4, 4, ", 0]]"),
+        (SLAVE, "writes = [[0, 0, 4, ", 0, 4_294_967_295, "]]"),
+    ]
+}
+
+#[test]
+fn toml_integers_have_their_ranges(rt: HostRuntime) -> Result<(), Fail> {
+    for (head, before, low, high, after) in integers() {
+        let ends = [
+            (low.saturating_sub(1), true),
             (low, false),
             (high, false),
-            (high + 1, true),
-        ] {
+            (high.saturating_add(1), true),
+        ];
+        for (value, outside) in ends {
             let text = format!(in rt.alloc(); "{head}{before}{value}{after}\n")?;
             let refused = fault(rt, text.as_str()) == Some(NetFault::OutOfRange);
             assert_eq!(rt; refused, outside, "at {before}{value}{after}");
@@ -444,6 +451,14 @@ fn a_full_toml_list_reads_back(rt: HostRuntime) -> Result<(), Fail> {
         assert_eq!(rt; network.mandatory(id), mandatory, "at {number}");
         assert_eq!(rt; network.kept(id), kept, "at {number}");
     }
+    Ok(())
+}
+
+#[test]
+fn an_entry_of_toml_has_its_fields(rt: HostRuntime) -> Result<(), Fail> {
+    let Ok(network) = Network::from_toml(rt.alloc(), FULL_LIST) else {
+        return Err(Fail::from("refused"));
+    };
     let entry = network.entry(node(3)?).ok_or("not listed")?;
     assert_eq!(rt; entry.assignment, Assignment(0x15));
     assert_eq!(rt; (entry.heartbeat_ms, entry.date, entry.time), (6, 7, 8));
