@@ -39,7 +39,7 @@ fn put_check<W: Write>(network: &Network, out: &mut W) -> io::Result<()>
     out.flush()
 }
 
-/// Writes the line of a network list's fault, and gives the exit status of it.
+/// Writes the line of a network list's fault, and gives its exit status.
 fn refuse<E: Write>(err: &mut E, fault: NetFault) -> u8
     ensures { result ≡ 1 }
 {
@@ -51,8 +51,9 @@ fn refuse<E: Write>(err: &mut E, fault: NetFault) -> u8
 /// many of them are mandatory, and how many are kept alive. The answer is the exit status:
 ///
 /// - 0: the line is written;
-/// - 1: a fault of network lists applies to the bytes, of which those that aren't UTF-8 aren't
-///   TOML; `err` has one line that names the first that applies, and nothing is written to `out`;
+/// - 1: one of the ten faults of a network list applies to the bytes, which aren't TOML where they
+///   aren't UTF-8; `err` has one line that names the first that applies, and nothing is written to
+///   `out`;
 /// - 3: a read or a write failed, the input is longer than 1,048,576 bytes, or memory was refused;
 ///   `err` has one line that says which.
 pub fn check_text<R: Read, W: Write, E: Write>(
