@@ -5,3 +5,8 @@ pub mod Fields
 pub mod Lawful
 pub mod Status
 pub mod Verdict
+pub mod Questions
+pub mod Machine
+pub mod BootView
+pub mod Procedure
+pub mod Talk

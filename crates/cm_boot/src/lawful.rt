@@ -109,7 +109,7 @@ fn comes_to_beat(terms: &Terms, answers: &Answers) -> bool
 
 /// Whether the field's question is asked.
 #[tactic(auto, unfolding(crate::specs::Lawful::condition))]
-fn condition(terms: &Terms, answers: &Answers, field: Field) -> bool
+pub(crate) fn condition(terms: &Terms, answers: &Answers, field: Field) -> bool
     ensures { result ≡ condition terms.now answers.now field }
 {
     match field {
@@ -149,7 +149,7 @@ fn is_used(answers: &Answers, field: Field) -> bool
 
 /// Whether the field has all its answers.
 #[tactic(auto, unfolding(crate::specs::Lawful::is_complete))]
-fn is_complete(terms: &Terms, answers: &Answers, field: Field) -> bool
+pub(crate) fn is_complete(terms: &Terms, answers: &Answers, field: Field) -> bool
     ensures { result ≡ is_complete terms.now answers.now field }
 {
     match field {

@@ -1,22 +1,35 @@
-//! The boot of one slave by the NMT master (CiA 302-2, boot slave): the record of what the slave
-//! answered, which records are those of a boot, and the error status that each comes to.
+//! The boot of one slave by the NMT master (CiA 302-2, boot slave): given a network list, a node-ID
+//! and any [`Bus`], [`boot_slave`] asks the questions of the boot in their order and gives the
+//! answers; [`judge`] gives the error status that they come to. It allocates nothing.
 //!
-//! Two tables over the finished record say it all: [`judge_terms`] gives `None` where no boot ends
-//! with these answers, and else the first status that applies.
+//! ```text
+//! let answers = boot_slave(&mut bus, &network, id);
+//! let status = judge(&network, id, &answers);
+//! ```
+//!
+//! Whoever asks by himself takes a [`Boot`], which says what to ask next. Two tables over the
+//! finished record say which answers are those of a boot and which status comes of them; that the
+//! boot, question by question, ends with just these records and statuses is a clause of [`judge`].
 #![tactic(auto)]
 
 mod answers;
+mod boot;
+mod bus;
 mod field;
 mod got;
 mod heard;
 mod lawful;
+mod question;
 mod status;
 #[cfg(test)]
 mod tests;
 mod verdict;
 
 pub use answers::Answers;
+pub use boot::{Boot, WrongAnswer};
+pub use bus::{Bus, boot_slave};
 pub use got::Got;
 pub use heard::Heard;
+pub use question::{Answer, Question, Step};
 pub use status::Status;
-pub use verdict::judge_terms;
+pub use verdict::{judge, judge_terms};

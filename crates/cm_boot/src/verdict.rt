@@ -1,9 +1,11 @@
 ghost use Rattle.std.specs.Prelude.{◌≡◌, ◌<◌};
+ghost use Rattle.cm_netlist.specs.Network.{terms};
 ghost use Rattle.cm_boot.specs.Verdict.{is_wrong, judged, verdict};
 
 use crate::lawful::is_lawful;
 use crate::{Answers, Status};
-use cm_netlist::Terms;
+use cm_netlist::{Network, Terms};
+use cm_nmt::NodeId;
 
 /// Whether an identity was read and isn't the expected one.
 fn is_wrong(answers: &Answers, place: usize, expected: u32) -> bool
@@ -16,7 +18,7 @@ fn is_wrong(answers: &Answers, place: usize, expected: u32) -> bool
 
 /// What the answers come to.
 #[tactic(auto, unfolding(crate::specs::Verdict::verdict))]
-fn status_of(terms: Option<Terms>, answers: &Answers) -> Status
+pub(crate) fn status_of(terms: Option<Terms>, answers: &Answers) -> Status
     ensures { result ≡ verdict terms answers.now }
 {
     let Some(terms) = terms else {
@@ -68,4 +70,12 @@ pub fn judge_terms(terms: Option<Terms>, answers: &Answers) -> Option<Status>
     } else {
         None
     }
+}
+
+/// The status of a boot of this node that ended with these answers; `None` exactly where no boot of
+/// it ends with them.
+pub fn judge(network: &Network, id: NodeId, answers: &Answers) -> Option<Status>
+    ensures value { result ≡ judged (terms network.now id) answers.now }
+{
+    judge_terms(network.terms(id), answers)
 }
