@@ -2,5 +2,7 @@ pub mod Due
 pub mod Order
 pub mod Stays
 pub mod Kept
+pub mod Moves
 pub mod Asked
 pub mod Talked
+pub mod Reached

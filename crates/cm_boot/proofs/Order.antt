@@ -16,13 +16,13 @@ use Rattle.cm_boot.specs.declared.field.Field.{Field}
 use Rattle.cm_boot.specs.declared.field.Field.TheVariants.{Device, Vendor, Product, Revision, Serial, State, Date, Time, Writes, Beat}
 use Rattle.cm_boot.proofs.Due.{and_left, and_right}
 
-has_value_answered : (g : Got) → has_value g ≡ true → is_answered g ≡ true
+pub has_value_answered : (g : Got) → has_value g ≡ true → is_answered g ≡ true
 has_value_answered got.NotAsked e = cc
 has_value_answered got.Silent e = refl
 has_value_answered (got.Abort c) e = refl
 has_value_answered (got.Value v) e = refl
 
-is_value_answered : (g : Got) (x : ℕ) → is_value g x ≡ true → is_answered g ≡ true
+pub is_value_answered : (g : Got) (x : ℕ) → is_value g x ≡ true → is_answered g ≡ true
 is_value_answered got.NotAsked x e = cc
 is_value_answered got.Silent x e = refl
 is_value_answered (got.Abort c) x e = refl

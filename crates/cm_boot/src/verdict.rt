@@ -1,5 +1,6 @@
-ghost use Rattle.std.specs.Prelude.{◌≡◌, ◌<◌};
+ghost use Rattle.std.specs.Prelude.{◌≡◌, ◌<◌, ◌↔◌, length, Some};
 ghost use Rattle.cm_netlist.specs.Network.{terms};
+ghost use Rattle.cm_boot.specs.Procedure.{IsEnd};
 ghost use Rattle.cm_boot.specs.Verdict.{is_wrong, judged, verdict};
 
 use crate::lawful::is_lawful;
@@ -59,10 +60,15 @@ pub(crate) fn status_of(terms: Option<Terms>, answers: &Answers) -> Status
     }
 }
 
-/// The status of a boot of the slave that ended with these answers; `None` exactly where no boot
-/// ends with them. `terms` is what is listed of the slave, `None` for one that isn't listed.
+/// Says what the type does: there are four identity values.
+fn count_ids(answers: &Answers)
+    ensures { length answers.now.ids ≡ 4 }
+{
+    let _ids = answers.ids;
+}
+
 #[tactic(auto, unfolding(crate::specs::Verdict::judged))]
-pub fn judge_terms(terms: Option<Terms>, answers: &Answers) -> Option<Status>
+fn judged_by_tables(terms: Option<Terms>, answers: &Answers) -> Option<Status>
     ensures { result ≡ judged terms answers.now }
 {
     if is_lawful(terms, answers) {
@@ -72,10 +78,23 @@ pub fn judge_terms(terms: Option<Terms>, answers: &Answers) -> Option<Status>
     }
 }
 
+/// The status of a boot of the slave that ended with these answers; `None` exactly where no boot
+/// ends with them. `terms` is what is listed of the slave, `None` for one that isn't listed.
+///
+/// The clause `value` says so by the tables, the clause `ends` by the procedure, question by question.
+pub fn judge_terms(terms: Option<Terms>, answers: &Answers) -> Option<Status>
+    ensures value { result ≡ judged terms answers.now }
+    ensures ends { (s : _) → result ≡ Some s ↔ IsEnd terms answers.now s }
+{
+    count_ids(answers);
+    judged_by_tables(terms, answers)
+}
+
 /// The status of a boot of this node that ended with these answers; `None` exactly where no boot of
-/// it ends with them.
+/// it ends with them. A node that isn't listed has no question, and status A.
 pub fn judge(network: &Network, id: NodeId, answers: &Answers) -> Option<Status>
     ensures value { result ≡ judged (terms network.now id) answers.now }
+    ensures ends { (s : _) → result ≡ Some s ↔ IsEnd (terms network.now id) answers.now s }
 {
     judge_terms(network.terms(id), answers)
 }

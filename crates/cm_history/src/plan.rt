@@ -17,7 +17,6 @@ pub struct Plan {
 
 /// What is listed of the node, nothing for a number that is no node-ID.
 fn terms_of_node(net: &Network, node: u8) -> Option<Terms>
-    requires { node < 128 }
     ensures { result ≡ network.terms net.now node }
 {
     let _own = net.own_id();
