@@ -1,6 +1,6 @@
 -- The machine's move is what the tables say: it asks the field that is due, and ends with the verdict.
-use Rattle.std.proofs.Common.{◌≡◌, ℕ, Bool, true, false, ◌&&◌, ◌||◌, not, ◌==◌, if◌then◌else◌, List, [], ◌∷◌, Option, Some, None, refl, arith}
-use Rattle.std.specs.List.{list_all, find}
+use Rattle.std.proofs.Common.{◌≡◌, Bool, true, false, ◌&&◌, ◌||◌, not, ◌==◌, if◌then◌else◌, List, [], ◌∷◌, Option, Some, None, refl, arith}
+use Rattle.std.specs.List.{find}
 use Rattle.cm_netlist.specs.Bits.{has_bit}
 use Rattle.cm_netlist.specs.declared.terms.Terms.{Terms}
 use Rattle.cm_nmt.specs.declared.state.NmtState.TheVariants.{Stopped}
@@ -15,8 +15,6 @@ use Rattle.cm_boot.specs.Verdict.{verdict}
 use Rattle.cm_boot.specs.declared.answers.Answers.{Answers}
 use Rattle.cm_boot.specs.declared.field.Field.{Field}
 use Rattle.cm_boot.specs.declared.field.Field.TheVariants.{Device, Vendor, Product, Revision, Serial, State, Date, Time, Writes, Beat}
-use Rattle.cm_boot.specs.declared.got.Got.{Got}
-use Rattle.cm_boot.specs.declared.got.Got.TheVariants as got
 use Rattle.cm_boot.specs.declared.heard.Heard.{Heard}
 use Rattle.cm_boot.specs.declared.heard.Heard.TheVariants as heard
 use Rattle.cm_boot.specs.declared.status.Status.{Status}

@@ -8,9 +8,9 @@ use Rattle.cm_boot.specs.Got.{is_answered, is_refusal}
 use Rattle.cm_boot.specs.Heard.{is_heard}
 use Rattle.cm_boot.specs.Answers.{id_of}
 use Rattle.cm_boot.specs.Fields.{fields}
-use Rattle.cm_boot.specs.Lawful.{answers_are_due, asks_identity, comes_to_beat, condition, date_agrees, date_differs, device_agrees, identity_agrees, is_complete, is_dated, is_finished, is_lawful, is_proper, is_used, matches, may_configure, must_write, product_agrees, revision_agrees, vendor_agrees, writes_are_counted}
+use Rattle.cm_boot.specs.Lawful.{answers_are_due, asks_identity, comes_to_beat, condition, date_agrees, date_differs, device_agrees, identity_agrees, is_complete, is_dated, is_finished, is_proper, is_used, matches, may_configure, must_write, product_agrees, revision_agrees, vendor_agrees, writes_are_counted}
 use Rattle.cm_boot.specs.Machine.{due, got_of, heard_of, next_field, with_answer}
-use Rattle.cm_boot.specs.Procedure.{IsEnd, Move, Reached, move}
+use Rattle.cm_boot.specs.Procedure.{IsEnd, Reached}
 use Rattle.cm_boot.specs.Procedure.Move.{Asks, Ends}
 use Rattle.cm_boot.specs.Procedure.Reached.{start, more}
 use Rattle.cm_boot.specs.Verdict.{judged, verdict}

@@ -1,5 +1,5 @@
 -- A boot under way: which question is due, and what an answer to it changes.
-use Rattle.std.specs.Prelude.{◌≡◌, ◌≤◌, IfSome, length, ℕ, ◌+◌, true, not, ◌&&◌, if◌then◌else◌, Option, Some, None, option_map, option_and_then, slice_set}
+use Rattle.std.specs.Prelude.{◌≡◌, ◌≤◌, IfSome, length, ◌+◌, true, not, ◌&&◌, Option, Some, None, option_map, option_and_then, slice_set}
 use Rattle.std.specs.List.{find}
 use Rattle.cm_netlist.specs.Network.{terms_of}
 use Rattle.cm_netlist.specs.declared.entry.SlaveEntry.{SlaveEntry}

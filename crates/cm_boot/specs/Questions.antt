@@ -1,5 +1,5 @@
 -- The questions of a boot, by the objects that they read (CiA 301; the order is that of the fields).
-use Rattle.std.specs.Prelude.{ℕ, Bool, true, false, ◌==◌, if◌then◌else◌, Option, Some, None, option_map, slice_get}
+use Rattle.std.specs.Prelude.{Bool, true, false, ◌==◌, if◌then◌else◌, Option, Some, option_map, slice_get}
 use Rattle.cm_netlist.specs.declared.entry.SlaveEntry.{SlaveEntry}
 use Rattle.cm_boot.specs.declared.answers.Answers.{Answers}
 use Rattle.cm_boot.specs.declared.field.Field.{Field}
