@@ -1,8 +1,2 @@
-mod Ids
-mod Opened
-mod Slaves
-mod Phases
-mod Serving
-mod Listings
-pub mod Replays
+pub mod Ids
 mod Resets

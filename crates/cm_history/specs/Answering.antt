@@ -1,16 +1,20 @@
--- The answer to a call, as a table over what the history says (own).
-use Rattle.std.specs.Prelude.{ℕ, Bool, true, false, ◌==◌, ◌&&◌, ◌||◌, not, if◌then◌else◌, ◌+◌, List, [], ◌∷◌, filter, Option, Some, None, unwrap_or}
+-- The answer to a call, as a table over what the history says (own, but where a standard is named).
+use Rattle.std.specs.Prelude.{ℕ, Bool, true, false, ◌==◌, ◌&&◌, ◌||◌, not, if◌then◌else◌, ◌+◌, nat_lt, List, [], ◌∷◌, filter, Option, Some, None, unwrap_or}
 use Rattle.std.specs.Option.{is_some, is_none}
+use Rattle.cm_nmt.specs.Codes.{command_of_request, signal_of, state_code}
+use Rattle.cm_nmt.specs.declared.signal.Signal.{Signal}
+use Rattle.cm_nmt.specs.declared.signal.Signal.TheVariants as signal
+use Rattle.cm_nmt.specs.declared.command.Command.{Command}
 use Rattle.cm_nmt.specs.declared.state.NmtState.{NmtState}
 use Rattle.cm_nmt.specs.declared.state.NmtState.TheVariants as state
 use Rattle.cm_nmt.specs.declared.command.Command.TheVariants as command
 use Rattle.cm_boot.specs.Verdict.{judged}
 use Rattle.cm_boot.specs.declared.status.Status.{Status}
 use Rattle.cm_boot.specs.declared.status.Status.TheVariants as status
-use Rattle.cm_history.specs.Listing.{Listing, is_listed, is_to_be_booted, is_master, starts_all_at_once, leaves_operational_to_application, starts_no_slave}
+use Rattle.cm_history.specs.Listing.{Listing, is_listed, is_to_be_booted, is_mandatory, is_master, starts_all_at_once, leaves_operational_to_application, starts_no_slave, resets_all_on_error, stops_all_on_error}
 use Rattle.cm_history.specs.Orders.{to_every, to_node}
 use Rattle.cm_history.specs.Phases.{is_idle, is_booting, is_ready, is_halted}
-use Rattle.cm_history.specs.History.{is_good, is_fatal, is_empty, phase_of, own_of, begun_in, open_of, state_of, is_booted, session_of}
+use Rattle.cm_history.specs.History.{is_good, is_fatal, is_empty, is_reset_value, phase_of, own_of, begun_in, open_of, state_of, is_booted, session_of}
 use Rattle.cm_history.specs.declared.call.Call.{Call}
 use Rattle.cm_history.specs.declared.call.Call.TheVariants as call
 use Rattle.cm_history.specs.declared.call.Reply.{Reply}
@@ -44,6 +48,11 @@ abbrev pub node_named : Call → ℕ
 node_named call.StartNetwork = 0
 node_named (call.Begin i) = i
 node_named (call.Report i n a) = i
+node_named (call.Signal i b) = i
+node_named (call.Lost i) = i
+node_named (call.Request t v) = t
+node_named (call.Read t) = t
+node_named (call.Elapsed ms) = 0
 
 abbrev pub seen_of : Listing → List Entry → ℕ → Seen
 seen_of net past i = record {
@@ -61,8 +70,20 @@ abbrev pub has_session : Option ℕ → ℕ → Bool
 has_session None n = false
 has_session (Some m) n = m == n
 
--- 1 not the NMT master, 2 already started, 3 not started, 4 not listed, 5 a session is there, 6 already booted,
--- 7 no session of that number, 8 answers that no boot of this slave gives
+-- the number's meaning:
+--    1 the device isn't the NMT master
+--    2 already started
+--    3 not started
+--    4 not listed; for a request, nor the own node-ID nor all
+--    5 a session is there
+--    6 already booted
+--    7 the slave has no session of that number
+--    8 the answers are those of no boot of this slave
+--    9 the byte, without its toggle bit, is that of no signal
+--   10 a request's target isn't 1 to 128, a read's isn't 1 to 127
+--   11 the value is none of 4, 5, 6, 7, 127
+--   12 a start of all or of the manager itself, while a mandatory slave is open
+--   13 a reset of the manager itself
 abbrev pub refusals : Listing → Seen → Call → List (ℕ × Bool)
 refusals net s call.StartNetwork = (1, not (is_master net)) ∷ (2, is_booting s.phase || is_ready s.phase) ∷ []
 refusals net s (call.Begin i) =
@@ -77,6 +98,30 @@ refusals net s (call.Report i n a) =
     ∷ (7, not (has_session s.slave.session n))
     ∷ (8, is_none (judged (net.terms i) a))
     ∷ []
+refusals net s (call.Signal i b) =
+    (3, is_idle s.phase)
+    ∷ (4, not (is_listed net i))
+    ∷ (9, is_none (signal_of b))
+    ∷ []
+refusals net s (call.Lost i) = (3, is_idle s.phase) ∷ (4, not (is_listed net i)) ∷ []
+refusals net s (call.Request t v) =
+    (3, is_idle s.phase)
+    ∷ (10, t == 0 || nat_lt 128 t)
+    ∷ (11, is_none (command_of_request v))
+    ∷ (4, not (is_listed net t || (t == net.own || t == 128)))
+    ∷ (12, v == 5 && ((t == 128 || t == net.own) && not (is_empty s.opened)))
+    ∷ (13, t == net.own && is_reset_value v)
+    ∷ []
+refusals net s (call.Read t) = (3, is_idle s.phase) ∷ (10, t == 0 || nat_lt 127 t) ∷ []
+refusals net s (call.Elapsed ms) = (3, is_idle s.phase) ∷ []
+
+-- the SDO abort codes of refused requests: invalid value for parameter, not possible in the present device state
+-- (the codes: CiA 301; which refusal has which: own)
+abbrev pub abort_of : ℕ → Option ℕ
+abort_of r =
+    if r == 11 then Some 0x06090030
+    else if r == 12 then Some 0x08000022
+    else None
 
 -- the first number whose condition holds
 abbrev pub first_refusal : List (ℕ × Bool) → Option ℕ
@@ -117,6 +162,39 @@ report_orders net p own left i s =
     else (if starts_one net own i s then to_node command.Start i
     else orders.None)))
 
+-- ---- the orders of the other calls
+
+-- the error handler's orders, for a booted slave i that is lost: of a mandatory slave, stop all by 1F80h bit 6, else
+-- reset node of all by bit 4; else reset node of the slave alone (CiA 302-2, 1F80h)
+abbrev pub lost_orders : Listing → ℕ → Orders
+lost_orders net i =
+    if is_mandatory net i && stops_all_on_error net then to_every command.Stop
+    else if is_mandatory net i && resets_all_on_error net then to_every command.ResetNode
+    else to_node command.ResetNode i
+
+-- the orders of a request: none to the manager itself, else the command to all, by 128, or to the node
+abbrev pub request_orders : Bool → Bool → ℕ → Option Command → Orders
+request_orders to_own to_all t None = orders.None
+request_orders to_own to_all t (Some c) =
+    if to_own then orders.None
+    else if to_all then to_every c
+    else to_node c t
+
+-- what a read of node t shows: of the manager itself its own state, of any other node the slave's, 0 where it isn't
+-- listed
+abbrev pub shown_of : Listing → Seen → ℕ → ℕ
+shown_of net s t = if t == net.own then state_code s.own else s.slave.state
+
+-- the time for the mandatory slaves is up: they are being booted, one is open, and more ms went by than 1F89h allows,
+-- where 0 allows any
+abbrev pub is_late : Listing → Phase → List ℕ → ℕ → Bool
+is_late net p opened ms = is_booting p && (not (is_empty opened) && (not (net.boot_time == 0) && nat_lt net.boot_time ms))
+
+-- the reply to an error control message
+abbrev pub signal_reply : Option Signal → Reply
+signal_reply (Some signal.BootUp) = reply.BootAgain
+signal_reply _ = reply.Noted
+
 -- ---- the answer
 
 -- the reply and the orders of a call that isn't refused
@@ -126,6 +204,13 @@ granted_answer net s (call.Begin i) = (reply.Begun (s.begun + 1), orders.None)
 granted_answer net s (call.Report i n a) =
     let found = unwrap_or (judged (net.terms i) a) status.A in
     (reply.Reported found, report_orders net s.phase s.own (open_less s.opened i found) i found)
+granted_answer net s (call.Signal i b) = (signal_reply (signal_of b), orders.None)
+granted_answer net s (call.Lost i) = if s.slave.booted then (reply.Handled, lost_orders net i) else (reply.Noted, orders.None)
+granted_answer net s (call.Request t v) = (reply.Done, request_orders (t == net.own) (t == 128) t (command_of_request v))
+granted_answer net s (call.Read t) = (reply.State (shown_of net s t), orders.None)
+granted_answer net s (call.Elapsed ms) =
+    if is_late net s.phase s.opened ms then (reply.TimeUp, orders.None)
+    else (reply.InTime, if starts_every net s.phase s.opened then to_every command.Start else orders.None)
 
 -- a refused call has no orders
 abbrev pub refused_or : Option ℕ → Reply × Orders → Reply × Orders

@@ -1,10 +1,10 @@
 -- What a history says of each slave and of the manager (own, but where a standard is named).
 -- A history is given with its newest entry first: `e ∷ past` is the history `past`, and then the entry `e`.
 -- Each definition looks back for the newest entry that decides.
-use Rattle.std.specs.Prelude.{ℕ, Bool, true, false, ◌==◌, ◌&&◌, ◌||◌, not, if◌then◌else◌, ◌+◌, List, [], ◌∷◌, ◌++◌, filter, Option, Some, None, option_map, option_to_list, unwrap_or}
+use Rattle.std.specs.Prelude.{ℕ, Bool, true, false, ◌==◌, ◌&&◌, ◌||◌, not, if◌then◌else◌, ◌+◌, ◌%◌, List, [], ◌∷◌, ◌++◌, filter, Option, Some, None, option_map, option_to_list, unwrap_or}
 use Rattle.std.specs.Option.{option_or, is_some}
 use Rattle.std.specs.List.{list_any}
-use Rattle.cm_nmt.specs.Codes.{state_code}
+use Rattle.cm_nmt.specs.Codes.{state_code, state_of_code}
 use Rattle.cm_nmt.specs.declared.state.NmtState.{NmtState}
 use Rattle.cm_nmt.specs.declared.state.NmtState.TheVariants as state
 use Rattle.cm_nmt.specs.declared.command.Command.{Command}
@@ -16,7 +16,7 @@ use Rattle.cm_boot.specs.declared.heard.Heard.TheVariants as heard
 use Rattle.cm_boot.specs.declared.status.Status.{Status}
 use Rattle.cm_boot.specs.declared.status.Status.TheVariants as status
 use Rattle.cm_history.specs.Listing.{Listing, is_listed, is_mandatory, leaves_operational_to_application}
-use Rattle.cm_history.specs.Orders.{to_all, is_start_of, is_reset, state_left}
+use Rattle.cm_history.specs.Orders.{to_all, is_start_of, is_reset, is_reset_all, is_stop_all, state_left}
 use Rattle.cm_history.specs.Phases.{is_booting, is_ready}
 use Rattle.cm_history.specs.declared.call.Call.{Call}
 use Rattle.cm_history.specs.declared.call.Call.TheVariants as call
@@ -33,6 +33,21 @@ use Rattle.cm_history.specs.declared.phase.Phase.TheVariants as phase
 abbrev pub is_granted : Reply → Bool
 is_granted (reply.Refused r) = false
 is_granted _ = true
+
+-- the reply is BootAgain: the slave sent its boot-up message
+abbrev pub is_boot_again : Reply → Bool
+is_boot_again reply.BootAgain = true
+is_boot_again _ = false
+
+-- the reply is Noted
+abbrev pub is_noted : Reply → Bool
+is_noted reply.Noted = true
+is_noted _ = false
+
+-- the reply is Handled: the loss of a booted slave was handled
+abbrev pub is_handled : Reply → Bool
+is_handled reply.Handled = true
+is_handled _ = false
 
 -- the status in a Reported reply
 abbrev pub reported : Reply → Option Status
@@ -75,11 +90,24 @@ only_if (Some x) b = if b then Some x else None
 
 -- ---- each slave: booted, session
 
--- after the entry slave i isn't booted, and has no session: a granted start of the network
+-- a value of 1F82h that resets: 6 reset node, 7 reset communication (CiA 302-2, request NMT)
+abbrev pub is_reset_value : ℕ → Bool
+is_reset_value v = v == 6 || v == 7
+
+-- after the entry slave i isn't booted, and has no session:
+--   a granted start of the network
+--   a boot-up message of i
+--   the loss of i, booted, or one that is handled by a reset of all
+--   a granted request that resets i or all
 abbrev pub clears_by : Call → Reply → Orders → ℕ → Bool
 clears_by call.StartNetwork r o i = is_granted r
 clears_by (call.Begin j) r o i = false
 clears_by (call.Report j n a) r o i = false
+clears_by (call.Signal j b) r o i = is_boot_again r && j == i
+clears_by (call.Lost j) r o i = is_handled r && (j == i || is_reset_all o)
+clears_by (call.Request t v) r o i = is_granted r && (is_reset_value v && (t == i || t == 128))
+clears_by (call.Read t) r o i = false
+clears_by (call.Elapsed ms) r o i = false
 
 abbrev pub clears : Entry → ℕ → Bool
 clears e i = clears_by e.call e.reply e.orders i
@@ -131,11 +159,32 @@ abbrev pub state_reported : Status → Answers → ℕ
 state_reported s a =
     if is_missing s then 1 else unwrap_or (heard_code a.beat) (unwrap_or (heard_code a.heard) (if is_answered a.device then 127 else 0))
 
--- the state to which the entry sets slave i by itself; a report that starts its slave sets 5
+-- the state that a value of 1F82h asks for: 4, 5, 127 as written, 0 for the two resets
+abbrev pub state_requested : ℕ → ℕ
+state_requested v = if is_reset_value v then 0 else v
+
+-- the state that an error control message tells: pre-operational at a boot-up message, which a device
+-- enters by itself (CiA 301), else the byte without its toggle bit
+abbrev pub signalled : Reply → ℕ → Option ℕ
+signalled reply.BootAgain byte = Some 127
+signalled reply.Noted byte = Some (byte % 128)
+signalled _ byte = None
+
+-- the state to which the entry sets slave i by itself:
+--   0 at a granted start of the network
+--   5 where a report starts i, else the state that its boot leaves
+--   the state that its error control message tells
+--   1 where it is lost
+--   the state that a granted request to it asks for
 abbrev pub sets_by : Call → Reply → Orders → ℕ → Option ℕ
 sets_by call.StartNetwork r o i = if is_granted r then Some 0 else None
 sets_by (call.Begin j) r o i = None
 sets_by (call.Report j n a) r o i = only_if (option_map (λ s. if is_start_of o i then 5 else state_reported s a) (reported r)) (j == i)
+sets_by (call.Signal j b) r o i = only_if (signalled r b) (j == i)
+sets_by (call.Lost j) r o i = if (is_noted r || is_handled r) && j == i then Some 1 else None
+sets_by (call.Request t v) r o i = if is_granted r && t == i then Some (state_requested v) else None
+sets_by (call.Read t) r o i = None
+sets_by (call.Elapsed ms) r o i = None
 
 -- the last state to which an entry set slave i by itself, 0 where none did, and the commands to all from that
 -- entry on, the newest first
@@ -165,10 +214,14 @@ is_empty (x ∷ xs) = false
 abbrev pub is_fatal : Listing → ℕ → Status → Bool
 is_fatal net i s = is_mandatory net i && not (is_good s || is_retried s)
 
--- the phase that the entry decides, with the open slaves after it
+-- the phase that the entry decides, with the open slaves after it:
+--   Halted, a report whose status halts, or the time was up
+--   Ready, any other report, or the time wasn't up, where no slave is open
 abbrev pub decides_by : Listing → Call → Reply → List ℕ → Option Phase
 decides_by net (call.Report i n a) (reply.Reported s) opened =
     if is_fatal net i s then Some phase.Halted else (if is_empty opened then Some phase.Ready else None)
+decides_by net c reply.TimeUp opened = Some phase.Halted
+decides_by net c reply.InTime opened = if is_empty opened then Some phase.Ready else None
 decides_by net c r opened = None
 
 -- a granted start of the network
@@ -190,9 +243,14 @@ phase_of net [] = phase.Idle
 phase_of net (e ∷ past) =
     if is_start_by e.call e.reply then phase.Booting else phase_then (phase_of net past) (decides_by net e.call e.reply (open_of net (e ∷ past)))
 
--- the state that the entry gives the manager itself: pre-operational at a granted start
+-- the state that the entry gives the manager itself:
+--   pre-operational at a granted start of the network
+--   stopped where a loss is handled by a stop of all
+--   what is written by a granted request to the own node-ID or to all; a reset gives none
 abbrev pub own_by : Listing → Call → Reply → Orders → Option NmtState
 own_by net call.StartNetwork r o = if is_granted r then Some state.PreOperational else None
+own_by net (call.Lost j) r o = if is_stop_all o then Some state.Stopped else None
+own_by net (call.Request t v) r o = if is_granted r && (t == net.own || t == 128) then state_of_code v else None
 own_by net _ r o = None
 
 -- as the network becomes ready the manager becomes operational by itself, unless that is left to the application

@@ -5,7 +5,3 @@ pub mod History
 pub mod Answering
 pub mod Legal
 pub mod Frames
-pub mod Standing
-pub mod Plan
-pub mod Kept
-pub mod Steps

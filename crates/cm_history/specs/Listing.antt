@@ -52,3 +52,11 @@ leaves_operational_to_application net = has_bit net.startup 2
 -- the manager starts no slave (CiA 302-2, 1F80h bit 3)
 abbrev pub starts_no_slave : Listing → Bool
 starts_no_slave net = has_bit net.startup 3
+
+-- on an error control event of a mandatory slave all nodes are reset (CiA 302-2, 1F80h bit 4)
+abbrev pub resets_all_on_error : Listing → Bool
+resets_all_on_error net = has_bit net.startup 4
+
+-- on that event all nodes are stopped, in place of a reset (CiA 302-2, 1F80h bit 6)
+abbrev pub stops_all_on_error : Listing → Bool
+stops_all_on_error net = has_bit net.startup 6

@@ -17,6 +17,16 @@ abbrev pub is_start : Command → Bool
 is_start command.Start = true
 is_start _ = false
 
+-- reset node (CiA 301, NMT node control)
+abbrev pub is_reset_node : Command → Bool
+is_reset_node command.ResetNode = true
+is_reset_node _ = false
+
+-- stop (CiA 301, NMT node control)
+abbrev pub is_stop : Command → Bool
+is_stop command.Stop = true
+is_stop _ = false
+
 -- the state in which a command leaves a device, 0 (unknown) for a reset
 abbrev pub state_left : Command → ℕ
 state_left command.Start = 5
@@ -38,6 +48,24 @@ abbrev pub to_all : Orders → Option Command
 to_all orders.None = None
 to_all (orders.One f) = if is_all f.target then Some f.command else None
 to_all orders.ResetUnkept = None
+
+-- the orders are a reset node of all nodes
+abbrev pub is_reset_all : Orders → Bool
+is_reset_all orders.None = false
+is_reset_all (orders.One f) = is_all f.target && is_reset_node f.command
+is_reset_all orders.ResetUnkept = false
+
+-- the orders are a stop of all nodes
+abbrev pub is_stop_all : Orders → Bool
+is_stop_all orders.None = false
+is_stop_all (orders.One f) = is_all f.target && is_stop f.command
+is_stop_all orders.ResetUnkept = false
+
+-- the orders are a start of all nodes
+abbrev pub is_start_all : Orders → Bool
+is_start_all orders.None = false
+is_start_all (orders.One f) = is_all f.target && is_start f.command
+is_start_all orders.ResetUnkept = false
 
 -- the orders are a start of node i alone
 abbrev pub is_start_of : Orders → ℕ → Bool

@@ -15,25 +15,29 @@ pub enum Phase {
 }
 
 impl Phase {
-    pub(crate) fn is_idle(self) -> bool
+    /// Whether the network was never started.
+    pub fn is_idle(self) -> bool
         ensures { result ≡ is_idle self }
     {
         matches!(self, Phase::Idle)
     }
 
-    pub(crate) fn is_booting(self) -> bool
+    /// Whether the mandatory slaves are being booted.
+    pub fn is_booting(self) -> bool
         ensures { result ≡ is_booting self }
     {
         matches!(self, Phase::Booting)
     }
 
-    pub(crate) fn is_ready(self) -> bool
+    /// Whether every mandatory slave was booted.
+    pub fn is_ready(self) -> bool
         ensures { result ≡ is_ready self }
     {
         matches!(self, Phase::Ready)
     }
 
-    pub(crate) fn is_halted(self) -> bool
+    /// Whether the boot of the network was given up.
+    pub fn is_halted(self) -> bool
         ensures { result ≡ is_halted self }
     {
         matches!(self, Phase::Halted)

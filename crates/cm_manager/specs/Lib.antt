@@ -5,7 +5,7 @@ pub use Rattle.cm_history.specs.History
 pub use Rattle.cm_history.specs.Answering
 pub use Rattle.cm_history.specs.Legal
 pub use Rattle.cm_history.specs.Frames
-pub use Rattle.cm_history.specs.Standing
+pub use Rattle.cm_sequential.specs.Standing
 pub use Rattle.cm_journal.specs.Text
 pub use Rattle.cm_journal.specs.Fits
 pub use Rattle.cm_journal.specs.Journals

@@ -75,4 +75,18 @@ impl Startup {
     {
         self.contains(Startup::APPLICATION_STARTS_SLAVES)
     }
+
+    /// Whether all nodes are reset on an error control event of a mandatory slave: bit 4.
+    pub fn resets_all_on_error(&self) -> bool
+        ensures { result ≡ has_bit self.now.0 4 }
+    {
+        self.contains(Startup::RESET_ALL_NODES)
+    }
+
+    /// Whether all nodes are stopped on that event, in place of a reset: bit 6.
+    pub fn stops_all_on_error(&self) -> bool
+        ensures { result ≡ has_bit self.now.0 6 }
+    {
+        self.contains(Startup::STOP_ALL_NODES)
+    }
 }

@@ -44,14 +44,15 @@ fn writing(assignment: u32, size: u8, value: u32) -> Result<SlaveEntry, Fail> {
 #[test]
 fn bits_of_1f80h_and_1f81h(rt: HostRuntime) {
     for (bits, expected) in [
-        (0x0000_0000, [false, false, false, false]),
-        (0x0000_0001, [true, false, false, false]),
-        (0x0000_0002, [false, true, false, false]),
-        (0x0000_0004, [false, false, true, false]),
-        (0x0000_0008, [false, false, false, true]),
-        (0x0000_0051, [true, false, false, false]),
-        (0xFFFF_FFF0, [false, false, false, false]),
-        (0xFFFF_FFFF, [true, true, true, true]),
+        (0x0000_0000, [false, false, false, false, false, false]),
+        (0x0000_0001, [true, false, false, false, false, false]),
+        (0x0000_0002, [false, true, false, false, false, false]),
+        (0x0000_0004, [false, false, true, false, false, false]),
+        (0x0000_0008, [false, false, false, true, false, false]),
+        (0x0000_0011, [true, false, false, false, true, false]),
+        (0x0000_0051, [true, false, false, false, true, true]),
+        (0xFFFF_FFA0, [false, false, false, false, false, false]),
+        (0xFFFF_FFFF, [true, true, true, true, true, true]),
     ] {
         let startup = Startup(bits);
         let read = [
@@ -59,6 +60,8 @@ fn bits_of_1f80h_and_1f81h(rt: HostRuntime) {
             startup.starts_all_at_once(),
             startup.leaves_operational_to_application(),
             startup.starts_no_slave(),
+            startup.resets_all_on_error(),
+            startup.stops_all_on_error(),
         ];
         assert_eq!(rt; read, expected, "at {bits}");
     }

@@ -1,5 +1,5 @@
 ghost use Rattle.std.specs.Prelude.{◌≡◌, ◌≢◌, MatchOption};
-ghost use Rattle.cm_nmt.specs.Codes.{specifier_code};
+ghost use Rattle.cm_nmt.specs.Codes.{command_of_request, specifier_code};
 
 /// An NMT command (CiA 301, NMT node control).
 #[derive(Clone, Copy, Debug, Default, PartialEq, Eq)]
@@ -40,6 +40,22 @@ impl Command {
             0x80 => Some(Command::EnterPre),
             0x81 => Some(Command::ResetNode),
             0x82 => Some(Command::ResetComm),
+            _ => None,
+        }
+    }
+
+    /// The command that this value of object 1F82h, request NMT, asks for when it is written: 4 stop,
+    /// 5 start, 6 reset node, 7 reset communication, 127 enter pre-operational (CiA 302-2). `None`
+    /// for any other value.
+    pub fn of_request(value: u8) -> Option<Command>
+        ensures value { result ≡ command_of_request value }
+    {
+        match value {
+            4 => Some(Command::Stop),
+            5 => Some(Command::Start),
+            6 => Some(Command::ResetNode),
+            7 => Some(Command::ResetComm),
+            127 => Some(Command::EnterPre),
             _ => None,
         }
     }

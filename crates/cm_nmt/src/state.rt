@@ -1,5 +1,5 @@
 ghost use Rattle.std.specs.Prelude.{◌≡◌, ◌≢◌, MatchOption};
-ghost use Rattle.cm_nmt.specs.Codes.{state_code};
+ghost use Rattle.cm_nmt.specs.Codes.{state_code, state_of_code};
 
 /// The NMT state of a device, or of the master itself (CiA 301).
 #[derive(Clone, Copy, Debug, PartialEq, Eq)]
@@ -26,6 +26,7 @@ impl NmtState {
     /// The state that has this number; `None` exactly where no state has it.
     pub fn from_code(code: u8) -> Option<NmtState>
         ensures exact { MatchOption result ((s : State) → state_code s ≢ code) (λ s. state_code s ≡ code) }
+        ensures value { result ≡ state_of_code code }
     {
         match code {
             4 => Some(NmtState::Stopped),

@@ -1,4 +1,4 @@
-use crate::{Command, Frame, NmtState, NodeId, Target};
+use crate::{Command, Frame, NmtState, NodeId, Signal, Target};
 use std::test::Fail;
 
 #[test]
@@ -66,4 +66,42 @@ fn frames_are_two_bytes(rt: HostRuntime) -> Result<(), Fail> {
     assert_eq!(rt; Frame::read(&[0x01]), None);
     assert_eq!(rt; Frame::read(&[0x01, 0x00, 0x00]), None);
     Ok(())
+}
+
+#[test]
+fn signals_are_one_byte_without_the_toggle_bit(rt: HostRuntime) {
+    for (byte, signal) in [
+        (0x00, Some(Signal::BootUp)),
+        (0x80, Some(Signal::BootUp)),
+        (0x04, Some(Signal::State(NmtState::Stopped))),
+        (0x05, Some(Signal::State(NmtState::Operational))),
+        (0x85, Some(Signal::State(NmtState::Operational))),
+        (0x7F, Some(Signal::State(NmtState::PreOperational))),
+        (0xFF, Some(Signal::State(NmtState::PreOperational))),
+        (0x06, None),
+        (0x01, None),
+        (0x84, Some(Signal::State(NmtState::Stopped))),
+        (0x86, None),
+    ] {
+        assert_eq!(rt; Signal::read(byte), signal, "{byte:#04x}");
+    }
+}
+
+#[test]
+fn values_of_1f82h_ask_for_commands(rt: HostRuntime) {
+    for (value, command) in [
+        (4, Some(Command::Stop)),
+        (5, Some(Command::Start)),
+        (6, Some(Command::ResetNode)),
+        (7, Some(Command::ResetComm)),
+        (127, Some(Command::EnterPre)),
+        (0, None),
+        (1, None),
+        (3, None),
+        (8, None),
+        (128, None),
+        (255, None),
+    ] {
+        assert_eq!(rt; Command::of_request(value), command, "{value}");
+    }
 }

@@ -1,0 +1,6 @@
+mod Opened
+mod Slaves
+mod Phases
+mod Signals
+mod Serving
+mod Listings

@@ -1,0 +1,41 @@
+-- The manager's copy of a network list says what the list says.
+use Rattle.std.proofs.Common.{◌≡◌, ℕ, ◌<◌, ◌≤◌, List, length, refl, sym, ◌∙◌, arith, inl, inr, false, Option, Some, None, option_map}
+use Rattle.std.specs.Prelude.{IfSome}
+use Rattle.std.specs.Option.{is_some}
+use Rattle.std.specs.List.{slice_index_or}
+use Rattle.std.proofs.lemmas.Bool.{cases_lt}
+use Rattle.std.proofs.lemmas.List.{get_or_past}
+use Rattle.cm_netlist.specs.Network.{Network, IsEntry, IsNetwork, terms_of}
+use Rattle.cm_netlist.specs.Network as network
+use Rattle.cm_netlist.specs.declared.entry.SlaveEntry.{SlaveEntry}
+use Rattle.cm_netlist.specs.declared.terms.Terms.{Terms}
+use Rattle.cm_netlist.proofs.Networks.{terms_above}
+use Rattle.cm_history.specs.Listing.{Listing, is_listed, listing}
+use Rattle.cm_sequential.specs.Plan.{kept_listing}
+use Rattle.cm_sequential.specs.declared.plan.Plan.{Plan}
+
+-- two lists that say the same of every node are one
+same_parts : (own startup boot_time : ℕ) (f g : ℕ → Option Terms) → ((i : ℕ) → f i ≡ g i)
+    → ◌≡◌ {A = Listing} (record { own = own; startup = startup; boot_time = boot_time; terms = f }) (record { own = own; startup = startup; boot_time = boot_time; terms = g })
+same_parts own startup boot_time f g h = λ k. record { own = own; startup = startup; boot_time = boot_time; terms = λ i. h i k }
+
+past_end : (xs : List (Option Terms)) (i : ℕ) → length xs ≤ i → slice_index_or xs i None ≡ None
+past_end xs i h = get_or_past xs i None h
+
+-- a copy whose terms are those of each node-ID
+pub copied : (plan : Plan) (net : Network) → IsNetwork net → plan.own ≡ net.own → plan.startup.0 ≡ net.startup → plan.boot_time ≡ net.boot_time → length plan.terms ≡ 128
+    → ((i : ℕ) → i < 128 → slice_index_or plan.terms i None ≡ network.terms net i) → kept_listing plan ≡ listing net
+unfolding kept_listing
+copied plan net ok own startup boot_time sized each =
+    rw (own, startup, boot_time) (same_parts net.own net.startup net.boot_time (λ i. slice_index_or plan.terms i None) (network.terms net) (λ i. elim (cases_lt i 128) [
+      | inl low ↦ each i low
+      | inr high ↦ past_end plan.terms i (omega arith) ∙ sym (terms_above net ok i (omega arith))
+    ]))
+
+unlisted : (own : ℕ) (o : Option SlaveEntry) → IfSome o (λ e. IsEntry own own e) → is_some (option_map terms_of o) ≡ false
+unlisted own None h = refl
+unlisted own (Some e) h = absurd (h.other refl)
+
+-- the manager's own node-ID isn't listed
+pub own_unlisted : (net : Network) → IsNetwork net → is_listed (listing net) net.own ≡ false
+own_unlisted net ok = unlisted net.own (network.entry net net.own) (ok.entries net.own)

@@ -1,0 +1,4 @@
+pub mod Plan
+pub mod Kept
+pub mod Steps
+pub mod Standing

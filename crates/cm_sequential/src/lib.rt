@@ -1,0 +1,9 @@
+//! The sequential NMT manager: it answers a call after any history of calls as the definitions of
+//! cm_history answer it, from a state of fixed size, which is copied. It takes no memory.
+#![tactic(auto)]
+
+mod manager;
+mod plan;
+mod table;
+
+pub use manager::Manager;
