@@ -563,10 +563,9 @@ impl Manager {
     fn is_late(&self, ms: u32) -> bool
         ensures { result ≡ is_late (listing_in self.now) self.now.phase (open_in (listing_in self.now) self.now.slaves) ms }
     {
-        self.phase.is_booting()
-            && !self.none_open()
-            && self.plan.boot_time() != 0
-            && self.plan.boot_time() < ms
+        let limit = self.plan.boot_time();
+        let booting = self.phase.is_booting();
+        booting && limit != 0 && limit < ms && !self.none_open()
     }
 
     /// Time went by.
