@@ -49,6 +49,11 @@ all_from_none : {X : Type 0} (c k : X → Bool) (xs : List X) → find (λ x. c 
 all_from_none c k [] e = refl
 all_from_none c k (x ∷ xs) e = none_step x (find (λ y. c y && not (k y)) xs) _ (all_from_none c k xs) (c x) (k x) e
 
+-- two tests of each are one test of each
+pub all_both : {X : Type 0} (p q : X → Bool) (xs : List X) → list_all (λ x. p x && q x) xs ≡ (list_all p xs && list_all q xs)
+all_both p q [] = refl
+all_both p q (x ∷ xs) = rw (all_both p q xs) (grind arith)
+
 pub lawful_from_none : (t : Terms) (a : Answers) → is_proper (Some t) a ≡ true → next_field t a ≡ None → is_lawful (Some t) a ≡ true
 lawful_from_none t a proper e = both _ _ proper (all_from_none (condition t a) (is_complete t a) fields e)
 

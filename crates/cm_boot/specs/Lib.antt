@@ -3,6 +3,7 @@ pub mod Heard
 pub mod Answers
 pub mod Fields
 pub mod Lawful
+pub mod Settled
 pub mod Status
 pub mod Verdict
 pub mod Questions

@@ -1,5 +1,8 @@
-ghost use Rattle.std.specs.Prelude.{◌≡◌, ◌<◌};
-ghost use Rattle.cm_boot.specs.Lawful.{answers_are_due, asks_identity, comes_to_beat, condition, date_agrees, date_differs, device_agrees, has_all_answers, has_no_answer, identity_agrees, is_complete, is_dated, is_finished, is_lawful, is_proper, is_used, matches, may_configure, must_write, product_agrees, revision_agrees, vendor_agrees, writes_are_counted};
+ghost use Rattle.std.specs.Prelude.{◌≡◌, ◌<◌, ◌&&◌};
+ghost use Rattle.cm_boot.specs.Lawful.{answers_are_due, asks_identity, comes_to_beat, condition, date_agrees, date_differs, device_agrees, has_all_answers, has_no_answer, identity_agrees, is_complete, is_dated, is_lawful, is_used, matches, may_configure, must_write, product_agrees, revision_agrees, vendor_agrees, writes_are_counted};
+ghost use Rattle.cm_boot.specs.Settled.{is_settled};
+ghost use Rattle.cm_boot.specs.Fields.{fields};
+ghost use Rattle.std.specs.List.{list_all};
 
 use crate::Answers;
 use crate::field::{Field, fields};
@@ -174,44 +177,39 @@ fn has_no_answer(answers: &Answers) -> bool
     fields().iter().all(|field| !is_used(answers, *field))
 }
 
-/// Whether each answered field has its condition.
-fn answers_are_due(terms: &Terms, answers: &Answers) -> bool
-    ensures { result ≡ answers_are_due terms.now answers.now }
+/// Whether the field has all its answers where its question is asked, and none where it isn't.
+fn is_settled(terms: &Terms, answers: &Answers, field: Field) -> bool
+    ensures { result ≡ is_settled terms.now answers.now field }
 {
-    fields().iter().all(|field| !is_used(answers, *field) || condition(terms, answers, *field))
-}
-
-/// Whether each field whose condition holds has its answers.
-fn has_all_answers(terms: &Terms, answers: &Answers) -> bool
-    ensures { result ≡ has_all_answers terms.now answers.now }
-{
-    fields().iter().all(|field| !condition(terms, answers, *field)
-        || is_complete(terms, answers, *field))
-}
-
-/// Whether a boot can come to these answers, at its end or on the way.
-fn is_proper(terms: Option<Terms>, answers: &Answers) -> bool
-    ensures { result ≡ is_proper terms answers.now }
-{
-    match terms {
-        None => has_no_answer(answers),
-        Some(terms) => writes_are_counted(&terms, answers) && answers_are_due(&terms, answers),
+    if condition(terms, answers, field) {
+        is_complete(terms, answers, field)
+    } else {
+        !is_used(answers, field)
     }
 }
 
-/// Whether no question is left.
-fn is_finished(terms: Option<Terms>, answers: &Answers) -> bool
-    ensures { result ≡ is_finished terms answers.now }
+/// Whether each field is.
+fn all_settled(terms: &Terms, answers: &Answers) -> bool
+    ensures { result ≡ list_all (λ f. is_settled terms.now answers.now f) fields }
 {
-    match terms {
-        None => true,
-        Some(terms) => has_all_answers(&terms, answers),
-    }
+    fields()
+        .iter()
+        .all(|field| is_settled(terms, answers, *field))
+}
+
+/// Whether each answered field has its condition, and each field whose condition holds its answers.
+fn has_just_its_answers(terms: &Terms, answers: &Answers) -> bool
+    ensures { result ≡ (answers_are_due terms.now answers.now && has_all_answers terms.now answers.now) }
+{
+    all_settled(terms, answers)
 }
 
 /// Whether a boot can end with these answers.
 pub fn is_lawful(terms: Option<Terms>, answers: &Answers) -> bool
     ensures { result ≡ is_lawful terms answers.now }
 {
-    is_proper(terms, answers) && is_finished(terms, answers)
+    match terms {
+        None => has_no_answer(answers),
+        Some(terms) => writes_are_counted(&terms, answers) && has_just_its_answers(&terms, answers),
+    }
 }
