@@ -6,6 +6,7 @@ pub use Rattle.cm_history.specs.Answering
 pub use Rattle.cm_history.specs.Legal
 pub use Rattle.cm_history.specs.Frames
 pub use Rattle.cm_sequential.specs.Standing
+pub use Rattle.cm_replay.specs.Laws
 pub use Rattle.cm_journal.specs.Text
 pub use Rattle.cm_journal.specs.Fits
 pub use Rattle.cm_journal.specs.Journals
