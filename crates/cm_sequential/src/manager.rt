@@ -12,7 +12,8 @@ use crate::plan::Plan;
 use crate::table::{self, Table};
 use cm_boot::{Answers, Status, judge_terms};
 use cm_history::{
-    BLANK, Call, Orders, Phase, Reply, Slave, is_good, is_ok, is_retried, state_left, state_reported,
+    BLANK, Call, Orders, Phase, Reply, Slave, is_good, is_ok, is_retried, state_left,
+    state_reported,
 };
 use cm_netlist::Network;
 use cm_nmt::{Command, Frame, NmtState, NodeId, Signal, Target};
