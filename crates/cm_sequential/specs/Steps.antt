@@ -6,6 +6,7 @@ use Rattle.cm_nmt.specs.declared.state.NmtState.{NmtState}
 use Rattle.cm_nmt.specs.declared.state.NmtState.TheVariants as state
 use Rattle.cm_nmt.specs.declared.command.Command.{Command}
 use Rattle.cm_boot.specs.Verdict.{judged}
+use Rattle.cm_boot.specs.declared.status.Status.{Status}
 use Rattle.cm_boot.specs.declared.status.Status.TheVariants as status
 use Rattle.cm_history.specs.Listing.{Listing, is_listed}
 use Rattle.cm_history.specs.Orders.{to_all, is_start_of, is_reset_all, is_stop_all, state_left}
@@ -105,6 +106,11 @@ Effect m (call.Elapsed ms) r o m' =
     let opened = open_in (listing_in m) m.slaves in
     let after = settled_phase m.phase (is_late (listing_in m) m.phase opened ms) opened in
     Keeps m' (listing_in m) after (settled_own (listing_in m) m.phase after m.own) m.begun (λ i. ordered o i (kept_at m.slaves i))
+
+-- the status that a report's answers come to; none for any other call
+abbrev pub judged_in : Listing → Call → Option Status
+judged_in net (call.Report id n a) = judged (net.terms id) a
+judged_in net _ = None
 
 -- which refusal a call meets
 abbrev pub refusal_in : Manager → Call → Option ℕ

@@ -64,7 +64,7 @@ fn is_stop_all(orders: &Orders) -> bool
 
 impl Manager {
     ghost use Rattle.cm_sequential.specs.Kept.{kept_at, is_open_in, open_in, cleared, with_slave, reported_slave, signalled_slave, requested_slave};
-    ghost use Rattle.cm_sequential.specs.Steps.{listing_in, slave_in, seen_in, sessions_begun, Keeps, settled_phase, settled_own, ordered, lost_slave, own_after_request, own_after_loss, Effect, After};
+    ghost use Rattle.cm_sequential.specs.Steps.{listing_in, slave_in, seen_in, sessions_begun, Keeps, settled_phase, settled_own, ordered, lost_slave, own_after_request, own_after_loss, judged_in, Effect, After};
     ghost use Rattle.cm_sequential.specs.Standing.{Stands};
 
     // ---- what is kept
@@ -142,8 +142,26 @@ impl Manager {
         None
     }
 
-    /// Which refusal a report of a boot meets.
-    fn report_refusal(&self, id: NodeId, number: u64, answers: &Answers) -> Option<u8>
+    /// The status that a report's answers come to: none for answers of no boot, and for any other
+    /// call. It is looked up once for each call.
+    fn judged(&self, call: &Call) -> Option<Status>
+        ensures { result ≡ judged_in (listing_in self.now) call.now }
+    {
+        match call {
+            Call::Report(id, _number, answers) => judge_terms(self.plan.terms(id.get()), answers),
+            _ => None,
+        }
+    }
+
+    /// Which refusal a report of a boot meets, whose answers come to this status.
+    fn report_refusal(
+        &self,
+        id: NodeId,
+        number: u64,
+        answers: &Answers,
+        found: Option<Status>,
+    ) -> Option<u8>
+        requires { found ≡ judged ((listing_in self.now).terms id) answers.now }
         ensures { result ≡ first_refusal (refusals (listing_in self.now) (seen_in self.now id) (Call.Report id number answers.now)) }
     {
         if self.phase.is_idle() {
@@ -156,7 +174,7 @@ impl Manager {
         if !self.slave(node).has_session(number) {
             return Some(7);
         }
-        if judge_terms(self.plan.terms(node), answers).is_none() {
+        if found.is_none() {
             return Some(8);
         }
         None
@@ -238,13 +256,14 @@ impl Manager {
     }
 
     /// Which refusal a call meets.
-    fn refusal(&self, call: &Call) -> Option<u8>
+    fn refusal(&self, call: &Call, found: Option<Status>) -> Option<u8>
+        requires { found ≡ judged_in (listing_in self.now) call.now }
         ensures { result ≡ first_refusal (refusals (listing_in self.now) (seen_in self.now (node_named call.now)) call.now) }
     {
         match call {
             Call::StartNetwork => self.start_refusal(),
             Call::Begin(id) => self.begin_refusal(*id),
-            Call::Report(id, number, answers) => self.report_refusal(*id, *number, answers),
+            Call::Report(id, number, answers) => self.report_refusal(*id, *number, answers, found),
             Call::Signal(id, byte) => self.signal_refusal(*id, *byte),
             Call::Lost(id) => self.lost_refusal(*id),
             Call::Request(target, value) => self.request_refusal(*target, *value),
@@ -387,8 +406,9 @@ impl Manager {
         table::set_at(&mut self.slaves, node, slave);
     }
 
-    /// A boot has ended.
-    fn report(&mut self, id: NodeId, answers: &Answers) -> (Reply, Orders)
+    /// A boot has ended with this status.
+    fn report(&mut self, id: NodeId, answers: &Answers, found: Option<Status>) -> (Reply, Orders)
+        requires { found ≡ judged ((listing_in self.old).terms id) answers.now }
         ensures answer { (number : ℕ) → (result.0, result.1)
             ≡ granted_answer (listing_in self.old) (seen_in self.old id) (Call.Report id number answers.now) }
         ensures keeps { let s = unwrap_or (judged ((listing_in self.old).terms id) answers.now) Status.A in
@@ -396,7 +416,7 @@ impl Manager {
             Keeps self.new (listing_in self.old) after (settled_own (listing_in self.old) self.old.phase after self.old.own) self.old.begun
             (λ i. ordered result.1 i (with_slave id (reported_slave (kept_at self.old.slaves id) (state_reported s answers.now) s) self.old.slaves i)) }
     {
-        let status = judge_terms(self.plan.terms(id.get()), answers).unwrap_or(Status::A);
+        let status = found.unwrap_or(Status::A);
         let left = state_reported(status, answers);
         self.write_report(id, status, left);
         let orders = self.report_orders(id, status);
@@ -592,8 +612,9 @@ impl Manager {
     }
 
     /// Serves a call that isn't refused.
-    fn grant(&mut self, call: &Call) -> (Reply, Orders)
+    fn grant(&mut self, call: &Call, found: Option<Status>) -> (Reply, Orders)
         requires begun { self.old.begun < 2 ^ 64 - 1 }
+        requires judged { found ≡ judged_in (listing_in self.old) call.now }
         requires granted { first_refusal (refusals (listing_in self.old) (seen_in self.old (node_named call.now)) call.now) ≡ None }
         ensures answer { (result.0, result.1) ≡ granted_answer (listing_in self.old) (seen_in self.old (node_named call.now)) call.now }
         ensures keeps { Effect self.old call.now result.0 result.1 self.new }
@@ -601,7 +622,7 @@ impl Manager {
         match call {
             Call::StartNetwork => self.start(),
             Call::Begin(id) => self.begin(*id),
-            Call::Report(id, _number, answers) => self.report(*id, answers),
+            Call::Report(id, _number, answers) => self.report(*id, answers, found),
             Call::Signal(id, byte) => self.signal(*id, *byte),
             Call::Lost(id) => self.lost(*id),
             Call::Request(target, value) => self.request(*target, *value),
@@ -616,9 +637,10 @@ impl Manager {
         ensures answer { (result.0, result.1) ≡ answer_from (listing_in self.old) (seen_in self.old (node_named call.now)) call.now }
         ensures after { After self.old call.now result.0 result.1 self.new }
     {
-        match self.refusal(call) {
+        let found = self.judged(call);
+        match self.refusal(call, found) {
             Some(number) => (Reply::Refused(number), Orders::None),
-            None => self.grant(call),
+            None => self.grant(call, found),
         }
     }
 
