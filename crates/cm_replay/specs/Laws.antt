@@ -83,7 +83,7 @@ pub record IsProofOf (t : Terms) (i : ℕ) (e : Entry) : Type 0 where
 pub record IsAllThere (net : Listing) (past : List Entry) : Type 0 where
   pub none_open : open_of net past ≡ []
   pub shown : (i : ℕ) (t : Terms) → IsNodeId i → net.terms i ≡ Some t → IsTrue (is_mandatory net i) → has_bit t.assignment.0 2 ≡ true
-    → StandsSince (IsProofOf t i) i past
+      → StandsSince (IsProofOf t i) i past
 
 -- the manager itself becomes operational with the entry
 pub record GoesOperational (net : Listing) (e : Entry) (past : List Entry) : Type 0 where

@@ -10,8 +10,7 @@ ghost use Rattle.cm_replay.specs.Laws.{AtEach, BecomesOperationalRightly, Starts
 /// cleared since.
 pub fn boots_start_rightly()
     ensures law { (net : Listing) (past : List AnEntry) → IsLegal net past → AtEach (StartsRightly net) past }
-{
-}
+{}
 
 /// A law of legal histories, over the definitions alone: the network becomes operational only with
 /// every mandatory slave booted. Where the manager itself becomes operational, and where the orders
@@ -19,5 +18,4 @@ pub fn boots_start_rightly()
 /// values of 1F84h to 1F88h since it was last cleared.
 pub fn network_becomes_operational_rightly()
     ensures law { (net : Listing) (past : List AnEntry) → IsLegal net past → AtEach (BecomesOperationalRightly net) past }
-{
-}
+{}
