@@ -1,1 +1,4 @@
 pub mod Replays
+pub mod Identity
+pub mod Started
+pub mod Operational

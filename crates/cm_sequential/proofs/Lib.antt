@@ -1,6 +1,6 @@
 mod Opened
 mod Slaves
-mod Phases
+pub mod Phases
 mod Signals
 mod Serving
 mod Listings
