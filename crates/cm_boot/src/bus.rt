@@ -9,9 +9,6 @@ use crate::{Answer, Answers, Boot, Question, Step};
 use cm_netlist::Network;
 use cm_nmt::NodeId;
 
-#[cfg(test)]
-mod tests;
-
 /// A way to ask slaves: SDO transfers, heartbeats and guard requests.
 pub trait Bus {
     ghost use Rattle.cm_boot.specs.declared.question.Question.{Question as Asked};
