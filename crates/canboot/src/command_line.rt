@@ -20,10 +20,19 @@ input to its end, makes sure that it is a legal history, and prints the status r
 history on standard output: the phase, the manager's own NMT state, the number of entries and of \
 mandatory slaves that aren't booted, each NMT frame sent, and a line for each listed slave.
 
-A journal has the lines 'canboot journal 1', 'network ..', at most one 'slave ..', an \
-'entry SEAT CALL = REPLY / ORDERS' for each call, and 'end N' with the number of entries. This \
-version reads short journals: 1F80h 00000001, 1F89h 0, a slave with 1F81h 00000005 or 0000000D and \
-any expected device type, all other values 0, and the calls start, begin and report.
+A journal has these lines, with one space between two fields:
+
+  canboot journal 1
+  network own ID startup 1F80h boottime 1F89h seats N limit N
+  slave ID assign 1F81h type 1F84h vendor 1F85h product 1F86h revision 1F87h serial 1F88h \
+heartbeat MS date 1F26h time 1F27h writes N      for each slave, in rising node-ID
+  write INDEX SUB SIZE VALUE                     N times, behind their slave
+  entry SEAT CALL = REPLY / ORDERS               for each call, the oldest first
+  end N                                          with the number of entries
+
+CALL is start, begin ID, report ID SESSION ANSWERS, signal ID BYTE, lost ID, request TARGET VALUE, \
+read TARGET or elapsed MS. Objects and bytes are in hexadecimal, all other numbers in decimal; \
+docs/FORMATS.md has every range, the answers, replies and orders.
 
 Exit statuses:
   0  the report is printed
