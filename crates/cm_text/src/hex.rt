@@ -40,16 +40,19 @@ pub fn hex8(n: u32) -> [u8; 8]
     [a, b, c, d, e, f, g, h]
 }
 
-// What a digit is worth; `None` for any other byte.
+// What a digit is worth; `None` for any other byte. It is one path for digits and letters, since no
+// processor foresees which of them comes next.
 fn worth(byte: u8) -> Option<u8>
     ensures value { result ≡ (if glyph (nibble byte) == byte then Some (nibble byte) else None) }
     ensures small { IfSome result (λ n. n < 16) }
 {
-    match byte {
-        b'0'..=b'9' => Some(byte - b'0'),
-        b'A'..=b'F' => Some(byte - b'A' + 10),
-        _ => None,
-    }
+    let (zero, most) = if byte < b'A' {
+        (b'0', 9)
+    } else {
+        (b'A' - 10, 15)
+    };
+    let worth = byte.wrapping_sub(zero);
+    if worth <= most { Some(worth) } else { None }
 }
 
 // The byte that two digits spell.
