@@ -1,11 +1,13 @@
 -- A decimal field is read exactly.
-use Rattle.std.proofs.Common.{◌≡◌, ℕ, ◌^◌, ◌<◌, ◌≤◌, Bool, true, false, cond, List, Some, None, Result, Ok, refl, sym, ap, subst, ◌∙◌, arith}
-use Rattle.std.specs.Prelude.{bytes_eq, decimal, IsUtf8}
-use Rattle.std.specs.Str.Parse.{digits_value, ParsesUnsigned}
-use Rattle.std.proofs.lemmas.Bool.{leb-true, le-leb}
-use Rattle.std.proofs.lemmas.Slice.Eq.{bytes_eq-Decides}
-use Rattle.std.proofs.lemmas.Fmt.{decimal_is_IsNumeral, parse-decimal, IsAscii-decimal}
-use Rattle.std.proofs.lemmas.Str.{IsUtf8-from_ascii}
+use Rattle.std.proofs.Common.{◌≡◌, ℕ, zero, suc, ◌+◌, ◌*◌, ◌^◌, ◌<◌, ◌≤◌, Bool, true, false, cond, List, length, get_or, take, Some, None, refl, sym, ap, subst, ◌∙◌, arith}
+use Rattle.std.specs.Prelude.{decimal}
+use Rattle.std.specs.Char.{digit_value}
+use Rattle.std.specs.Int.{IsInRange}
+use Rattle.std.specs.Str.Parse.{AllDigits, IsNumeral, digits_value}
+use Rattle.std.proofs.lemmas.Bool.{leb-true, le-leb, lt-leb}
+use Rattle.std.proofs.lemmas.Fmt.{decimal_is_IsNumeral, decimal_digit, first_decimal, decimal-digits_value}
+use Rattle.std.proofs.lemmas.Int.Digits.{digits_value_more}
+use Rattle.std.proofs.lemmas.Str.Parse.{digit_at, digits_value-take-le, numerals_by_value, tells_digits}
 use Rattle.cm_text.specs.Exact.{IsExact}
 use Rattle.cm_text.specs.Decimal.{dec_of}
 use Rattle.cm_text.proofs.Fronts.{same, same_itself}
@@ -41,23 +43,35 @@ dec_of_takes most w n e =
 pub dec_exact : (most : ℕ) → most < 2 ^ 64 → IsExact decimal (dec_of most) (λ n. n ≤ most)
 dec_exact most wide = record { takes = dec_of_takes most; again = λ n le. dec_of_decimal most n wide le }
 
--- ---- what reads a number by parsing it and spelling it again
+-- ---- what reads a number digit by digit
 
--- no number is spelled by bytes that are no text
-pub bad_text : (w : List ℕ) (n : ℕ) → n < 2 ^ 64 → w ≡ decimal n → ¬ (IsUtf8 w) → ⊥
-bad_text w n small e bad = bad (subst IsUtf8 (sym e) (IsUtf8-from_ascii (decimal n) (IsAscii-decimal n small)))
+-- no number is spelled by bytes that are not all digits
+not_numeral : (most : ℕ) (w : List ℕ) → most < 2 ^ 64 → ¬ (IsNumeral 10 w) → dec_of most w ≡ None
+not_numeral most w wide bad = dec_of_none most w (λ n le e. bad (subst (IsNumeral 10) (sym e) (decimal_is_IsNumeral n (omega arith)).0))
 
--- nor by a text that is parsed as no number, or as another
-pub parsed : {E : Type 0} (t w : List ℕ) (n : ℕ) (r : Result ℕ E) → n < 2 ^ 64 → t ≡ w → ParsesUnsigned 64 10 t r → w ≡ decimal n → r ≡ Ok n
-parsed t w n r small same_text h e = parse-decimal 64 n t r small small (same_text ∙ e) h
+pub no_digits : (most : ℕ) (w : List ℕ) → most < 2 ^ 64 → length w ≡ 0 → dec_of most w ≡ None
+no_digits most w wide empty = not_numeral most w wide (λ h. omega (arith, h.0))
 
--- a number that is spelled again as it was is the one that is read
-pub is_spelled : (most n : ℕ) (w t : List ℕ) → most < 2 ^ 64 → n ≤ most → t ≡ decimal n → bytes_eq t w ≡ true → Some n ≡ dec_of most w
-is_spelled most n w t wide le text again =
-    let e : w ≡ decimal n = sym (same t w again) ∙ text in
-    sym (ap (dec_of most) e ∙ dec_of_decimal most n wide le)
+pub other_byte : (most : ℕ) (w : List ℕ) (i : ℕ) → most < 2 ^ 64 → i < length w → ¬ (IsInRange 48 57 (get_or w i 0)) → dec_of most w ≡ None
+other_byte most w i wide inside bad = not_numeral most w wide (λ h. bad (digit_at w i h.1 inside))
 
--- and one that is spelled otherwise is not
-pub not_spelled : (n : ℕ) (w t : List ℕ) → t ≡ decimal n → bytes_eq t w ≡ false → w ≡ decimal n → ⊥
-not_spelled n w t text differ e =
-    let yes : bytes_eq t w ≡ true = (bytes_eq-Decides t w).1 (text ∙ sym e) in cc
+-- nor by a leading zero
+long_zero : (w : List ℕ) (n : ℕ) → n < 2 ^ 64 → get_or w 0 0 ≡ 48 → 1 < length w → w ≡ decimal n → ⊥
+long_zero w zero small lead long e = omega (arith, ap length (e ∙ decimal_digit 0 (omega arith)))
+long_zero w (suc n) small lead long e = omega (arith, ap (λ (l : List ℕ). get_or l 0 0) e, first_decimal (suc n) (omega arith) small)
+
+pub leading_zero : (most : ℕ) (w : List ℕ) → most < 2 ^ 64 → get_or w 0 0 ≡ 48 → 1 < length w → dec_of most w ≡ None
+leading_zero most w wide lead long = dec_of_none most w (λ n le e. long_zero w n (omega arith) lead long e)
+
+-- where the first digits are too much, so is the whole
+pub too_large : (most : ℕ) (w : List ℕ) (i : ℕ) → i < length w → most < digits_value 10 (take i w) * 10 + digit_value (get_or w i 0) → dec_of most w ≡ None
+unfolding dec_of
+too_large most w i inside over =
+    let above : most < digits_value 10 w = omega (arith, digits_value_more 10 w i inside, digits_value-take-le 10 w (i + 1) (omega arith)) in
+    rw (lt-leb _ _ above) refl
+
+-- digits with no leading zero are read as their value
+pub whole_number : (most : ℕ) (w : List ℕ) → most < 2 ^ 64 → AllDigits 10 w → 0 < length w → (get_or w 0 0 ≡ 48 → length w ≡ 1) → digits_value 10 w ≤ most → dec_of most w ≡ Some (digits_value 10 w)
+whole_number most w wide digits some lead le =
+    let e : decimal (digits_value 10 w) ≡ w = decimal-digits_value (numerals_by_value _ tells_digits) w digits some lead (omega arith) in
+    sym (ap (dec_of most) e) ∙ dec_of_decimal most (digits_value 10 w) wide le

@@ -1,5 +1,5 @@
 -- Hexadecimal fields are read exactly.
-use Rattle.std.proofs.Common.{◌≡◌, ℕ, ◌+◌, ◌*◌, ◌/◌, ◌%◌, ◌^◌, ◌<◌, Bool, true, false, cond, ltb, List, [], ◌∷◌, length, get_or, Some, None, refl, sym, ap, ◌∙◌, arith}
+use Rattle.std.proofs.Common.{◌≡◌, ℕ, ◌+◌, ◌*◌, ◌/◌, ◌%◌, ◌^◌, ◌<◌, Bool, true, false, cond, eqb, ltb, List, [], ◌∷◌, ◌++◌, length, get_or, Option, Some, None, refl, sym, ap, ◌∙◌, arith, eqb-true, eq-eqb}
 use Rattle.std.proofs.lemmas.Bool.Decides.{nat_tests}
 use Rattle.cm_text.specs.Exact.{IsExact, respelled}
 use Rattle.cm_text.specs.Plain.{is_plain}
@@ -139,3 +139,95 @@ hex_eight_length n = refl
 pub hex_eight_head : (n : ℕ) → n < 2 ^ 32 → get_or (hex_eight n) 0 0 < 71
 unfolding hex_eight hex_four hex_two
 hex_eight_head n lt = glyph_small (n / 65536 / 256 / 16) (omega arith)
+
+-- ---- digits that are read one by one
+
+not_some : {A : Type 0} (o : Option A) → ((x : A) → o ≡ Some x → ⊥) → o ≡ None
+not_some None never = refl
+not_some (Some x) never = absurd (never x refl)
+
+-- the value of two parts, if both have one
+abbrev pub joined : ℕ → Option ℕ → Option ℕ → Option ℕ
+joined base (Some high) (Some low) = Some (high * base + low)
+joined base (Some high) None = None
+joined base None low = None
+
+-- a field is read by its two parts, where each is read exactly, and so is the whole
+module _ {half whole : ℕ → List ℕ} {read read_whole : List ℕ → Option ℕ} {base wide : ℕ}
+    (exact : IsExact half read (λ n. n < base)) (exact_whole : IsExact whole read_whole (λ n. n < wide))
+    (spelled : (x y : ℕ) → x < base → y < base → (whole (x * base + y) ≡ half x ++ half y) × (x * base + y < wide))
+    (small : (n : ℕ) → n < wide → (n / base < base) × (n % base < base))
+    (u v : List ℕ) (cut : (n : ℕ) → u ++ v ≡ whole n → (u ≡ half (n / base)) × (v ≡ half (n % base))) where
+  join_by : (p q : Option ℕ) → read u ≡ p → read v ≡ q → read_whole (u ++ v) ≡ joined base p q
+  join_by (Some x) (Some y) e f =
+      let h = exact.takes u x e in
+      let l = exact.takes v y f in
+      let s = spelled x y h.1 l.1 in
+      let is : u ++ v ≡ whole (x * base + y) = rw (h.0, l.0) (sym s.0) in
+      ap read_whole is ∙ exact_whole.again (x * base + y) s.1
+  join_by (Some x) None e f = not_some (read_whole (u ++ v)) (λ n g.
+      let t = exact_whole.takes (u ++ v) n g in
+      let again = exact.again (n % base) (small n t.1).1 in
+      let part = (cut n t.0).1 in cc)
+  join_by None q e f = not_some (read_whole (u ++ v)) (λ n g.
+      let t = exact_whole.takes (u ++ v) n g in
+      let again = exact.again (n / base) (small n t.1).0 in
+      let part = (cut n t.0).0 in cc)
+
+  join : read_whole (u ++ v) ≡ joined base (read u) (read v)
+  join = join_by (read u) (read v) refl refl
+
+-- what a byte is worth, if it is a digit
+abbrev pub worth_of : ℕ → Option ℕ
+worth_of c = cond (eqb (glyph (nibble c)) c) (Some (nibble c)) None
+
+one : ℕ → List ℕ
+one n = glyph n ∷ []
+
+one_of : List ℕ → Option ℕ
+one_of [] = None
+one_of (c ∷ []) = worth_of c
+one_of (c ∷ d ∷ w) = None
+
+one_takes : (w : List ℕ) (n : ℕ) → one_of w ≡ Some n → (w ≡ one n) × (n < 16)
+unfolding one_of one
+one_takes [] n e = absurd cc
+one_takes (c ∷ []) n e =
+    let h = respelled_is (eqb (glyph (nibble c)) c) (nibble c) n e in
+    let is : glyph (nibble c) ≡ c = eqb-true _ _ h.0 in
+    (rw (← h.1, is) refl, omega (arith, h.1, nibble_small c))
+one_takes (c ∷ d ∷ w) n e = absurd cc
+
+one_again : (n : ℕ) → n < 16 → one_of (one n) ≡ Some n
+unfolding one_of one
+one_again n lt = let same : nibble (glyph n) ≡ n = nibble_glyph n lt in rw (same, eq-eqb (glyph n) (glyph n) refl) refl
+
+one_exact : IsExact one one_of (λ n. n < 16)
+one_exact = record { takes = one_takes; again = one_again }
+
+pub two_joined : (a b : ℕ) → two_of (a ∷ b ∷ []) ≡ joined 16 (worth_of a) (worth_of b)
+unfolding hex_two one one_of
+two_joined a b =
+    let spelled : (x y : ℕ) → x < 16 → y < 16 → (hex_two (x * 16 + y) ≡ one x ++ one y) × (x * 16 + y < 2 ^ 8) = λ x y p q.
+    let high : (x * 16 + y) / 16 ≡ x = omega arith in
+    let low : (x * 16 + y) % 16 ≡ y = omega arith in
+    (rw (high, low) refl, omega arith) in
+    join one_exact hex_two_exact spelled (λ n lt. (omega arith, omega arith)) (a ∷ []) (b ∷ []) (λ n e. (cc, cc))
+
+pub four_joined : (a b c d : ℕ) → four_of (a ∷ b ∷ c ∷ d ∷ []) ≡ joined 256 (two_of (a ∷ b ∷ [])) (two_of (c ∷ d ∷ []))
+unfolding hex_four hex_two
+four_joined a b c d =
+    let spelled : (x y : ℕ) → x < 2 ^ 8 → y < 2 ^ 8 → (hex_four (x * 256 + y) ≡ hex_two x ++ hex_two y) × (x * 256 + y < 2 ^ 16) = λ x y p q.
+    let high : (x * 256 + y) / 256 ≡ x = omega arith in
+    let low : (x * 256 + y) % 256 ≡ y = omega arith in
+    (rw (high, low) refl, omega arith) in
+    join hex_two_exact hex_four_exact spelled (λ n lt. (omega arith, omega arith)) (a ∷ b ∷ []) (c ∷ d ∷ []) (λ n e. (cc, cc))
+
+pub eight_joined : (a b c d e f g h : ℕ) → eight_of (a ∷ b ∷ c ∷ d ∷ e ∷ f ∷ g ∷ h ∷ []) ≡ joined 65536 (four_of (a ∷ b ∷ c ∷ d ∷ [])) (four_of (e ∷ f ∷ g ∷ h ∷ []))
+unfolding hex_eight hex_four hex_two
+eight_joined a b c d e f g h =
+    let spelled : (x y : ℕ) → x < 2 ^ 16 → y < 2 ^ 16 → (hex_eight (x * 65536 + y) ≡ hex_four x ++ hex_four y) × (x * 65536 + y < 2 ^ 32) = λ x y p q.
+    let high : (x * 65536 + y) / 65536 ≡ x = omega arith in
+    let low : (x * 65536 + y) % 65536 ≡ y = omega arith in
+    (rw (high, low) refl, omega arith) in
+    join hex_four_exact hex_eight_exact spelled (λ n lt. (omega arith, omega arith)) (a ∷ b ∷ c ∷ d ∷ []) (e ∷ f ∷ g ∷ h ∷ []) (λ n e. (cc, cc))

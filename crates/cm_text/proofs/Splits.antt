@@ -7,7 +7,9 @@ use Rattle.cm_text.specs.Words.{Words, split}
 use Rattle.cm_text.specs.Left.{parts}
 use Rattle.cm_text.specs.Reading.{is_empty}
 use denote.Ref.{Bor}
-use Rattle.std.proofs.lemmas.Bool.{cases_Bool, ltb-true, ltb-false}
+use Rattle.std.proofs.lemmas.Bool.{cases_Bool, le-ltb, lt-ltb, ltb-true, ltb-false}
+use Rattle.std.proofs.lemmas.List.Sums.{position_or_len_is}
+use Rattle.memchr.specs.Find.{IsFirstByte, is_byte}
 
 found : (b : Bool) (n k : ℕ) → cond b (Some n) None ≡ Some k → (b ≡ true) × (n ≡ k)
 found true n k e = (refl, cc)
@@ -45,3 +47,19 @@ none_left separator None true e = refl
 none_left separator None false e = absurd cc
 none_left separator (Some bytes) true e = absurd cc
 none_left separator (Some bytes) false e = sym (some_part _ (split separator bytes.now) (length-slice_split (λ b. eqb b separator) bytes.now))
+
+not_true : (b : Bool) → (b ≡ true → ⊥) → b ≡ false
+not_true true never = absurd (never refl)
+not_true false never = refl
+
+-- the first place of a byte, as a search finds it
+pub first_is_position : (byte : ℕ) (xs : List ℕ) (r : Option ℕ) → IsFirstByte (is_byte byte) xs r → r ≡ position (λ b. eqb b byte) xs
+first_is_position byte xs None nowhere =
+    let at : position_or_len (λ b. eqb b byte) xs ≡ length xs =
+    position_or_len_is (λ b. eqb b byte) xs (length xs) 0 (omega arith) (λ k below. not_true _ (nowhere k (omega arith) below)) (λ below. absurd (omega arith)) in
+    rw (at, le-ltb (length xs) (length xs) (omega arith)) refl
+first_is_position byte xs (Some k) found =
+    let first = found.0 in
+    let at : position_or_len (λ b. eqb b byte) xs ≡ k =
+    position_or_len_is (λ b. eqb b byte) xs k 0 (omega (arith, first.high)) (λ j below. not_true _ (first.before j (omega arith) below)) (λ below. found.1) in
+    rw (at, lt-ltb k (length xs) first.high) refl

@@ -6,11 +6,18 @@ ghost use Rattle.cm_text.specs.Reading.{with_rest, field_at, word_is, is_empty};
 
 use crate::decimal::read_decimal;
 use crate::hex::{read_hex2, read_hex4, read_hex8};
+use memchr::memchr;
 
+// Lines are long, and found many bytes at a time; for the few bytes of a field that would be slower.
+#[tactic(auto, using(crate::proofs::Splits::first_is_position))]
 fn place(bytes: &[u8], separator: u8) -> Option<usize>
     ensures { result ≡ position (λ b. b == separator) bytes.now }
 {
-    bytes.iter().position(|b| *b == separator)
+    if separator == b'\n' {
+        memchr(separator, bytes)
+    } else {
+        bytes.iter().position(|b| *b == separator)
+    }
 }
 
 /// The parts of some bytes that are still to be read: the fields of a line, with a space as

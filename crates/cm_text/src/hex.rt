@@ -1,5 +1,5 @@
-ghost use Rattle.std.specs.Prelude.{◌≡◌, ◌≢◌, ◌<◌, ◌^◌, ℕ, MatchOption};
-ghost use Rattle.cm_text.specs.Hex.{glyph, nibble, hex_two, hex_four, hex_eight, two, four, two_of, four_of, eight_of};
+ghost use Rattle.std.specs.Prelude.{◌≡◌, ◌≢◌, ◌<◌, ◌^◌, ◌==◌, ℕ, [], ◌∷◌, Some, None, MatchOption, IfSome, if◌then◌else◌};
+ghost use Rattle.cm_text.specs.Hex.{glyph, nibble, hex_two, hex_four, hex_eight, two_of, four_of, eight_of};
 
 fn digit(worth: u8) -> u8
     requires { worth < 16 }
@@ -40,30 +40,35 @@ pub fn hex8(n: u32) -> [u8; 8]
     [a, b, c, d, e, f, g, h]
 }
 
-// What a digit is worth, and 0 for any other byte: spelling the number again finds that one.
-fn worth(byte: u8) -> u8
-    ensures value { result ≡ nibble byte }
-    ensures small { result < 16 }
+// What a digit is worth; `None` for any other byte. It is one path for digits and letters, since no
+// processor foresees which of them comes next.
+fn worth(byte: u8) -> Option<u8>
+    ensures value { result ≡ (if glyph (nibble byte) == byte then Some (nibble byte) else None) }
+    ensures small { IfSome result (λ n. n < 16) }
 {
-    match byte {
-        b'0'..=b'9' => byte - b'0',
-        b'A'..=b'F' => byte - b'A' + 10,
-        _ => 0,
-    }
+    let (zero, most) = if byte < b'A' {
+        (b'0', 9)
+    } else {
+        (b'A' - 10, 15)
+    };
+    let worth = byte.wrapping_sub(zero);
+    if worth <= most { Some(worth) } else { None }
 }
 
-#[tactic(auto, unfolding(crate::specs::Hex::two))]
-fn pair(a: u8, b: u8) -> u8
-    ensures { result ≡ two a b }
+// The byte that two digits spell.
+#[tactic(auto, using(crate::proofs::Digits::two_joined))]
+fn pair(a: u8, b: u8) -> Option<u8>
+    ensures { result ≡ two_of (a ∷ b ∷ []) }
 {
-    worth(a) * 16 + worth(b)
+    Some(worth(a)? * 16 + worth(b)?)
 }
 
-#[tactic(auto, unfolding(crate::specs::Hex::four))]
-fn quad(a: u8, b: u8, c: u8, d: u8) -> u16
-    ensures { result ≡ four a b c d }
+// The number of 16 bits that four digits spell.
+#[tactic(auto, using(crate::proofs::Digits::four_joined))]
+fn quad(a: u8, b: u8, c: u8, d: u8) -> Option<u16>
+    ensures { result ≡ four_of (a ∷ b ∷ c ∷ d ∷ []) }
 {
-    u16::from(pair(a, b)) * 256 + u16::from(pair(c, d))
+    Some(u16::from(pair(a, b)?) * 256 + u16::from(pair(c, d)?))
 }
 
 /// The byte that exactly two digits, `0` to `9` and `A` to `F`, spell; `None` exactly where the
@@ -84,12 +89,7 @@ fn hex2_value(word: &[u8]) -> Option<u8>
     let [a, b] = word else {
         return None;
     };
-    let n = pair(*a, *b);
-    if hex2(n).as_slice() == word {
-        Some(n)
-    } else {
-        None
-    }
+    pair(*a, *b)
 }
 
 /// The number of 16 bits that exactly four digits, `0` to `9` and `A` to `F`, spell; `None`
@@ -110,12 +110,7 @@ fn hex4_value(word: &[u8]) -> Option<u16>
     let [a, b, c, d] = word else {
         return None;
     };
-    let n = quad(*a, *b, *c, *d);
-    if hex4(n).as_slice() == word {
-        Some(n)
-    } else {
-        None
-    }
+    quad(*a, *b, *c, *d)
 }
 
 /// The number of 32 bits that exactly eight digits, `0` to `9` and `A` to `F`, spell; `None`
@@ -129,19 +124,14 @@ pub fn read_hex8(word: &[u8]) -> Option<u32>
     hex8_value(word)
 }
 
-#[tactic(auto, unfolding(crate::specs::Hex::eight_of))]
+#[tactic(auto, using(crate::proofs::Digits::eight_joined), unfolding(crate::specs::Hex::eight_of))]
 fn hex8_value(word: &[u8]) -> Option<u32>
     ensures { result ≡ eight_of word.now }
 {
     let [a, b, c, d, e, f, g, h] = word else {
         return None;
     };
-    let high = quad(*a, *b, *c, *d);
-    let low = quad(*e, *f, *g, *h);
-    let n = u32::from(high) * 65536 + u32::from(low);
-    if hex8(n).as_slice() == word {
-        Some(n)
-    } else {
-        None
-    }
+    let high = quad(*a, *b, *c, *d)?;
+    let low = quad(*e, *f, *g, *h)?;
+    Some(u32::from(high) * 65536 + u32::from(low))
 }

@@ -95,6 +95,18 @@ fn fields_stand_between_single_separators(rt: HostRuntime) {
 }
 
 #[test]
+fn lines_stand_between_line_feeds(rt: HostRuntime) {
+    let long =
+        b"0123456789 0123456789 0123456789 0123456789 0123456789 0123456789 0123456789\n\nlast\n";
+    let mut lines = Fields::new(long, b'\n');
+    assert_eq!(rt; lines.next_field(), Some(&long[..76]));
+    assert_eq!(rt; lines.next_field(), Some(b"".as_slice()));
+    assert_eq!(rt; lines.next_field(), Some(b"last".as_slice()));
+    assert_eq!(rt; lines.next_field(), Some(b"".as_slice()));
+    assert_eq!(rt; lines.next_field(), None);
+}
+
+#[test]
 fn a_line_is_read_field_by_field(rt: HostRuntime) {
     let mut fields = Fields::new(b"size 127 0D 12AF 0006019A", b' ');
     assert_eq!(rt; fields.keyword(b"size"), Some(()));

@@ -1,0 +1,7 @@
+use Rattle.std.proofs.Common.{◌≡◌, ◌≤◌, take}
+use Rattle.std.specs.Str.Parse.{AllDigits, digits_value}
+use Rattle.cm_text.proofs.decimal.decimal_value.Given as goal
+
+abbrev pub invariant-loop-byte : goal.invariant-loop-byte
+invariant-loop-byte l =
+    (l.n ≡ digits_value 10 (take l.byte-index l.word)) × AllDigits 10 (take l.byte-index l.word) × (l.n ≤ l.most)
