@@ -8,7 +8,7 @@ use Rattle.cm_text.specs.Words.{line}
 use Rattle.cm_netlist.specs.Network.{Network, listed_ids, is_mandatory, is_kept}
 use Rattle.cm_netlist.specs.Document.{fault_of, text_fault}
 use Rattle.cm_netlist.specs.Named.{network_of}
-use Rattle.canboot.specs.Input.{ReadsAll}
+use Rattle.cm_input.specs.Input.{ReadsAll}
 
 -- the mandatory slaves (CiA 302-2, 1F81h bit 3), in rising order
 abbrev pub mandatory_ids : Network → List ℕ

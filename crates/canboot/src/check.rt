@@ -5,12 +5,15 @@ ghost use Rattle.std.specs.Prelude.{◌≡◌, ◌⊎◌, List, OnOk, length};
 ghost use Rattle.std.specs.Io.KnownBytes.{Appends};
 ghost use Rattle.canboot.specs.Check.{Checks, RefusesList, check_line, kept_ids, mandatory_ids};
 
-use crate::input::{InputFault, LONGEST_LIST, read_input};
 use crate::replay::{DONE, FAILED, REFUSED, fault_line};
+use cm_input::{InputFault, read_input};
 use cm_netlist::{NetFault, Network};
 use std::alloc::Global;
 use std::io::{self, Read, Write};
 use std::str;
+
+/// The greatest length of a network list's text, in bytes.
+pub const LONGEST_LIST: usize = 1_048_576;
 
 /// How many slaves are mandatory.
 fn count_mandatory(network: &Network) -> usize

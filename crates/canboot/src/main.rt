@@ -8,7 +8,6 @@ mod check;
 mod command_line;
 #[cfg(test)]
 mod fakes;
-mod input;
 mod program;
 mod replay;
 #[cfg(test)]

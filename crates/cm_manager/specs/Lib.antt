@@ -10,4 +10,5 @@ pub use Rattle.cm_replay.specs.Laws
 pub use Rattle.cm_journal.specs.Text
 pub use Rattle.cm_journal.specs.Fits
 pub use Rattle.cm_journal.specs.Journals
+pub use Rattle.cm_journal.specs.Inputs
 pub use Rattle.cm_journal.specs.Report

@@ -5,8 +5,8 @@
 
 pub use cm_history::{Call, Entry, Orders, Phase, Reply, abort_code, frames};
 pub use cm_journal::{
-    FaultKind, Head, Journal, JournalFault, journal_read, journal_write, no_text_goes_on, one_text,
-    report,
+    FaultKind, Head, Journal, JournalFault, ReadFault, journal_read, journal_read_from,
+    journal_write, no_text_goes_on, one_text, report,
 };
 pub use cm_replay::{
     boots_start_rightly, network_becomes_operational_rightly, replay, replay_to_fault,

@@ -1,6 +1,6 @@
 use crate::check::check_text;
 use crate::fakes::{Failing, Many, Slow, front};
-use crate::input::LONGEST_LIST;
+use crate::check::LONGEST_LIST;
 use std::alloc::Global;
 use std::io::ErrorKind;
 use std::process::Abort;
