@@ -1,4 +1,4 @@
-ghost use Rattle.std.specs.Prelude.{◌≡◌, ◌<◌};
+ghost use Rattle.std.specs.Prelude.{◌≡◌, ◌<◌, length};
 
 use crate::{Got, Heard};
 
@@ -24,7 +24,7 @@ pub struct Answers {
 }
 
 impl Answers {
-    ghost use Rattle.cm_boot.specs.Answers.{id_of, none};
+    ghost use Rattle.cm_answers.specs.Answers.{id_of, none};
 
     /// The answers before any question was asked.
     pub const fn new() -> Answers
@@ -54,7 +54,7 @@ impl Answers {
 
 /// The answers before any question was asked.
 impl Default for Answers {
-    ghost use Rattle.cm_boot.specs.Answers.{none};
+    ghost use Rattle.cm_answers.specs.Answers.{none};
 
     ghost is_default = { λ a. a ≡ none };
 
@@ -62,3 +62,9 @@ impl Default for Answers {
         Answers::new()
     }
 }
+
+/// A law, which says in a contract what the type does: there are four identity values (CiA 301,
+/// 1018h sub 1 to 4).
+pub fn count_ids(answers: &Answers)
+    ensures law { length answers.now.ids ≡ 4 }
+{}
