@@ -14,10 +14,10 @@ abbrev pub none : Answers
 none = record {
   device = NotAsked;
   ids = NotAsked ∷ NotAsked ∷ NotAsked ∷ NotAsked ∷ [];
-  heard = heard.NotAsked;
   date = NotAsked;
   time = NotAsked;
-  acked = 0;
   refused = NotAsked;
+  acked = 0;
+  heard = heard.NotAsked;
   beat = heard.NotAsked;
 }

@@ -9,16 +9,16 @@ pub struct Answers {
     pub device: Got,
     /// Object 1018h sub 1 to 4: vendor-ID, product code, revision number, serial number.
     pub ids: [Got; 4],
-    /// The state of a slave that is kept alive, by heartbeat or guard request.
-    pub heard: Heard,
     /// Object 1020h sub 1, the configuration date.
     pub date: Got,
     /// Object 1020h sub 2, the configuration time.
     pub time: Got,
-    /// How many writes were acknowledged.
-    pub acked: u8,
     /// What the failed write got, if one failed.
     pub refused: Got,
+    /// How many writes were acknowledged.
+    pub acked: u8,
+    /// The state of a slave that is kept alive, by heartbeat or guard request.
+    pub heard: Heard,
     /// The beat by which error control starts.
     pub beat: Heard,
 }
@@ -33,11 +33,11 @@ impl Answers {
         Answers {
             device: Got::NotAsked,
             ids: [Got::NotAsked, Got::NotAsked, Got::NotAsked, Got::NotAsked],
-            heard: Heard::NotAsked,
             date: Got::NotAsked,
             time: Got::NotAsked,
-            acked: 0,
             refused: Got::NotAsked,
+            acked: 0,
+            heard: Heard::NotAsked,
             beat: Heard::NotAsked,
         }
     }
