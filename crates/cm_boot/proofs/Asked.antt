@@ -8,21 +8,21 @@ use Rattle.std.proofs.lemmas.Bool.Decides.{nat_tests}
 use Rattle.cm_netlist.specs.declared.entry.SlaveEntry.{SlaveEntry}
 use Rattle.cm_netlist.specs.declared.terms.Terms.{Terms}
 use Rattle.cm_netlist.specs.declared.write.Write.{Write}
-use Rattle.cm_boot.specs.Got.{is_answered}
-use Rattle.cm_boot.specs.Heard.{is_heard}
-use Rattle.cm_boot.specs.Answers.{id_of}
-use Rattle.cm_boot.specs.Fields.{fields}
-use Rattle.cm_boot.specs.Lawful.{is_complete, is_proper, is_used}
+use Rattle.cm_answers.specs.Got.{is_answered}
+use Rattle.cm_answers.specs.Heard.{is_heard}
+use Rattle.cm_answers.specs.Answers.{id_of}
+use Rattle.cm_answers.specs.Fields.{fields}
+use Rattle.cm_answers.specs.Lawful.{is_complete, is_proper, is_used}
 use Rattle.cm_boot.specs.Questions.{question}
 use Rattle.cm_boot.specs.Machine.{got_of, heard_of, next_field, with_answer, with_write}
 use Rattle.cm_boot.specs.Talk.{asked, asked_of, each_of, given, given_state}
-use Rattle.cm_boot.specs.declared.answers.Answers.{Answers}
-use Rattle.cm_boot.specs.declared.got.Got.{Got}
-use Rattle.cm_boot.specs.declared.got.Got.TheVariants as got
-use Rattle.cm_boot.specs.declared.heard.Heard.{Heard}
-use Rattle.cm_boot.specs.declared.heard.Heard.TheVariants as heard
-use Rattle.cm_boot.specs.declared.field.Field.{Field}
-use Rattle.cm_boot.specs.declared.field.Field.TheVariants.{Device, Vendor, Product, Revision, Serial, State, Date, Time, Writes, Beat}
+use Rattle.cm_answers.specs.declared.answers.Answers.{Answers}
+use Rattle.cm_answers.specs.declared.got.Got.{Got}
+use Rattle.cm_answers.specs.declared.got.Got.TheVariants as got
+use Rattle.cm_answers.specs.declared.heard.Heard.{Heard}
+use Rattle.cm_answers.specs.declared.heard.Heard.TheVariants as heard
+use Rattle.cm_answers.specs.declared.field.Field.{Field}
+use Rattle.cm_answers.specs.declared.field.Field.TheVariants.{Device, Vendor, Product, Revision, Serial, State, Date, Time, Writes, Beat}
 use Rattle.cm_boot.specs.declared.question.Question.{Question}
 use Rattle.cm_boot.specs.declared.question.Question.TheVariants as ask
 use Rattle.cm_boot.specs.declared.question.Answer.{Answer}

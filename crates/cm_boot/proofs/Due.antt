@@ -4,19 +4,19 @@ use Rattle.std.specs.List.{list_all, find, slice_get}
 use Rattle.cm_netlist.specs.Network.{terms_of}
 use Rattle.cm_netlist.specs.declared.entry.SlaveEntry.{SlaveEntry}
 use Rattle.cm_netlist.specs.declared.terms.Terms.{Terms}
-use Rattle.cm_boot.specs.Answers.{none, id_of}
-use Rattle.cm_boot.specs.Fields.{fields}
-use Rattle.cm_boot.specs.Lawful.{condition, is_complete, is_lawful, is_proper, is_used, writes_are_counted}
+use Rattle.cm_answers.specs.Answers.{none, id_of}
+use Rattle.cm_answers.specs.Fields.{fields}
+use Rattle.cm_answers.specs.Lawful.{condition, is_complete, is_lawful, is_proper, is_used, writes_are_counted}
 use Rattle.cm_boot.specs.Questions.{question}
 use Rattle.cm_boot.specs.Machine.{Booting, due, next_field, next_step, question_due, step_of, terms}
-use Rattle.cm_boot.specs.Verdict.{judged, verdict}
-use Rattle.cm_boot.specs.declared.answers.Answers.{Answers}
-use Rattle.cm_boot.specs.declared.status.Status.{Status}
+use Rattle.cm_answers.specs.Verdict.{judged, verdict}
+use Rattle.cm_answers.specs.declared.answers.Answers.{Answers}
+use Rattle.cm_answers.specs.declared.status.Status.{Status}
 use Rattle.cm_boot.specs.declared.question.Question.{Question}
 use Rattle.cm_boot.specs.declared.question.Step.TheVariants.{Ask, Done}
 use Rattle.std.proofs.lemmas.Bool.Decides.{nat_tests}
-use Rattle.cm_boot.specs.declared.field.Field.{Field}
-use Rattle.cm_boot.specs.declared.field.Field.TheVariants.{Device, Vendor, Product, Revision, Serial, State, Date, Time, Writes, Beat}
+use Rattle.cm_answers.specs.declared.field.Field.{Field}
+use Rattle.cm_answers.specs.declared.field.Field.TheVariants.{Device, Vendor, Product, Revision, Serial, State, Date, Time, Writes, Beat}
 
 pub and_left : (a b : Bool) → (a && b) ≡ true → a ≡ true
 and_left true b e = refl
@@ -48,11 +48,6 @@ none_step x rest all later false false e = later e
 all_from_none : {X : Type 0} (c k : X → Bool) (xs : List X) → find (λ x. c x && not (k x)) xs ≡ None → list_all (λ x. not (c x) || k x) xs ≡ true
 all_from_none c k [] e = refl
 all_from_none c k (x ∷ xs) e = none_step x (find (λ y. c y && not (k y)) xs) _ (all_from_none c k xs) (c x) (k x) e
-
--- two tests of each are one test of each
-pub all_both : {X : Type 0} (p q : X → Bool) (xs : List X) → list_all (λ x. p x && q x) xs ≡ (list_all p xs && list_all q xs)
-all_both p q [] = refl
-all_both p q (x ∷ xs) = rw (all_both p q xs) (grind arith)
 
 pub lawful_from_none : (t : Terms) (a : Answers) → is_proper (Some t) a ≡ true → next_field t a ≡ None → is_lawful (Some t) a ≡ true
 lawful_from_none t a proper e = both _ _ proper (all_from_none (condition t a) (is_complete t a) fields e)

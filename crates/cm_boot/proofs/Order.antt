@@ -3,17 +3,17 @@ use Rattle.std.proofs.Common.{◌≡◌, ℕ, Bool, true, ◌&&◌, ◌||◌, no
 use Rattle.cm_netlist.specs.Bits.{has_bit}
 use Rattle.cm_netlist.specs.declared.terms.Terms.{Terms}
 use Rattle.cm_nmt.specs.declared.state.NmtState.TheVariants.{Stopped, Operational, PreOperational}
-use Rattle.cm_boot.specs.Got.{is_answered, has_value, is_value}
-use Rattle.cm_boot.specs.Heard.{is_heard, is_operational, is_other_state}
-use Rattle.cm_boot.specs.Answers.{id_of}
-use Rattle.cm_boot.specs.Lawful.{asks_identity, comes_to_beat, condition, date_agrees, date_differs, device_agrees, identity_agrees, is_complete, is_used, matches, may_configure, must_write, product_agrees, revision_agrees, vendor_agrees}
-use Rattle.cm_boot.specs.declared.answers.Answers.{Answers}
-use Rattle.cm_boot.specs.declared.got.Got.{Got}
-use Rattle.cm_boot.specs.declared.got.Got.TheVariants as got
-use Rattle.cm_boot.specs.declared.heard.Heard.{Heard}
-use Rattle.cm_boot.specs.declared.heard.Heard.TheVariants as heard
-use Rattle.cm_boot.specs.declared.field.Field.{Field}
-use Rattle.cm_boot.specs.declared.field.Field.TheVariants.{Device, Vendor, Product, Revision, Serial, State, Date, Time, Writes, Beat}
+use Rattle.cm_answers.specs.Got.{is_answered, has_value, is_value}
+use Rattle.cm_answers.specs.Heard.{is_heard, is_operational, is_other_state}
+use Rattle.cm_answers.specs.Answers.{id_of}
+use Rattle.cm_answers.specs.Lawful.{asks_identity, comes_to_beat, condition, date_agrees, date_differs, device_agrees, identity_agrees, is_complete, is_used, matches, may_configure, must_write, product_agrees, revision_agrees, vendor_agrees}
+use Rattle.cm_answers.specs.declared.answers.Answers.{Answers}
+use Rattle.cm_answers.specs.declared.got.Got.{Got}
+use Rattle.cm_answers.specs.declared.got.Got.TheVariants as got
+use Rattle.cm_answers.specs.declared.heard.Heard.{Heard}
+use Rattle.cm_answers.specs.declared.heard.Heard.TheVariants as heard
+use Rattle.cm_answers.specs.declared.field.Field.{Field}
+use Rattle.cm_answers.specs.declared.field.Field.TheVariants.{Device, Vendor, Product, Revision, Serial, State, Date, Time, Writes, Beat}
 use Rattle.cm_boot.proofs.Due.{and_left, and_right}
 
 pub has_value_answered : (g : Got) → has_value g ≡ true → is_answered g ≡ true

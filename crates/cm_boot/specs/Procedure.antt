@@ -5,19 +5,19 @@
 use Rattle.std.specs.Prelude.{◌≡◌, Bool, ◌==◌, ◌&&◌, not, if◌then◌else◌, List, [], ◌∷◌, Option, Some, None}
 use Rattle.cm_netlist.specs.Bits.{has_bit}
 use Rattle.cm_netlist.specs.declared.terms.Terms.{Terms}
-use Rattle.cm_boot.specs.Got.{has_value, is_answered, is_value}
-use Rattle.cm_boot.specs.Heard.{is_operational, is_silent}
-use Rattle.cm_boot.specs.Answers.{none}
-use Rattle.cm_boot.specs.Fields.{fields}
-use Rattle.cm_boot.specs.Lawful.{date_agrees, is_complete, is_dated}
+use Rattle.cm_answers.specs.Got.{has_value, is_answered, is_value}
+use Rattle.cm_answers.specs.Heard.{is_operational, is_silent}
+use Rattle.cm_answers.specs.Answers.{none}
+use Rattle.cm_answers.specs.Fields.{fields}
+use Rattle.cm_answers.specs.Lawful.{date_agrees, is_complete, is_dated}
 use Rattle.cm_boot.specs.Machine.{with_answer}
-use Rattle.cm_boot.specs.Verdict.{is_wrong}
-use Rattle.cm_boot.specs.declared.answers.Answers.{Answers}
-use Rattle.cm_boot.specs.declared.field.Field.{Field}
-use Rattle.cm_boot.specs.declared.field.Field.TheVariants.{Device, Vendor, Product, Revision, Serial, State, Date, Time, Writes, Beat}
+use Rattle.cm_answers.specs.Verdict.{is_wrong}
+use Rattle.cm_answers.specs.declared.answers.Answers.{Answers}
+use Rattle.cm_answers.specs.declared.field.Field.{Field}
+use Rattle.cm_answers.specs.declared.field.Field.TheVariants.{Device, Vendor, Product, Revision, Serial, State, Date, Time, Writes, Beat}
 use Rattle.cm_boot.specs.declared.question.Answer.{Answer}
-use Rattle.cm_boot.specs.declared.status.Status.{Status}
-use Rattle.cm_boot.specs.declared.status.Status.TheVariants.{Ok, A, B, C, D, E, F, G, J, K, L, M, N, O}
+use Rattle.cm_answers.specs.declared.status.Status.{Status}
+use Rattle.cm_answers.specs.declared.status.Status.TheVariants.{Ok, A, B, C, D, E, F, G, J, K, L, M, N, O}
 
 -- a slave that is to be booted, 1F81h bit 2, and wasn't found operational
 abbrev pub is_configurable : Terms → Answers → Bool

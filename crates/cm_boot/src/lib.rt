@@ -8,28 +8,20 @@
 //! ```
 //!
 //! Whoever asks by himself takes a [`Boot`], which says what to ask next. Two tables over the
-//! finished record say which answers are those of a boot and which status comes of them; that the
-//! boot, question by question, ends with just these records and statuses is a clause of [`judge`].
+//! finished record, in the crate cm_answers, say which answers are those of a boot and which status
+//! comes of them; that the boot, question by question, ends with just these records and statuses is
+//! a clause of [`judge`].
 #![tactic(auto)]
 
-mod answers;
 mod boot;
 mod bus;
-mod field;
-mod got;
-mod heard;
-mod lawful;
 mod question;
-mod status;
 #[cfg(test)]
 mod tests;
 mod verdict;
 
-pub use answers::Answers;
 pub use boot::{Boot, WrongAnswer};
 pub use bus::{Bus, boot_slave};
-pub use got::Got;
-pub use heard::Heard;
+pub use cm_answers::{Answers, Got, Heard, Status};
 pub use question::{Answer, Question, Step};
-pub use status::Status;
 pub use verdict::{judge, judge_terms};

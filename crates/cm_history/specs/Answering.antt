@@ -8,9 +8,9 @@ use Rattle.cm_nmt.specs.declared.command.Command.{Command}
 use Rattle.cm_nmt.specs.declared.state.NmtState.{NmtState}
 use Rattle.cm_nmt.specs.declared.state.NmtState.TheVariants as state
 use Rattle.cm_nmt.specs.declared.command.Command.TheVariants as command
-use Rattle.cm_boot.specs.Verdict.{judged}
-use Rattle.cm_boot.specs.declared.status.Status.{Status}
-use Rattle.cm_boot.specs.declared.status.Status.TheVariants as status
+use Rattle.cm_answers.specs.Verdict.{judged}
+use Rattle.cm_answers.specs.declared.status.Status.{Status}
+use Rattle.cm_answers.specs.declared.status.Status.TheVariants as status
 use Rattle.cm_history.specs.Listing.{Listing, is_listed, is_to_be_booted, is_mandatory, is_master, starts_all_at_once, leaves_operational_to_application, starts_no_slave, resets_all_on_error, stops_all_on_error}
 use Rattle.cm_history.specs.Orders.{to_every, to_node}
 use Rattle.cm_history.specs.Phases.{is_idle, is_booting, is_ready, is_halted}

@@ -9,12 +9,12 @@ use Rattle.cm_nmt.specs.declared.state.NmtState.{NmtState}
 use Rattle.cm_nmt.specs.declared.state.NmtState.TheVariants as state
 use Rattle.cm_nmt.specs.declared.command.Command.{Command}
 use Rattle.cm_netlist.specs.Network.{node_ids}
-use Rattle.cm_boot.specs.Got.{is_answered}
-use Rattle.cm_boot.specs.declared.answers.Answers.{Answers}
-use Rattle.cm_boot.specs.declared.heard.Heard.{Heard}
-use Rattle.cm_boot.specs.declared.heard.Heard.TheVariants as heard
-use Rattle.cm_boot.specs.declared.status.Status.{Status}
-use Rattle.cm_boot.specs.declared.status.Status.TheVariants as status
+use Rattle.cm_answers.specs.Got.{is_answered}
+use Rattle.cm_answers.specs.declared.answers.Answers.{Answers}
+use Rattle.cm_answers.specs.declared.heard.Heard.{Heard}
+use Rattle.cm_answers.specs.declared.heard.Heard.TheVariants as heard
+use Rattle.cm_answers.specs.declared.status.Status.{Status}
+use Rattle.cm_answers.specs.declared.status.Status.TheVariants as status
 use Rattle.cm_history.specs.Listing.{Listing, is_listed, is_mandatory, leaves_operational_to_application}
 use Rattle.cm_history.specs.Orders.{to_all, is_start_of, is_reset, is_reset_all, is_stop_all, state_left}
 use Rattle.cm_history.specs.Phases.{is_booting, is_ready}

@@ -4,17 +4,17 @@ use Rattle.std.specs.Prelude.{◌==◌}
 use Rattle.std.proofs.lemmas.Bool.{eqb-true, and_from, or_cases}
 use Rattle.cm_netlist.specs.Bits.{has_bit}
 use Rattle.cm_netlist.specs.declared.terms.Terms.{Terms}
-use Rattle.cm_boot.specs.Got.{has_value, is_answered, is_value}
-use Rattle.cm_boot.specs.Answers.{id_of}
-use Rattle.cm_boot.specs.Lawful.{asks_identity, condition, device_agrees, has_all_answers, is_complete, is_proper, is_used, matches, product_agrees, revision_agrees, vendor_agrees}
-use Rattle.cm_boot.specs.Verdict.{is_wrong, judged, verdict}
-use Rattle.cm_boot.specs.declared.answers.Answers.{Answers}
-use Rattle.cm_boot.specs.declared.field.Field.{Field}
-use Rattle.cm_boot.specs.declared.field.Field.TheVariants.{Vendor, Product, Revision, Serial}
-use Rattle.cm_boot.specs.declared.got.Got.{Got}
-use Rattle.cm_boot.specs.declared.got.Got.TheVariants as got
-use Rattle.cm_boot.specs.declared.status.Status.{Status}
-use Rattle.cm_boot.specs.declared.status.Status.TheVariants as status
+use Rattle.cm_answers.specs.Got.{has_value, is_answered, is_value}
+use Rattle.cm_answers.specs.Answers.{id_of}
+use Rattle.cm_answers.specs.Lawful.{asks_identity, condition, device_agrees, has_all_answers, is_complete, is_proper, is_used, matches, product_agrees, revision_agrees, vendor_agrees}
+use Rattle.cm_answers.specs.Verdict.{is_wrong, judged, verdict}
+use Rattle.cm_answers.specs.declared.answers.Answers.{Answers}
+use Rattle.cm_answers.specs.declared.field.Field.{Field}
+use Rattle.cm_answers.specs.declared.field.Field.TheVariants.{Vendor, Product, Revision, Serial}
+use Rattle.cm_answers.specs.declared.got.Got.{Got}
+use Rattle.cm_answers.specs.declared.got.Got.TheVariants as got
+use Rattle.cm_answers.specs.declared.status.Status.{Status}
+use Rattle.cm_answers.specs.declared.status.Status.TheVariants as status
 use Rattle.cm_boot.proofs.Due.{and_right, judged_is}
 use Rattle.cm_boot.proofs.Kept.{all_at}
 use Rattle.cm_history.specs.History.{is_good}

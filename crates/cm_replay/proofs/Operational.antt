@@ -12,10 +12,10 @@ use Rattle.cm_nmt.specs.Codes.{state_of_code, command_of_request}
 use Rattle.cm_netlist.specs.Bits.{has_bit}
 use Rattle.cm_netlist.specs.Network.{node_ids}
 use Rattle.cm_netlist.specs.declared.terms.Terms.{Terms}
-use Rattle.cm_boot.specs.Verdict.{judged}
-use Rattle.cm_boot.specs.declared.answers.Answers.{Answers}
-use Rattle.cm_boot.specs.declared.status.Status.{Status}
-use Rattle.cm_boot.specs.declared.status.Status.TheVariants as status
+use Rattle.cm_answers.specs.Verdict.{judged}
+use Rattle.cm_answers.specs.declared.answers.Answers.{Answers}
+use Rattle.cm_answers.specs.declared.status.Status.{Status}
+use Rattle.cm_answers.specs.declared.status.Status.TheVariants as status
 use Rattle.cm_history.specs.Listing.{Listing, is_mandatory, leaves_operational_to_application, resets_all_on_error, starts_all_at_once, starts_no_slave, stops_all_on_error}
 use Rattle.cm_history.specs.Orders.{is_start_all, is_stop_all, to_every, to_node}
 use Rattle.cm_history.specs.Phases.{is_booting, is_halted, is_ready}

@@ -4,7 +4,7 @@ use Rattle.std.specs.Prelude.{filter, ◌==◌}
 use Rattle.std.proofs.lemmas.List.Elements.{filter_agree}
 use Rattle.std.proofs.lemmas.Bool.{cases_Bool, eqb-true}
 use Rattle.cm_netlist.specs.Network.{node_ids}
-use Rattle.cm_boot.specs.declared.status.Status.{Status}
+use Rattle.cm_answers.specs.declared.status.Status.{Status}
 use Rattle.cm_history.specs.declared.slave.Slave.{Slave}
 use Rattle.cm_history.specs.Listing.{Listing, is_mandatory}
 use Rattle.cm_history.specs.History.{is_good}

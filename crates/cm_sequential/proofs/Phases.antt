@@ -5,8 +5,8 @@ use Rattle.std.specs.Option.{option_or}
 use Rattle.std.proofs.lemmas.Bool.{cases_Bool}
 use Rattle.cm_nmt.specs.declared.state.NmtState.{NmtState}
 use Rattle.cm_netlist.specs.Network.{node_ids}
-use Rattle.cm_boot.specs.declared.answers.Answers.{Answers}
-use Rattle.cm_boot.specs.declared.status.Status.{Status}
+use Rattle.cm_answers.specs.declared.answers.Answers.{Answers}
+use Rattle.cm_answers.specs.declared.status.Status.{Status}
 use Rattle.cm_history.specs.declared.call.Entry.{Entry}
 use Rattle.cm_history.specs.declared.call.Call.TheVariants as call
 use Rattle.cm_history.specs.declared.call.Reply.TheVariants as reply

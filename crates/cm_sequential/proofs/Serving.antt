@@ -13,10 +13,10 @@ use Rattle.cm_nmt.specs.declared.command.Command.TheVariants as command
 use Rattle.cm_netlist.specs.Network.{Network, IsNetwork}
 use Rattle.cm_netlist.specs.declared.terms.Terms.{Terms}
 use Rattle.cm_netlist.proofs.Networks.{terms_above}
-use Rattle.cm_boot.specs.Verdict.{judged}
-use Rattle.cm_boot.specs.declared.answers.Answers.{Answers}
-use Rattle.cm_boot.specs.declared.status.Status.{Status}
-use Rattle.cm_boot.specs.declared.status.Status.TheVariants as status
+use Rattle.cm_answers.specs.Verdict.{judged}
+use Rattle.cm_answers.specs.declared.answers.Answers.{Answers}
+use Rattle.cm_answers.specs.declared.status.Status.{Status}
+use Rattle.cm_answers.specs.declared.status.Status.TheVariants as status
 use Rattle.cm_history.specs.declared.call.Entry.{Entry}
 use Rattle.cm_history.specs.declared.call.Call.{Call}
 use Rattle.cm_history.specs.declared.call.Call.TheVariants as call

@@ -5,9 +5,9 @@ use Rattle.cm_nmt.specs.Codes.{signal_of, state_of_code}
 use Rattle.cm_nmt.specs.declared.state.NmtState.{NmtState}
 use Rattle.cm_nmt.specs.declared.state.NmtState.TheVariants as state
 use Rattle.cm_nmt.specs.declared.command.Command.{Command}
-use Rattle.cm_boot.specs.Verdict.{judged}
-use Rattle.cm_boot.specs.declared.status.Status.{Status}
-use Rattle.cm_boot.specs.declared.status.Status.TheVariants as status
+use Rattle.cm_answers.specs.Verdict.{judged}
+use Rattle.cm_answers.specs.declared.status.Status.{Status}
+use Rattle.cm_answers.specs.declared.status.Status.TheVariants as status
 use Rattle.cm_history.specs.Listing.{Listing, is_listed}
 use Rattle.cm_history.specs.Orders.{to_all, is_start_of, is_reset_all, is_stop_all, state_left}
 use Rattle.cm_history.specs.Phases.{is_booting}

@@ -1,7 +1,7 @@
 ghost use Rattle.std.specs.Prelude.{◌≡◌, ℕ, List, [], ◌∷◌, ◌^◌, ◌<◌, ◌≤◌, ◌-◌, ◌+◌, ◌==◌, IsSome, IsTrue, MatchBool, MatchOption, None, length, unwrap_or};
 ghost use Rattle.cm_nmt.specs.Codes.{command_of_request, signal_of};
 ghost use Rattle.cm_netlist.specs.Network.{Network as AnyNetwork};
-ghost use Rattle.cm_boot.specs.Verdict.{judged};
+ghost use Rattle.cm_answers.specs.Verdict.{judged};
 ghost use Rattle.cm_history.specs.Listing.{Listing, listing, is_listed};
 ghost use Rattle.cm_history.specs.Orders.{is_reset_all, is_stop_all, to_every, to_node};
 ghost use Rattle.cm_history.specs.History.{is_empty, begun_in, state_of, state_requested, own_of, phase_of, is_booted, session_of, open_of, is_fatal, state_reported};

@@ -2,13 +2,13 @@ use Rattle.std.proofs.Common.{◌≡◌, ◌∙◌, ◌≤◌, true, Some, Optio
 use Rattle.std.specs.Option.{option_copied}
 use Rattle.cm_netlist.specs.Network.{terms_of}
 use Rattle.cm_netlist.specs.declared.terms.Terms.{Terms}
-use Rattle.cm_boot.specs.Lawful.{is_proper}
+use Rattle.cm_answers.specs.Lawful.{is_proper}
 use Rattle.cm_boot.specs.Machine.{next_field, terms}
 use Rattle.cm_boot.specs.BootView.{view_of}
 use Rattle.cm_boot.proofs.Kept.{proper_kept}
 use Rattle.cm_boot.proofs.Stays.{four_stay}
 use Rattle.cm_boot.proofs.Due.{writes_room}
-use Rattle.cm_boot.specs.declared.field.Field.TheVariants.{Writes}
+use Rattle.cm_answers.specs.declared.field.Field.TheVariants.{Writes}
 use Rattle.cm_boot.proofs.boot.Boot.answer.Goals as goal
 
 pub invariant_of-self : goal.invariant_of-self

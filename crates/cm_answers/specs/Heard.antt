@@ -1,8 +1,8 @@
 -- What was heard of a slave's state.
 use Rattle.std.specs.Prelude.{Bool, true, false}
 use Rattle.cm_nmt.specs.declared.state.NmtState.TheVariants.{Stopped, Operational, PreOperational}
-use Rattle.cm_boot.specs.declared.heard.Heard.{Heard}
-use Rattle.cm_boot.specs.declared.heard.Heard.TheVariants.{NotAsked, Silent, State}
+use Rattle.cm_answers.specs.declared.heard.Heard.{Heard}
+use Rattle.cm_answers.specs.declared.heard.Heard.TheVariants.{NotAsked, Silent, State}
 
 -- the question was asked
 abbrev pub is_heard : Heard → Bool

@@ -1,4 +1,4 @@
-ghost use Rattle.std.specs.Prelude.{◌≡◌, ◌<◌};
+ghost use Rattle.std.specs.Prelude.{◌≡◌, ◌<◌, length};
 
 use crate::{Got, Heard};
 
@@ -9,22 +9,22 @@ pub struct Answers {
     pub device: Got,
     /// Object 1018h sub 1 to 4: vendor-ID, product code, revision number, serial number.
     pub ids: [Got; 4],
-    /// The state of a slave that is kept alive, by heartbeat or guard request.
-    pub heard: Heard,
     /// Object 1020h sub 1, the configuration date.
     pub date: Got,
     /// Object 1020h sub 2, the configuration time.
     pub time: Got,
-    /// How many writes were acknowledged.
-    pub acked: u8,
     /// What the failed write got, if one failed.
     pub refused: Got,
+    /// How many writes were acknowledged.
+    pub acked: u8,
+    /// The state of a slave that is kept alive, by heartbeat or guard request.
+    pub heard: Heard,
     /// The beat by which error control starts.
     pub beat: Heard,
 }
 
 impl Answers {
-    ghost use Rattle.cm_boot.specs.Answers.{id_of, none};
+    ghost use Rattle.cm_answers.specs.Answers.{id_of, none};
 
     /// The answers before any question was asked.
     pub const fn new() -> Answers
@@ -33,11 +33,11 @@ impl Answers {
         Answers {
             device: Got::NotAsked,
             ids: [Got::NotAsked, Got::NotAsked, Got::NotAsked, Got::NotAsked],
-            heard: Heard::NotAsked,
             date: Got::NotAsked,
             time: Got::NotAsked,
-            acked: 0,
             refused: Got::NotAsked,
+            acked: 0,
+            heard: Heard::NotAsked,
             beat: Heard::NotAsked,
         }
     }
@@ -54,7 +54,7 @@ impl Answers {
 
 /// The answers before any question was asked.
 impl Default for Answers {
-    ghost use Rattle.cm_boot.specs.Answers.{none};
+    ghost use Rattle.cm_answers.specs.Answers.{none};
 
     ghost is_default = { λ a. a ≡ none };
 
@@ -62,3 +62,9 @@ impl Default for Answers {
         Answers::new()
     }
 }
+
+/// A law, which says in a contract what the type does: there are four identity values (CiA 301,
+/// 1018h sub 1 to 4).
+pub fn count_ids(answers: &Answers)
+    ensures law { length answers.now.ids ≡ 4 }
+{}

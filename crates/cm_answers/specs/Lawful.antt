@@ -5,13 +5,13 @@ use Rattle.std.specs.Prelude.{ℕ, Bool, true, ◌==◌, ◌&&◌, ◌||◌, not
 use Rattle.std.specs.List.{list_all}
 use Rattle.cm_netlist.specs.Bits.{has_bit}
 use Rattle.cm_netlist.specs.declared.terms.Terms.{Terms}
-use Rattle.cm_boot.specs.Got.{is_answered, has_value, is_value, is_refusal}
-use Rattle.cm_boot.specs.Heard.{is_heard, is_operational, is_other_state}
-use Rattle.cm_boot.specs.Answers.{id_of}
-use Rattle.cm_boot.specs.Fields.{fields}
-use Rattle.cm_boot.specs.declared.answers.Answers.{Answers}
-use Rattle.cm_boot.specs.declared.field.Field.{Field}
-use Rattle.cm_boot.specs.declared.field.Field.TheVariants.{Device, Vendor, Product, Revision, Serial, State, Date, Time, Writes, Beat}
+use Rattle.cm_answers.specs.Got.{is_answered, has_value, is_value, is_refusal}
+use Rattle.cm_answers.specs.Heard.{is_heard, is_operational, is_other_state}
+use Rattle.cm_answers.specs.Answers.{id_of}
+use Rattle.cm_answers.specs.Fields.{fields}
+use Rattle.cm_answers.specs.declared.answers.Answers.{Answers}
+use Rattle.cm_answers.specs.declared.field.Field.{Field}
+use Rattle.cm_answers.specs.declared.field.Field.TheVariants.{Device, Vendor, Product, Revision, Serial, State, Date, Time, Writes, Beat}
 
 -- the identity at this place agrees: 0 is expected, which is not compared, or the expected value
 -- was read (CiA 302-2, 1F85h to 1F88h)

@@ -2,13 +2,13 @@
 use Rattle.std.specs.Prelude.{ℕ, Bool, ◌==◌, ◌&&◌, not, if◌then◌else◌, Option, Some, None}
 use Rattle.cm_netlist.specs.Bits.{has_bit}
 use Rattle.cm_netlist.specs.declared.terms.Terms.{Terms}
-use Rattle.cm_boot.specs.Got.{is_answered, has_value, is_value}
-use Rattle.cm_boot.specs.Heard.{is_silent, is_operational}
-use Rattle.cm_boot.specs.Answers.{id_of}
-use Rattle.cm_boot.specs.Lawful.{is_lawful}
-use Rattle.cm_boot.specs.declared.answers.Answers.{Answers}
-use Rattle.cm_boot.specs.declared.status.Status.{Status}
-use Rattle.cm_boot.specs.declared.status.Status.TheVariants.{Ok, A, B, C, D, E, F, G, J, K, L, M, N, O}
+use Rattle.cm_answers.specs.Got.{is_answered, has_value, is_value}
+use Rattle.cm_answers.specs.Heard.{is_silent, is_operational}
+use Rattle.cm_answers.specs.Answers.{id_of}
+use Rattle.cm_answers.specs.Lawful.{is_lawful}
+use Rattle.cm_answers.specs.declared.answers.Answers.{Answers}
+use Rattle.cm_answers.specs.declared.status.Status.{Status}
+use Rattle.cm_answers.specs.declared.status.Status.TheVariants.{Ok, A, B, C, D, E, F, G, J, K, L, M, N, O}
 
 -- this identity was asked for and isn't the expected one
 abbrev pub is_wrong : Answers → ℕ → ℕ → Bool

@@ -1,7 +1,7 @@
 -- What a slave gave to a read or a write.
 use Rattle.std.specs.Prelude.{ℕ, Bool, true, false, ◌==◌}
-use Rattle.cm_boot.specs.declared.got.Got.{Got}
-use Rattle.cm_boot.specs.declared.got.Got.TheVariants.{NotAsked, Silent, Abort, Value}
+use Rattle.cm_answers.specs.declared.got.Got.{Got}
+use Rattle.cm_answers.specs.declared.got.Got.TheVariants.{NotAsked, Silent, Abort, Value}
 
 -- the question was asked
 abbrev pub is_answered : Got → Bool

@@ -1,7 +1,7 @@
 -- The letters of the error statuses (CiA 302-2, boot slave).
 use Rattle.std.specs.Prelude.{ℕ, List, codes}
-use Rattle.cm_boot.specs.declared.status.Status.{Status}
-use Rattle.cm_boot.specs.declared.status.Status.TheVariants.{Ok, A, B, C, D, E, F, G, J, K, L, M, N, O}
+use Rattle.cm_answers.specs.declared.status.Status.{Status}
+use Rattle.cm_answers.specs.declared.status.Status.TheVariants.{Ok, A, B, C, D, E, F, G, J, K, L, M, N, O}
 
 -- a status as text: its letter, or Ok for no error
 abbrev pub status_letter : Status → List ℕ

@@ -1,5 +1,5 @@
 ghost use Rattle.std.specs.Prelude.{◌≡◌};
-ghost use Rattle.cm_boot.specs.Heard.{is_heard, is_operational, is_other_state, is_silent};
+ghost use Rattle.cm_answers.specs.Heard.{is_heard, is_operational, is_other_state, is_silent};
 
 use cm_nmt::NmtState;
 

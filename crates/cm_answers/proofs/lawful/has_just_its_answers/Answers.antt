@@ -1,8 +1,8 @@
 use Rattle.std.proofs.Common.{◌∙◌, ◌||◌, not}
-use Rattle.cm_boot.specs.Fields.{fields}
-use Rattle.cm_boot.specs.Lawful.{condition, is_complete, is_used}
-use Rattle.cm_boot.proofs.Due.{all_both}
-use Rattle.cm_boot.proofs.lawful.has_just_its_answers.Goals as goal
+use Rattle.cm_answers.specs.Fields.{fields}
+use Rattle.cm_answers.specs.Lawful.{condition, is_complete, is_used}
+use Rattle.cm_answers.proofs.Both.{all_both}
+use Rattle.cm_answers.proofs.lawful.has_just_its_answers.Goals as goal
 
 pub returns : goal.returns
 returns c =

@@ -1,5 +1,5 @@
 ghost use Rattle.std.specs.Prelude.{◌≡◌};
-ghost use Rattle.cm_boot.specs.Status.{status_letter};
+ghost use Rattle.cm_answers.specs.Status.{status_letter};
 
 /// What a boot came to: the error statuses of CiA 302-2, boot slave, without H and I, which
 /// belong to program download.

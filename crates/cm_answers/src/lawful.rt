@@ -1,7 +1,7 @@
 ghost use Rattle.std.specs.Prelude.{◌≡◌, ◌<◌, ◌&&◌};
-ghost use Rattle.cm_boot.specs.Lawful.{answers_are_due, asks_identity, comes_to_beat, condition, date_agrees, date_differs, device_agrees, has_all_answers, has_no_answer, identity_agrees, is_complete, is_dated, is_lawful, is_used, matches, may_configure, must_write, product_agrees, revision_agrees, vendor_agrees, writes_are_counted};
-ghost use Rattle.cm_boot.specs.Settled.{is_settled};
-ghost use Rattle.cm_boot.specs.Fields.{fields};
+ghost use Rattle.cm_answers.specs.Lawful.{answers_are_due, asks_identity, comes_to_beat, condition, date_agrees, date_differs, device_agrees, has_all_answers, has_no_answer, identity_agrees, is_complete, is_dated, is_lawful, is_used, matches, may_configure, must_write, product_agrees, revision_agrees, vendor_agrees, writes_are_counted};
+ghost use Rattle.cm_answers.specs.Settled.{is_settled};
+ghost use Rattle.cm_answers.specs.Fields.{fields};
 ghost use Rattle.std.specs.List.{list_all};
 
 use crate::Answers;
@@ -110,9 +110,10 @@ fn comes_to_beat(terms: &Terms, answers: &Answers) -> bool
             && !answers.refused.is_answered())
 }
 
-/// Whether the field's question is asked.
+/// Whether the field's question is asked of a slave of which this is listed, where what was asked
+/// before it got these answers (CiA 302-2, boot slave; the order and the conditions are own).
 #[tactic(auto, unfolding(crate::specs::Lawful::condition))]
-pub(crate) fn condition(terms: &Terms, answers: &Answers, field: Field) -> bool
+pub fn condition(terms: &Terms, answers: &Answers, field: Field) -> bool
     ensures { result ≡ condition terms.now answers.now field }
 {
     match field {
@@ -150,9 +151,10 @@ fn is_used(answers: &Answers, field: Field) -> bool
     }
 }
 
-/// Whether the field has all its answers.
+/// Whether the field has all its answers: for the writes, each of `terms.writes` was acknowledged, or
+/// one failed; for another field, its question was asked (own).
 #[tactic(auto, unfolding(crate::specs::Lawful::is_complete))]
-pub(crate) fn is_complete(terms: &Terms, answers: &Answers, field: Field) -> bool
+pub fn is_complete(terms: &Terms, answers: &Answers, field: Field) -> bool
     ensures { result ≡ is_complete terms.now answers.now field }
 {
     match field {

@@ -1,5 +1,5 @@
 ghost use Rattle.std.specs.Prelude.{◌≡◌};
-ghost use Rattle.cm_boot.specs.Got.{has_value, is_answered, is_refusal, is_value};
+ghost use Rattle.cm_answers.specs.Got.{has_value, is_answered, is_refusal, is_value};
 
 /// What a slave gave to a read or a write.
 #[derive(Clone, Copy, Debug, Default, PartialEq, Eq)]

@@ -1,0 +1,75 @@
+ghost use Rattle.std.specs.Prelude.{◌≡◌, ◌<◌};
+ghost use Rattle.cm_answers.specs.Verdict.{is_wrong, judged, verdict};
+
+use crate::lawful::is_lawful;
+use crate::{Answers, Status};
+use cm_netlist::Terms;
+
+/// Whether an identity was read and isn't the expected one.
+fn is_wrong(answers: &Answers, place: usize, expected: u32) -> bool
+    requires { place < 4 }
+    ensures { result ≡ is_wrong answers.now place expected }
+{
+    let got = answers.id(place);
+    got.is_answered() && !got.is_value(expected)
+}
+
+/// The status that the answers come to (CiA 302-2, boot slave, error statuses; where each applies is
+/// own): the first one whose row in the table applies. `terms` is what is listed of the slave, `None`
+/// for one that isn't listed, whose status is A. Whether a boot ends with these answers it doesn't look
+/// at; [`judged_by_tables`] does.
+#[tactic(auto, unfolding(crate::specs::Verdict::verdict))]
+pub fn status_of(terms: Option<Terms>, answers: &Answers) -> Status
+    ensures { result ≡ verdict terms answers.now }
+{
+    let Some(terms) = terms else {
+        return Status::A;
+    };
+    let device = answers.device;
+    let boots = terms.assignment.is_to_be_booted();
+    let operational = answers.heard.is_operational();
+    if boots && !device.has_value() {
+        Status::B
+    } else if device.has_value()
+        && !(terms.device_type == 0)
+        && !device.is_value(terms.device_type)
+    {
+        Status::C
+    } else if is_wrong(answers, 0, terms.vendor) {
+        Status::D
+    } else if is_wrong(answers, 1, terms.product) {
+        Status::M
+    } else if is_wrong(answers, 2, terms.revision) {
+        Status::N
+    } else if is_wrong(answers, 3, terms.serial) {
+        Status::O
+    } else if answers.heard.is_silent() && !(terms.heartbeat_ms == 0) {
+        Status::E
+    } else if answers.heard.is_silent() {
+        Status::F
+    } else if boots && terms.assignment.verifies_software() && !operational {
+        Status::G
+    } else if answers.refused.is_answered() {
+        Status::J
+    } else if answers.beat.is_silent() {
+        Status::K
+    } else if operational {
+        Status::L
+    } else {
+        Status::Ok
+    }
+}
+
+/// The status of a boot that ended with these answers; `None` exactly where no boot ends with them.
+/// `terms` is what is listed of the slave, `None` for one that isn't listed. It goes by the two tables
+/// (CiA 302-2, boot slave): which answers are those of a boot, and which status they come to.
+#[tactic(auto, unfolding(crate::specs::Verdict::judged))]
+pub fn judged_by_tables(terms: Option<Terms>, answers: &Answers) -> Option<Status>
+    ensures { result ≡ judged terms answers.now }
+{
+    if is_lawful(terms, answers) {
+        Some(status_of(terms, answers))
+    } else {
+        None
+    }
+}
