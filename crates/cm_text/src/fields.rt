@@ -1,4 +1,5 @@
-ghost use Rattle.std.specs.Prelude.{◌≡◌, ◌≤◌, ◌==◌, ◌∷◌, ◌++◌, [], ℕ, length, take, Some, None, MatchOption, IfSome, position};
+ghost use Rattle.std.specs.Prelude.{◌≡◌, ◌≤◌, ◌==◌, ◌∷◌, ◌++◌, [], ℕ, length, take, map, Some, None, MatchOption, IfSome, IfNone, position};
+ghost use Rattle.std.specs.Simd.Lanes.{mask_l};
 ghost use Rattle.cm_text.specs.Words.{split};
 ghost use Rattle.cm_text.specs.Decimal.{dec_of};
 ghost use Rattle.cm_text.specs.Hex.{two_of, four_of, eight_of};
@@ -9,16 +10,47 @@ ghost use Rattle.cm_text.specs.Ends.{behind, Lacks, IsOfOtherWidth, IsFirst};
 use crate::decimal::{ENOUGH, leading_digits, read_decimal, spelled};
 use crate::hex::{read_hex2, read_hex4, read_hex8};
 use memchr::memchr;
+use std::simd::prelude::*;
 
-// Lines are long, and found many bytes at a time; for the few bytes of a field that would be slower.
+// Lines are long, and their ends are found many bytes at a time.
+#[inline(never)]
 #[tactic(auto, using(crate::proofs::Splits::first_is_position))]
+fn line_end(bytes: &[u8]) -> Option<usize>
+    ensures { result ≡ position (λ b. b == 10) bytes.now }
+{
+    memchr(b'\n', bytes)
+}
+
+// Where the separator stands among sixteen bytes: the number whose bit k says so of byte k.
+#[inline(always)]
+fn marks(bytes: u8x16, separator: u8) -> u64
+    ensures { result ≡ mask_l (map (λ b. b == separator) bytes) }
+{
+    bytes.simd_eq(u8x16::splat(separator)).to_bitmask()
+}
+
+// Fields are short: most end within sixteen bytes, which are tested at once.
+#[inline(always)]
+fn field_end(bytes: &[u8], separator: u8) -> Option<usize>
+    ensures { result ≡ position (λ b. b == separator) bytes.now }
+{
+    if 16 <= bytes.len() {
+        let found = marks(u8x16::from_slice(bytes), separator);
+        if found != 0 {
+            return Some(found.trailing_zeros() as usize);
+        }
+    }
+    bytes.iter().position(|b| *b == separator)
+}
+
+#[inline(always)]
 fn place(bytes: &[u8], separator: u8) -> Option<usize>
     ensures { result ≡ position (λ b. b == separator) bytes.now }
 {
     if separator == b'\n' {
-        memchr(separator, bytes)
+        line_end(bytes)
     } else {
-        bytes.iter().position(|b| *b == separator)
+        field_end(bytes, separator)
     }
 }
 
@@ -189,6 +221,17 @@ impl<'a> Fields<'a> {
         ensures { field_at eight_of (left self.old) ≡ with_rest result (left self.new) }
     {
         read_hex8(self.front(8)?)
+    }
+
+    /// As `hex8`; and where it gives `None`, nothing was read.
+    pub fn hex8_or_stay(&mut self) -> Option<u32>
+        ensures value { field_at eight_of (left self.old) ≡ with_rest result (left self.new) }
+        ensures stays { IfNone result (left self.new ≡ left self.old) }
+    {
+        let mut ahead = *self;
+        let n = ahead.hex8()?;
+        *self = ahead;
+        Some(n)
     }
 
     /// `Some` where the next field is just this text; `None` where it is another, or no field is
