@@ -12,45 +12,45 @@ use crate::hex::{read_hex2, read_hex4, read_hex8};
 use memchr::memchr;
 use std::simd::prelude::*;
 
-// Lines are long, and their ends are found many bytes at a time.
+// Lines are long: where one ends is found many bytes at a time.
 #[inline(never)]
 #[tactic(auto, using(crate::proofs::Splits::first_is_position))]
-fn line_end(bytes: &[u8]) -> Option<usize>
-    ensures { result ≡ position (λ b. b == 10) bytes.now }
+fn far_place(bytes: &[u8], separator: u8) -> Option<usize>
+    ensures { result ≡ position (λ b. b == separator) bytes.now }
 {
-    memchr(b'\n', bytes)
+    memchr(separator, bytes)
 }
 
-// Where the separator stands among sixteen bytes: the number whose bit k says so of byte k.
+// Where spaces stand among sixteen bytes: the number whose bit k says so of byte k.
 #[inline(always)]
-fn marks(bytes: u8x16, separator: u8) -> u64
-    ensures { result ≡ mask_l (map (λ b. b == separator) bytes) }
+fn spaces(bytes: u8x16) -> u64
+    ensures { result ≡ mask_l (map (λ b. b == 32) bytes) }
 {
-    bytes.simd_eq(u8x16::splat(separator)).to_bitmask()
+    bytes.simd_eq(u8x16::splat(b' ')).to_bitmask()
 }
 
 // Fields are short: most end within sixteen bytes, which are tested at once.
 #[inline(always)]
-fn field_end(bytes: &[u8], separator: u8) -> Option<usize>
-    ensures { result ≡ position (λ b. b == separator) bytes.now }
+fn near_space(bytes: &[u8]) -> Option<usize>
+    ensures { result ≡ position (λ b. b == 32) bytes.now }
 {
     if 16 <= bytes.len() {
-        let found = marks(u8x16::from_slice(bytes), separator);
+        let found = spaces(u8x16::from_slice(bytes));
         if found != 0 {
             return Some(found.trailing_zeros() as usize);
         }
     }
-    bytes.iter().position(|b| *b == separator)
+    bytes.iter().position(|b| *b == b' ')
 }
 
 #[inline(always)]
 fn place(bytes: &[u8], separator: u8) -> Option<usize>
     ensures { result ≡ position (λ b. b == separator) bytes.now }
 {
-    if separator == b'\n' {
-        line_end(bytes)
+    if separator == b' ' {
+        near_space(bytes)
     } else {
-        field_end(bytes, separator)
+        far_place(bytes, separator)
     }
 }
 
@@ -154,19 +154,20 @@ impl<'a> Fields<'a> {
         Some(word)
     }
 
-    // The next field, if it has so many bytes and they are plain; what else is no such field.
+    // The next field, if it has so many bytes and they are plain, and what is left behind it; what
+    // else is no such field.
     #[inline(always)]
-    fn front(&mut self, width: usize) -> Option<&'a [u8]>
+    fn front(&self, width: usize) -> Option<(&'a [u8], Option<&'a [u8]>)>
         ensures { MatchOption result
-            (IsOfOtherWidth width (left self.old))
-            (λ w. IsFirst width w.now (left self.new) (left self.old)) }
+            (IsOfOtherWidth width (left self.now))
+            (λ r. IsFirst width r.0.now (parts self.now.separator r.1) (left self.now)) }
     {
-        if self.separator != b' ' {
-            return self.next_field();
+        let bytes = self.rest?;
+        if self.separator == b' ' {
+            first(bytes, width)
+        } else {
+            Some(Fields::cut(bytes, self.separator))
         }
-        let (word, rest) = first(self.rest?, width)?;
-        self.rest = rest;
-        Some(word)
     }
 
     // As `decimal`, whatever the separator is and however many digits there are.
@@ -204,7 +205,9 @@ impl<'a> Fields<'a> {
     pub fn hex2(&mut self) -> Option<u8>
         ensures { field_at two_of (left self.old) ≡ with_rest result (left self.new) }
     {
-        read_hex2(self.front(2)?)
+        let (word, rest) = self.front(2)?;
+        self.rest = rest;
+        read_hex2(word)
     }
 
     /// The number of 16 bits that the next field spells in four digits, as `read_hex4` reads it;
@@ -212,7 +215,9 @@ impl<'a> Fields<'a> {
     pub fn hex4(&mut self) -> Option<u16>
         ensures { field_at four_of (left self.old) ≡ with_rest result (left self.new) }
     {
-        read_hex4(self.front(4)?)
+        let (word, rest) = self.front(4)?;
+        self.rest = rest;
+        read_hex4(word)
     }
 
     /// The number of 32 bits that the next field spells in eight digits, as `read_hex8` reads it;
@@ -220,7 +225,7 @@ impl<'a> Fields<'a> {
     pub fn hex8(&mut self) -> Option<u32>
         ensures { field_at eight_of (left self.old) ≡ with_rest result (left self.new) }
     {
-        read_hex8(self.front(8)?)
+        self.hex8_or_stay()
     }
 
     /// As `hex8`; and where it gives `None`, nothing was read.
@@ -228,9 +233,9 @@ impl<'a> Fields<'a> {
         ensures value { field_at eight_of (left self.old) ≡ with_rest result (left self.new) }
         ensures stays { IfNone result (left self.new ≡ left self.old) }
     {
-        let mut ahead = *self;
-        let n = ahead.hex8()?;
-        *self = ahead;
+        let (word, rest) = self.front(8)?;
+        let n = read_hex8(word)?;
+        self.rest = rest;
         Some(n)
     }
 
