@@ -63,12 +63,14 @@ long_zero w (suc n) small lead long e = omega (arith, ap (λ (l : List ℕ). get
 pub leading_zero : (most : ℕ) (w : List ℕ) → most < 2 ^ 64 → get_or w 0 0 ≡ 48 → 1 < length w → dec_of most w ≡ None
 leading_zero most w wide lead long = dec_of_none most w (λ n le e. long_zero w n (omega arith) lead long e)
 
+-- nor where they are worth too much
+pub above_most : (most : ℕ) (w : List ℕ) → most < digits_value 10 w → dec_of most w ≡ None
+unfolding dec_of
+above_most most w above = rw (lt-leb _ _ above) refl
+
 -- where the first digits are too much, so is the whole
 pub too_large : (most : ℕ) (w : List ℕ) (i : ℕ) → i < length w → most < digits_value 10 (take i w) * 10 + digit_value (get_or w i 0) → dec_of most w ≡ None
-unfolding dec_of
-too_large most w i inside over =
-    let above : most < digits_value 10 w = omega (arith, digits_value_more 10 w i inside, digits_value-take-le 10 w (i + 1) (omega arith)) in
-    rw (lt-leb _ _ above) refl
+too_large most w i inside over = above_most most w (omega (arith, digits_value_more 10 w i inside, digits_value-take-le 10 w (i + 1) (omega arith)))
 
 -- digits with no leading zero are read as their value
 pub whole_number : (most : ℕ) (w : List ℕ) → most < 2 ^ 64 → AllDigits 10 w → 0 < length w → (get_or w 0 0 ≡ 48 → length w ≡ 1) → digits_value 10 w ≤ most → dec_of most w ≡ Some (digits_value 10 w)

@@ -1,6 +1,10 @@
 -- Hexadecimal fields are read exactly.
-use Rattle.std.proofs.Common.{◌≡◌, ℕ, ◌+◌, ◌*◌, ◌/◌, ◌%◌, ◌^◌, ◌<◌, Bool, true, false, cond, eqb, ltb, List, [], ◌∷◌, ◌++◌, length, get_or, Option, Some, None, refl, sym, ap, ◌∙◌, arith, eqb-true, eq-eqb}
+use Rattle.std.proofs.Common.{◌≡◌, ℕ, ◌+◌, ◌*◌, ◌/◌, ◌%◌, ◌^◌, ◌<◌, ◌≤◌, Bool, true, false, cond, eqb, ltb, List, [], ◌∷◌, ◌++◌, length, map, get_or, Option, Some, None, refl, sym, ap, ◌∙◌, arith, eqb-true, eq-eqb}
 use Rattle.std.proofs.lemmas.Bool.Decides.{nat_tests}
+use Rattle.std.specs.Prelude.{MatchOption, Result, Ok, Err}
+use Rattle.std.specs.Result.{OkIff, result_ok}
+use Rattle.std.specs.List.{range_with_len}
+use Rattle.std.proofs.lemmas.List.FromFn.{get_or-map-range_with_len}
 use Rattle.cm_text.specs.Exact.{IsExact, respelled}
 use Rattle.cm_text.specs.Plain.{is_plain}
 use Rattle.cm_text.specs.Hex.{glyph, nibble, two, four, hex_two, hex_four, hex_eight, two_of, four_of, eight_of}
@@ -58,6 +62,10 @@ two_again n lt = respelled_again hex_two n _ (two_glyphs n lt)
 pub hex_two_exact : IsExact hex_two two_of (λ n. n < 2 ^ 8)
 hex_two_exact = record { takes = two_takes; again = two_again }
 
+pub hex_two_length : (n : ℕ) → length (hex_two n) ≡ 2
+unfolding hex_two
+hex_two_length n = refl
+
 pub hex_two_plain : (n : ℕ) → is_plain (hex_two n) ≡ true
 unfolding hex_two
 hex_two_plain n = rw (glyph_plain (n / 16), glyph_plain (n % 16)) refl
@@ -92,6 +100,10 @@ four_again n lt = respelled_again hex_four n _ (four_glyphs n lt)
 
 pub hex_four_exact : IsExact hex_four four_of (λ n. n < 2 ^ 16)
 hex_four_exact = record { takes = four_takes; again = four_again }
+
+pub hex_four_length : (n : ℕ) → length (hex_four n) ≡ 4
+unfolding hex_four hex_two
+hex_four_length n = refl
 
 pub hex_four_plain : (n : ℕ) → is_plain (hex_four n) ≡ true
 unfolding hex_four hex_two
@@ -142,7 +154,7 @@ hex_eight_head n lt = glyph_small (n / 65536 / 256 / 16) (omega arith)
 
 -- ---- digits that are read one by one
 
-not_some : {A : Type 0} (o : Option A) → ((x : A) → o ≡ Some x → ⊥) → o ≡ None
+pub not_some : {A : Type 0} (o : Option A) → ((x : A) → o ≡ Some x → ⊥) → o ≡ None
 not_some None never = refl
 not_some (Some x) never = absurd (never x refl)
 
@@ -231,3 +243,57 @@ eight_joined a b c d e f g h =
     let low : (x * 65536 + y) % 65536 ≡ y = omega arith in
     (rw (high, low) refl, omega arith) in
     join hex_four_exact hex_eight_exact spelled (λ n lt. (omega arith, omega arith)) (a ∷ b ∷ c ∷ d ∷ []) (e ∷ f ∷ g ∷ h ∷ []) (λ n e. (cc, cc))
+
+-- ---- digits that are weighed: 2^32 for a byte that is none, which outweighs all that they spell
+
+-- the sum stands for what is spelled, and is 2^32 or more where nothing is
+abbrev pub Weighs : Option ℕ → ℕ → Type 0
+Weighs o n = MatchOption o (2 ^ 32 ≤ n) (λ x. n ≡ x)
+
+abbrev pub weight : ℕ → ℕ
+weight c = cond (eqb (glyph (nibble c)) c) (nibble c) (2 ^ 32)
+
+unfoldable pub weights : List ℕ
+weights = map weight (range_with_len 0 256)
+
+weighed : (b : Bool) (n : ℕ) → n < 16 → Weighs (cond b (Some n) None) (cond b n (2 ^ 32)) × (cond b n (2 ^ 32) ≤ 2 ^ 32)
+weighed true n small = (refl, omega arith)
+weighed false n small = (omega arith, omega arith)
+
+pub digit_weighs : (c : ℕ) → c < 256 → Weighs (worth_of c) (get_or weights c 0) × (get_or weights c 0 ≤ 2 ^ 32)
+unfolding weights
+digit_weighs c within =
+    let at : get_or (map weight (range_with_len 0 256)) c 0 ≡ weight c = get_or-map-range_with_len weight 0 256 c c 0 within (omega arith) in
+    rw at (weighed (eqb (glyph (nibble c)) c) (nibble c) (nibble_small c))
+
+pub joined_weighs : (base : ℕ) (p q : Option ℕ) (t u : ℕ) → t ≤ t * base → Weighs p t → Weighs q u → Weighs (joined base p q) (t * base + u)
+joined_weighs base None q t u more h k = omega (arith, h)
+joined_weighs base (Some x) None t u more h k = omega (arith, k)
+joined_weighs base (Some x) (Some y) t u more h k = cc
+
+pub two_weighs : (a b t u : ℕ) → Weighs (worth_of a) t → Weighs (worth_of b) u → Weighs (two_of (a ∷ b ∷ [])) (t * 16 + u)
+two_weighs a b t u h k = rw two_joined (joined_weighs 16 (worth_of a) (worth_of b) t u (omega arith) h k)
+
+pub four_weighs : (a b c d t u : ℕ) → Weighs (two_of (a ∷ b ∷ [])) t → Weighs (two_of (c ∷ d ∷ [])) u → Weighs (four_of (a ∷ b ∷ c ∷ d ∷ [])) (t * 256 + u)
+four_weighs a b c d t u h k = rw four_joined (joined_weighs 256 (two_of (a ∷ b ∷ [])) (two_of (c ∷ d ∷ [])) t u (omega arith) h k)
+
+pub eight_weighs : (a b c d e f g h t u : ℕ) → Weighs (four_of (a ∷ b ∷ c ∷ d ∷ [])) t → Weighs (four_of (e ∷ f ∷ g ∷ h ∷ [])) u
+    → Weighs (eight_of (a ∷ b ∷ c ∷ d ∷ e ∷ f ∷ g ∷ h ∷ [])) (t * 65536 + u)
+eight_weighs a b c d e f g h t u p q = rw eight_joined (joined_weighs 65536 (four_of (a ∷ b ∷ c ∷ d ∷ [])) (four_of (e ∷ f ∷ g ∷ h ∷ [])) t u (omega arith) p q)
+
+-- a weight that fits is what is spelled
+pub fitted : {E : Type 0} (o : Option ℕ) (n k : ℕ) (t : Result ℕ E) → OkIff t (n < k) n → Weighs o n → ((x : ℕ) → o ≡ Some x → x < k) → k ≤ 2 ^ 32 → result_ok t ≡ o
+fitted None n k (Ok x) fits weighs small wide = absurd (omega (arith, fits.0))
+fitted None n k (Err e) fits weighs small wide = refl
+fitted (Some y) n k (Ok x) fits weighs small wide = cc (fits.1, weighs)
+fitted (Some y) n k (Err e) fits weighs small wide = absurd (fits (omega (arith, weighs, small y refl)))
+
+pub two_fits : {E : Type 0} (a b n : ℕ) (t : Result ℕ E) → OkIff t (n < 2 ^ 8) n → Weighs (two_of (a ∷ b ∷ [])) n → result_ok t ≡ two_of (a ∷ b ∷ [])
+two_fits a b n t fits weighs = fitted _ n (2 ^ 8) t fits weighs (λ x e. (two_takes _ x e).1) (omega arith)
+
+pub four_fits : {E : Type 0} (a b c d n : ℕ) (t : Result ℕ E) → OkIff t (n < 2 ^ 16) n → Weighs (four_of (a ∷ b ∷ c ∷ d ∷ [])) n → result_ok t ≡ four_of (a ∷ b ∷ c ∷ d ∷ [])
+four_fits a b c d n t fits weighs = fitted _ n (2 ^ 16) t fits weighs (λ x e. (four_takes _ x e).1) (omega arith)
+
+pub eight_fits : {E : Type 0} (a b c d e f g h n : ℕ) (t : Result ℕ E) → OkIff t (n < 2 ^ 32) n → Weighs (eight_of (a ∷ b ∷ c ∷ d ∷ e ∷ f ∷ g ∷ h ∷ [])) n
+    → result_ok t ≡ eight_of (a ∷ b ∷ c ∷ d ∷ e ∷ f ∷ g ∷ h ∷ [])
+eight_fits a b c d e f g h n t fits weighs = fitted _ n (2 ^ 32) t fits weighs (λ x is. (eight_takes _ x is).1) (omega arith)

@@ -5,3 +5,5 @@ pub mod Splits
 pub mod Plain
 pub mod Lines
 pub mod Writes
+pub mod Ends
+pub mod Heads

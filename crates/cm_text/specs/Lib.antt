@@ -5,3 +5,4 @@ pub mod Plain
 pub mod Words
 pub mod Left
 pub mod Reading
+pub mod Ends

@@ -1,23 +1,115 @@
-ghost use Rattle.std.specs.Prelude.{◌≡◌, ◌≤◌, ◌==◌, ◌∷◌, [], ℕ, MatchOption, IfSome, position};
+ghost use Rattle.std.specs.Prelude.{◌≡◌, ◌≤◌, ◌==◌, ◌∷◌, ◌++◌, [], ℕ, length, take, map, Some, None, MatchOption, IfSome, IfNone, position};
+ghost use Rattle.std.specs.Simd.Lanes.{mask_l};
 ghost use Rattle.cm_text.specs.Words.{split};
 ghost use Rattle.cm_text.specs.Decimal.{dec_of};
 ghost use Rattle.cm_text.specs.Hex.{two_of, four_of, eight_of};
 ghost use Rattle.cm_text.specs.Reading.{with_rest, field_at, word_is, is_empty};
+ghost use Rattle.cm_text.specs.Left.{parts};
+ghost use Rattle.cm_text.specs.Ends.{behind, Lacks, IsOfOtherWidth, IsFirst};
 
-use crate::decimal::read_decimal;
+use crate::decimal::{ENOUGH, leading_digits, read_decimal, spelled};
 use crate::hex::{read_hex2, read_hex4, read_hex8};
 use memchr::memchr;
+use std::simd::prelude::*;
 
-// Lines are long, and found many bytes at a time; for the few bytes of a field that would be slower.
+// Lines are long: where one ends is found many bytes at a time.
+#[inline(never)]
 #[tactic(auto, using(crate::proofs::Splits::first_is_position))]
+fn far_place(bytes: &[u8], separator: u8) -> Option<usize>
+    ensures { result ≡ position (λ b. b == separator) bytes.now }
+{
+    memchr(separator, bytes)
+}
+
+// Where spaces stand among sixteen bytes: the number whose bit k says so of byte k.
+#[inline(always)]
+fn spaces(bytes: u8x16) -> u64
+    ensures { result ≡ mask_l (map (λ b. b == 32) bytes) }
+{
+    bytes.simd_eq(u8x16::splat(b' ')).to_bitmask()
+}
+
+// Fields are short: most end within sixteen bytes, which are tested at once.
+#[inline(always)]
+fn near_space(bytes: &[u8]) -> Option<usize>
+    ensures { result ≡ position (λ b. b == 32) bytes.now }
+{
+    if 16 <= bytes.len() {
+        let found = spaces(u8x16::from_slice(bytes));
+        if found != 0 {
+            return Some(found.trailing_zeros() as usize);
+        }
+    }
+    bytes.iter().position(|b| *b == b' ')
+}
+
+#[inline(always)]
 fn place(bytes: &[u8], separator: u8) -> Option<usize>
     ensures { result ≡ position (λ b. b == separator) bytes.now }
 {
-    if separator == b'\n' {
-        memchr(separator, bytes)
+    if separator == b' ' {
+        near_space(bytes)
     } else {
-        bytes.iter().position(|b| *b == separator)
+        far_place(bytes, separator)
     }
+}
+
+// What is left behind a first part that these bytes follow; `None` where the part goes on.
+#[inline(always)]
+fn behind(bytes: &[u8], separator: u8) -> Option<Option<&[u8]>>
+    ensures { MatchOption result
+        (behind separator bytes.now ≡ None)
+        (λ rest. behind separator bytes.now ≡ Some (parts separator rest)) }
+{
+    let Some((first, rest)) = bytes.split_first() else {
+        return Some(None);
+    };
+    if *first == separator {
+        Some(Some(rest))
+    } else {
+        None
+    }
+}
+
+// The first field, if it has so many bytes and they are plain, with what is left behind it. Only
+// the byte behind it is looked at.
+#[inline(always)]
+fn first(bytes: &[u8], width: usize) -> Option<(&[u8], Option<&[u8]>)>
+    ensures { MatchOption result
+        (IsOfOtherWidth width (split 32 bytes.now))
+        (λ r. (r.0.now ≡ take width bytes.now)
+        × IsFirst width r.0.now (parts 32 r.1) (split 32 bytes.now)) }
+{
+    if bytes.len() < width {
+        return None;
+    }
+    let (word, tail) = bytes.split_at(width);
+    match behind(tail, b' ') {
+        Some(rest) => Some((word, rest)),
+        None => None,
+    }
+}
+
+// What follows the text, if these bytes begin with it and the separator isn't in it.
+#[inline(always)]
+fn behind_text<'a>(bytes: &'a [u8], text: &[u8], separator: u8) -> Option<&'a [u8]>
+    ensures { MatchOption result
+        (field_at (word_is text.now) (split separator bytes.now) ≡ None)
+        (λ tail. (bytes.now ≡ text.now ++ tail.now) × Lacks separator text.now) }
+{
+    if bytes.len() < text.len() {
+        return None;
+    }
+    for at in 0..text.len() {
+        if bytes[at] != text[at] {
+            return None;
+        }
+        if text[at] == separator {
+            return None;
+        }
+    }
+    let (_, tail) = bytes.split_at(text.len());
+    Some(tail)
 }
 
 /// The parts of some bytes that are still to be read: the fields of a line, with a space as
@@ -62,6 +154,32 @@ impl<'a> Fields<'a> {
         Some(word)
     }
 
+    // The next field, if it has so many bytes and they are plain, and what is left behind it; what
+    // else is no such field.
+    #[inline(always)]
+    fn front(&self, width: usize) -> Option<(&'a [u8], Option<&'a [u8]>)>
+        ensures { MatchOption result
+            (IsOfOtherWidth width (left self.now))
+            (λ r. IsFirst width r.0.now (parts self.now.separator r.1) (left self.now)) }
+    {
+        let bytes = self.rest?;
+        if self.separator == b' ' {
+            first(bytes, width)
+        } else {
+            Some(Fields::cut(bytes, self.separator))
+        }
+    }
+
+    // As `decimal`, whatever the separator is and however many digits there are.
+    #[inline(never)]
+    #[tactic(auto, unfolding(crate::specs::Reading::field_at))]
+    fn any_decimal(&mut self, most: u64) -> Option<u64>
+        ensures value { field_at (dec_of most) (left self.old) ≡ with_rest result (left self.new) }
+        ensures small { IfSome result (λ n. n ≤ most) }
+    {
+        read_decimal(self.next_field()?, most)
+    }
+
     /// The number, 0 to `most`, that the next field spells in decimal, as `read_decimal` reads it;
     /// `None` where it spells none, or no field is left.
     #[tactic(auto, unfolding(crate::specs::Reading::field_at))]
@@ -69,34 +187,56 @@ impl<'a> Fields<'a> {
         ensures value { field_at (dec_of most) (left self.old) ≡ with_rest result (left self.new) }
         ensures small { IfSome result (λ n. n ≤ most) }
     {
-        read_decimal(self.next_field()?, most)
+        if self.separator != b' ' {
+            return self.any_decimal(most);
+        }
+        let bytes = self.rest?;
+        let (n, count) = leading_digits(bytes);
+        if ENOUGH <= n {
+            return self.any_decimal(most);
+        }
+        let (digits, rest) = first(bytes, count)?;
+        self.rest = rest;
+        spelled(digits, n, most)
     }
 
     /// The byte that the next field spells in two digits, as `read_hex2` reads it; `None` where it
     /// spells none, or no field is left.
-    #[tactic(auto, unfolding(crate::specs::Reading::field_at))]
     pub fn hex2(&mut self) -> Option<u8>
         ensures { field_at two_of (left self.old) ≡ with_rest result (left self.new) }
     {
-        read_hex2(self.next_field()?)
+        let (word, rest) = self.front(2)?;
+        self.rest = rest;
+        read_hex2(word)
     }
 
     /// The number of 16 bits that the next field spells in four digits, as `read_hex4` reads it;
     /// `None` where it spells none, or no field is left.
-    #[tactic(auto, unfolding(crate::specs::Reading::field_at))]
     pub fn hex4(&mut self) -> Option<u16>
         ensures { field_at four_of (left self.old) ≡ with_rest result (left self.new) }
     {
-        read_hex4(self.next_field()?)
+        let (word, rest) = self.front(4)?;
+        self.rest = rest;
+        read_hex4(word)
     }
 
     /// The number of 32 bits that the next field spells in eight digits, as `read_hex8` reads it;
     /// `None` where it spells none, or no field is left.
-    #[tactic(auto, unfolding(crate::specs::Reading::field_at))]
     pub fn hex8(&mut self) -> Option<u32>
         ensures { field_at eight_of (left self.old) ≡ with_rest result (left self.new) }
     {
-        read_hex8(self.next_field()?)
+        self.hex8_or_stay()
+    }
+
+    /// As `hex8`; and where it gives `None`, nothing was read.
+    pub fn hex8_or_stay(&mut self) -> Option<u32>
+        ensures value { field_at eight_of (left self.old) ≡ with_rest result (left self.new) }
+        ensures stays { IfNone result (left self.new ≡ left self.old) }
+    {
+        let (word, rest) = self.front(8)?;
+        let n = read_hex8(word)?;
+        self.rest = rest;
+        Some(n)
     }
 
     /// `Some` where the next field is just this text; `None` where it is another, or no field is
@@ -105,11 +245,9 @@ impl<'a> Fields<'a> {
     pub fn keyword(&mut self, text: &[u8]) -> Option<()>
         ensures { field_at (word_is text.now) (left self.old) ≡ with_rest result (left self.new) }
     {
-        if self.next_field()? == text {
-            Some(())
-        } else {
-            None
-        }
+        let tail = behind_text(self.rest?, text, self.separator)?;
+        self.rest = behind(tail, self.separator)?;
+        Some(())
     }
 
     /// Whether no part is left.

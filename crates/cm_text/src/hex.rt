@@ -1,4 +1,4 @@
-ghost use Rattle.std.specs.Prelude.{◌≡◌, ◌≢◌, ◌<◌, ◌^◌, ◌==◌, ℕ, [], ◌∷◌, Some, None, MatchOption, IfSome, if◌then◌else◌};
+ghost use Rattle.std.specs.Prelude.{◌≡◌, ◌≢◌, ◌<◌, ◌≤◌, ◌*◌, ◌^◌, ◌==◌, ℕ, [], ◌∷◌, Some, None, MatchOption, if◌then◌else◌};
 ghost use Rattle.cm_text.specs.Hex.{glyph, nibble, hex_two, hex_four, hex_eight, two_of, four_of, eight_of};
 
 fn digit(worth: u8) -> u8
@@ -40,35 +40,55 @@ pub fn hex8(n: u32) -> [u8; 8]
     [a, b, c, d, e, f, g, h]
 }
 
-// What a digit is worth; `None` for any other byte. It is one path for digits and letters, since no
-// processor foresees which of them comes next.
-fn worth(byte: u8) -> Option<u8>
-    ensures value { result ≡ (if glyph (nibble byte) == byte then Some (nibble byte) else None) }
-    ensures small { IfSome result (λ n. n < 16) }
+// Above every number that digits spell here, and small enough that eight of them add up.
+const NONE: u64 = 1 << 32;
+
+// What each byte is worth as a digit.
+const WORTHS: [u64; 256] = [
+    NONE, NONE, NONE, NONE, NONE, NONE, NONE, NONE, NONE, NONE, NONE, NONE, NONE, NONE, NONE, NONE,
+    NONE, NONE, NONE, NONE, NONE, NONE, NONE, NONE, NONE, NONE, NONE, NONE, NONE, NONE, NONE, NONE,
+    NONE, NONE, NONE, NONE, NONE, NONE, NONE, NONE, NONE, NONE, NONE, NONE, NONE, NONE, NONE, NONE,
+    0, 1, 2, 3, 4, 5, 6, 7, 8, 9, NONE, NONE, NONE, NONE, NONE, NONE, NONE, 10, 11, 12, 13, 14, 15,
+    NONE, NONE, NONE, NONE, NONE, NONE, NONE, NONE, NONE, NONE, NONE, NONE, NONE, NONE, NONE, NONE,
+    NONE, NONE, NONE, NONE, NONE, NONE, NONE, NONE, NONE, NONE, NONE, NONE, NONE, NONE, NONE, NONE,
+    NONE, NONE, NONE, NONE, NONE, NONE, NONE, NONE, NONE, NONE, NONE, NONE, NONE, NONE, NONE, NONE,
+    NONE, NONE, NONE, NONE, NONE, NONE, NONE, NONE, NONE, NONE, NONE, NONE, NONE, NONE, NONE, NONE,
+    NONE, NONE, NONE, NONE, NONE, NONE, NONE, NONE, NONE, NONE, NONE, NONE, NONE, NONE, NONE, NONE,
+    NONE, NONE, NONE, NONE, NONE, NONE, NONE, NONE, NONE, NONE, NONE, NONE, NONE, NONE, NONE, NONE,
+    NONE, NONE, NONE, NONE, NONE, NONE, NONE, NONE, NONE, NONE, NONE, NONE, NONE, NONE, NONE, NONE,
+    NONE, NONE, NONE, NONE, NONE, NONE, NONE, NONE, NONE, NONE, NONE, NONE, NONE, NONE, NONE, NONE,
+    NONE, NONE, NONE, NONE, NONE, NONE, NONE, NONE, NONE, NONE, NONE, NONE, NONE, NONE, NONE, NONE,
+    NONE, NONE, NONE, NONE, NONE, NONE, NONE, NONE, NONE, NONE, NONE, NONE, NONE, NONE, NONE, NONE,
+    NONE, NONE, NONE, NONE, NONE, NONE, NONE, NONE, NONE, NONE, NONE, NONE, NONE, NONE, NONE, NONE,
+    NONE, NONE, NONE, NONE, NONE, NONE, NONE, NONE, NONE,
+];
+
+// What a digit is worth, and `NONE` for any other byte: by a table, so that nothing is foretold.
+#[inline(always)]
+fn worth(byte: u8) -> u64
+    ensures value { MatchOption (if glyph (nibble byte) == byte then Some (nibble byte) else None)
+        (2 ^ 32 ≤ result) (λ n. result ≡ n) }
+    ensures small { result ≤ 2 ^ 32 }
 {
-    let (zero, most) = if byte < b'A' {
-        (b'0', 9)
-    } else {
-        (b'A' - 10, 15)
-    };
-    let worth = byte.wrapping_sub(zero);
-    if worth <= most { Some(worth) } else { None }
+    WORTHS[byte as usize]
 }
 
-// The byte that two digits spell.
-#[tactic(auto, using(crate::proofs::Digits::two_joined))]
-fn pair(a: u8, b: u8) -> Option<u8>
-    ensures { result ≡ two_of (a ∷ b ∷ []) }
+// The number that two digits spell, and 2^32 or more where one of them is none.
+#[inline(always)]
+fn pair(a: u8, b: u8) -> u64
+    ensures value { MatchOption (two_of (a ∷ b ∷ [])) (2 ^ 32 ≤ result) (λ n. result ≡ n) }
+    ensures small { result ≤ 17 * 2 ^ 32 }
 {
-    Some(worth(a)? * 16 + worth(b)?)
+    worth(a) * 16 + worth(b)
 }
 
-// The number of 16 bits that four digits spell.
-#[tactic(auto, using(crate::proofs::Digits::four_joined))]
-fn quad(a: u8, b: u8, c: u8, d: u8) -> Option<u16>
-    ensures { result ≡ four_of (a ∷ b ∷ c ∷ d ∷ []) }
+// The number that four digits spell, and 2^32 or more where one of them is none.
+#[inline(always)]
+fn quad(a: u8, b: u8, c: u8, d: u8) -> u64
+    ensures value { MatchOption (four_of (a ∷ b ∷ c ∷ d ∷ [])) (2 ^ 32 ≤ result) (λ n. result ≡ n) }
+    ensures small { result ≤ 4369 * 2 ^ 32 }
 {
-    Some(u16::from(pair(a, b)?) * 256 + u16::from(pair(c, d)?))
+    pair(a, b) * 256 + pair(c, d)
 }
 
 /// The byte that exactly two digits, `0` to `9` and `A` to `F`, spell; `None` exactly where the
@@ -83,13 +103,14 @@ pub fn read_hex2(word: &[u8]) -> Option<u8>
 }
 
 #[tactic(auto, unfolding(crate::specs::Hex::two_of))]
+#[inline(always)]
 fn hex2_value(word: &[u8]) -> Option<u8>
     ensures { result ≡ two_of word.now }
 {
     let [a, b] = word else {
         return None;
     };
-    pair(*a, *b)
+    u8::try_from(pair(*a, *b)).ok()
 }
 
 /// The number of 16 bits that exactly four digits, `0` to `9` and `A` to `F`, spell; `None`
@@ -104,13 +125,14 @@ pub fn read_hex4(word: &[u8]) -> Option<u16>
 }
 
 #[tactic(auto, unfolding(crate::specs::Hex::four_of))]
+#[inline(always)]
 fn hex4_value(word: &[u8]) -> Option<u16>
     ensures { result ≡ four_of word.now }
 {
     let [a, b, c, d] = word else {
         return None;
     };
-    quad(*a, *b, *c, *d)
+    u16::try_from(quad(*a, *b, *c, *d)).ok()
 }
 
 /// The number of 32 bits that exactly eight digits, `0` to `9` and `A` to `F`, spell; `None`
@@ -124,14 +146,13 @@ pub fn read_hex8(word: &[u8]) -> Option<u32>
     hex8_value(word)
 }
 
-#[tactic(auto, using(crate::proofs::Digits::eight_joined), unfolding(crate::specs::Hex::eight_of))]
+#[tactic(auto, unfolding(crate::specs::Hex::eight_of))]
+#[inline(always)]
 fn hex8_value(word: &[u8]) -> Option<u32>
     ensures { result ≡ eight_of word.now }
 {
     let [a, b, c, d, e, f, g, h] = word else {
         return None;
     };
-    let high = quad(*a, *b, *c, *d)?;
-    let low = quad(*e, *f, *g, *h)?;
-    Some(u32::from(high) * 65536 + u32::from(low))
+    u32::try_from(quad(*a, *b, *c, *d) * 65536 + quad(*e, *f, *g, *h)).ok()
 }

@@ -121,6 +121,100 @@ fn a_line_is_read_field_by_field(rt: HostRuntime) {
 }
 
 #[test]
+fn a_decimal_ends_where_its_field_does(rt: HostRuntime) {
+    let mut fields = Fields::new(b"127 0  18446744073709551615 1", b' ');
+    assert_eq!(rt; fields.decimal(127), Some(127));
+    assert_eq!(rt; fields.decimal(127), Some(0));
+    assert_eq!(rt; fields.next_field(), Some(b"".as_slice()));
+    assert_eq!(rt; fields.decimal(u64::MAX), Some(18446744073709551615));
+    assert_eq!(rt; fields.decimal(1), Some(1));
+    assert_eq!(rt; fields.is_done(), true);
+    assert_eq!(rt; fields.decimal(1), None);
+    for line in [
+        b"".as_slice(),
+        b" 1".as_slice(),
+        b"12x 5".as_slice(),
+        b"12.5".as_slice(),
+        b"07 5".as_slice(),
+        b"1270 5".as_slice(),
+        b"128 5".as_slice(),
+        b"18446744073709551616 5".as_slice(),
+    ] {
+        assert_eq!(rt; Fields::new(line, b' ').decimal(127), None);
+    }
+}
+
+#[test]
+fn digits_end_where_their_field_does(rt: HostRuntime) {
+    let mut fields = Fields::new(b"0D 12AF 0006019A ", b' ');
+    assert_eq!(rt; fields.hex2(), Some(0x0D));
+    assert_eq!(rt; fields.hex4(), Some(0x12AF));
+    assert_eq!(rt; fields.hex8(), Some(0x0006019A));
+    assert_eq!(rt; fields.is_done(), false);
+    assert_eq!(rt; fields.hex2(), None);
+    for line in [
+        b"".as_slice(),
+        b" 0006019A".as_slice(),
+        b"0006019 A".as_slice(),
+        b"0006019".as_slice(),
+        b"0006019AB".as_slice(),
+        b"0006019A.".as_slice(),
+        b"0006019a 1".as_slice(),
+    ] {
+        assert_eq!(rt; Fields::new(line, b' ').hex8(), None);
+    }
+    assert_eq!(rt; Fields::new(b"12A", b' ').hex2(), None);
+    assert_eq!(rt; Fields::new(b"12AF0", b' ').hex4(), None);
+}
+
+#[test]
+fn where_no_value_stands_nothing_is_read(rt: HostRuntime) {
+    let mut fields = Fields::new(b"- 0006019A", b' ');
+    assert_eq!(rt; fields.hex8_or_stay(), None);
+    assert_eq!(rt; fields.next_field(), Some(b"-".as_slice()));
+    assert_eq!(rt; fields.hex8_or_stay(), Some(0x0006019A));
+    assert_eq!(rt; fields.hex8_or_stay(), None);
+    assert_eq!(rt; fields.is_done(), true);
+}
+
+#[test]
+fn a_separator_may_be_a_digit(rt: HostRuntime) {
+    let mut fields = Fields::new(b"12A34A5", b'A');
+    assert_eq!(rt; fields.hex2(), Some(0x12));
+    assert_eq!(rt; fields.hex2(), Some(0x34));
+    assert_eq!(rt; fields.hex2(), None);
+    assert_eq!(rt; Fields::new(b"1A345678", b'A').hex8(), None);
+    let mut fields = Fields::new(b"105", b'0');
+    assert_eq!(rt; fields.decimal(127), Some(1));
+    assert_eq!(rt; fields.decimal(127), Some(5));
+}
+
+#[test]
+fn a_keyword_is_a_whole_field(rt: HostRuntime) {
+    assert_eq!(rt; Fields::new(b"size", b' ').keyword(b"size"), Some(()));
+    assert_eq!(rt; Fields::new(b"size 1", b' ').keyword(b"size"), Some(()));
+    assert_eq!(rt; Fields::new(b" 1", b' ').keyword(b""), Some(()));
+    assert_eq!(rt; Fields::new(b"sizes", b' ').keyword(b"size"), None);
+    assert_eq!(rt; Fields::new(b"siz", b' ').keyword(b"size"), None);
+    assert_eq!(rt; Fields::new(b"size", b' ').keyword(b""), None);
+    assert_eq!(rt; Fields::new(b"a b", b' ').keyword(b"a b"), None);
+    assert_eq!(rt; Fields::new(b"a b", b'b').keyword(b"a "), Some(()));
+}
+
+#[test]
+fn fields_may_be_longer_than_sixteen_bytes(rt: HostRuntime) {
+    let mut fields = Fields::new(
+        b"0123456789abcde 0123456789abcdef 0123456789abcdefg h",
+        b' ',
+    );
+    assert_eq!(rt; fields.next_field(), Some(b"0123456789abcde".as_slice()));
+    assert_eq!(rt; fields.next_field(), Some(b"0123456789abcdef".as_slice()));
+    assert_eq!(rt; fields.next_field(), Some(b"0123456789abcdefg".as_slice()));
+    assert_eq!(rt; fields.next_field(), Some(b"h".as_slice()));
+    assert_eq!(rt; fields.next_field(), None);
+}
+
+#[test]
 fn asking_for_the_end_reads_nothing(rt: HostRuntime) {
     let mut fields = Fields::new(b"a b", b' ');
     assert_eq!(rt; fields.is_done(), false);

@@ -1,0 +1,120 @@
+-- What the first field of some bytes is, by what reads it where it stands.
+use Rattle.std.proofs.Common.{◌≡◌, ℕ, ◌+◌, ◌^◌, ◌<◌, ◌≤◌, true, false, eqb, List, [], ◌∷◌, ◌++◌, length, get_or, take, Option, Some, None, refl, sym, ap, subst, ◌∙◌, arith, eq-eqb, ne_eqb, get_or-take, length-take-le}
+use Rattle.std.specs.Prelude.{◌≢◌}
+use Rattle.std.specs.Int.{IsInRange}
+use Rattle.std.specs.Str.Parse.{AllDigits}
+use Rattle.std.proofs.Math.Seq.{drop-append_seam}
+use Rattle.std.proofs.lemmas.List.{take_more}
+use Rattle.std.proofs.lemmas.List.Elements.{All-nil, All-cons, All-append}
+use Rattle.std.proofs.lemmas.Fmt.{decimal_is_IsNumeral}
+use Rattle.std.proofs.lemmas.Str.Parse.{digit_at}
+use Rattle.cm_text.specs.Exact.{IsExact}
+use Rattle.cm_text.specs.Plain.{is_plain}
+use Rattle.cm_text.specs.Words.{Words, split}
+use Rattle.cm_text.specs.Decimal.{dec_of}
+use Rattle.cm_text.specs.Hex.{two_of, four_of, eight_of}
+use Rattle.cm_text.specs.Reading.{with_rest, field_at, word_is}
+use Rattle.cm_text.specs.Ends.{behind, Lacks, IsOfOtherWidth, IsFirst}
+use Rattle.cm_text.proofs.Fronts.{word_takes, keyword_again}
+use Rattle.cm_text.proofs.Decimals.{dec_of_takes}
+use Rattle.cm_text.proofs.Plain.{digits_plain}
+use Rattle.cm_text.proofs.Digits.{hex_two_exact, hex_two_plain, hex_two_length, hex_four_exact, hex_four_plain, hex_four_length, hex_eight_exact, hex_eight_plain, hex_eight_length}
+use Rattle.cm_text.proofs.Ends.{first_part, ended_part, ended_byte, unread, OfWidth, read_first, read_none, too_short, goes_on}
+
+-- ---- spellings that have all the same number of bytes
+
+module _ {A : Type 0} {spell : A → List ℕ} {read : List ℕ → Option A} {Fits : A → Type 0} (exact : IsExact spell read Fits)
+    (width : ℕ) (long : (x : A) → length (spell x) ≡ width) (plain : (x : A) → is_plain (spell x) ≡ true) where
+  exact_first : (word : List ℕ) (rest ws : Words) → IsFirst width word rest ws → field_at read ws ≡ with_rest (read word) rest
+  exact_first word rest ws first =
+      read_first read width word rest ws first (λ w more x is e. ap length (exact.takes w x e).0 ∙ long x) (λ x e. rw (exact.takes word x e).0 (plain x))
+
+  exact_none : (ws : Words) → IsOfOtherWidth width ws → field_at read ws ≡ None
+  exact_none ws other = read_none read width ws other (λ w more x is e. ap length (exact.takes w x e).0 ∙ long x)
+
+pub two_first : (word : List ℕ) (rest ws : Words) → IsFirst 2 word rest ws → field_at two_of ws ≡ with_rest (two_of word) rest
+two_first = exact_first hex_two_exact 2 hex_two_length hex_two_plain
+
+pub two_none : (ws : Words) → IsOfOtherWidth 2 ws → field_at two_of ws ≡ None
+two_none = exact_none hex_two_exact 2 hex_two_length hex_two_plain
+
+pub four_first : (word : List ℕ) (rest ws : Words) → IsFirst 4 word rest ws → field_at four_of ws ≡ with_rest (four_of word) rest
+four_first = exact_first hex_four_exact 4 hex_four_length hex_four_plain
+
+pub four_none : (ws : Words) → IsOfOtherWidth 4 ws → field_at four_of ws ≡ None
+four_none = exact_none hex_four_exact 4 hex_four_length hex_four_plain
+
+pub eight_first : (word : List ℕ) (rest ws : Words) → IsFirst 8 word rest ws → field_at eight_of ws ≡ with_rest (eight_of word) rest
+eight_first = exact_first hex_eight_exact 8 hex_eight_length hex_eight_plain
+
+pub eight_none : (ws : Words) → IsOfOtherWidth 8 ws → field_at eight_of ws ≡ None
+eight_none = exact_none hex_eight_exact 8 hex_eight_length hex_eight_plain
+
+-- ---- a text
+
+module _ (c : ℕ) (text bytes : List ℕ) where
+  no_text : ((more : Words) → split c bytes ≡ text ∷ more → ⊥) → field_at (word_is text) (split c bytes) ≡ None
+  no_text never = unread (word_is text) (split c bytes) (λ w more x is e. never more (is ∙ ap (λ (l : List ℕ). l ∷ more) (word_takes text w x e).0))
+
+  pub text_too_long : length bytes < length text → field_at (word_is text) (split c bytes) ≡ None
+  text_too_long short = no_text (λ more e. too_short c (length text) bytes short text more e refl)
+
+  pub text_differs : (at : ℕ) → at < length text → get_or bytes at 0 ≢ get_or text at 0 → field_at (word_is text) (split c bytes) ≡ None
+  text_differs at inside other = no_text (λ more e.
+      let p = first_part c bytes text more e in
+      other (sym (get_or-take (length text) bytes at 0 inside) ∙ ap (λ (l : List ℕ). get_or l at 0) p.front))
+
+  pub text_is_cut : (at : ℕ) → at < length text → get_or text at 0 ≡ c → field_at (word_is text) (split c bytes) ≡ None
+  text_is_cut at inside is = no_text (λ more e. let p = first_part c bytes text more e in absurd (cc (p.lacks at 0 inside, eq-eqb (get_or text at 0) c is)))
+
+-- one byte more is the same, and is no separator
+
+pub begins_more : (text bytes : List ℕ) (at : ℕ) → take at bytes ≡ take at text → at < length bytes → at < length text → get_or bytes at 0 ≡ get_or text at 0 → take (at + 1) bytes ≡ take (at + 1) text
+begins_more text bytes at so_far p q same = let e = take_more bytes at 0 p in let f = take_more text at 0 q in cc
+
+pub lacks_more : (c : ℕ) (text : List ℕ) (at : ℕ) → Lacks c (take at text) → at < length text → get_or text at 0 ≢ c → Lacks c (take (at + 1) text)
+lacks_more c text at so_far inside other =
+    let P : ℕ → Type 0 = λ b. eqb b c ≡ false in
+    subst (Lacks c) (sym (take_more text at 0 inside)) (All-append P (take at text) (get_or text at 0 ∷ []) so_far (All-cons P (get_or text at 0) [] (ne_eqb (get_or text at 0) c other) (All-nil P)))
+
+-- what stands behind the text
+
+pub text_goes_on : (c : ℕ) (text tail : List ℕ) → behind c tail ≡ None → field_at (word_is text) (split c (text ++ tail)) ≡ None
+text_goes_on c text tail more_bytes = no_text c text (text ++ tail) (λ more e. goes_on c (length text) (text ++ tail) (rw drop-append_seam more_bytes) text more e refl)
+
+pub text_ends : (c : ℕ) (text tail : List ℕ) (ws : Words) → Lacks c text → behind c tail ≡ Some ws → field_at (word_is text) (split c (text ++ tail)) ≡ Some (tt, ws)
+text_ends c text tail ws lacks ended = ap (field_at (word_is text)) (ended_part c text tail ws lacks ended) ∙ keyword_again text ws
+
+-- ---- a decimal number: its field ends where its digits do
+
+module _ (bytes : List ℕ) (count : ℕ) (inside : count ≤ length bytes) (digits : AllDigits 10 (take count bytes))
+    (all : count < length bytes → ¬ (IsInRange 48 57 (get_or bytes count 0))) (w : List ℕ) (more : Words) (is : split 32 bytes ≡ w ∷ more) (numeral : AllDigits 10 w) where
+  not_less : length w < count → ⊥
+  not_less less =
+      let p = first_part 32 bytes w more is in
+      let digit = digit_at (take count bytes) (length w) digits (omega (arith, length-take-le count bytes)) in
+      let same = get_or-take count bytes (length w) 0 less in
+      omega (arith, digit, same, ended_byte 32 (length w) bytes more (omega arith) p.ended)
+
+  not_more : count < length w → ⊥
+  not_more more_digits =
+      let p = first_part 32 bytes w more is in
+      let digit = digit_at w count numeral more_digits in
+      let same : get_or w count 0 ≡ get_or bytes count 0 = ap (λ (l : List ℕ). get_or l count 0) (sym p.front) ∙ get_or-take (length w) bytes count 0 more_digits in
+      all (omega (arith, p.short)) (subst (IsInRange 48 57) same digit)
+
+  digits_end : length w ≡ count
+  digits_end = omega (arith, not_less, not_more)
+
+module _ (bytes : List ℕ) (count : ℕ) (inside : count ≤ length bytes) (digits : AllDigits 10 (take count bytes))
+    (all : count < length bytes → ¬ (IsInRange 48 57 (get_or bytes count 0))) (most : ℕ) (wide : most < 2 ^ 64) where
+  dec_width : OfWidth (dec_of most) count (split 32 bytes)
+  dec_width w more n is e =
+      let t = dec_of_takes most w n e in
+      digits_end bytes count inside digits all w more is (subst (AllDigits 10) (sym t.0) (decimal_is_IsNumeral n (omega (arith, t.1))).0.1)
+
+  pub dec_first : (rest : Words) → IsFirst count (take count bytes) rest (split 32 bytes) → field_at (dec_of most) (split 32 bytes) ≡ with_rest (dec_of most (take count bytes)) rest
+  dec_first rest first = read_first (dec_of most) count (take count bytes) rest (split 32 bytes) first dec_width (λ n e. digits_plain (take count bytes) digits)
+
+  pub dec_none : IsOfOtherWidth count (split 32 bytes) → field_at (dec_of most) (split 32 bytes) ≡ None
+  dec_none other = read_none (dec_of most) count (split 32 bytes) other dec_width
