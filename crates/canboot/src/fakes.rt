@@ -1,6 +1,12 @@
-//! Readers and writers that fail, for tests.
+//! Readers and writers that fail, and what both subcommands do with them, for tests.
 
+use std::alloc::Global;
 use std::io::{self, ErrorKind, Read, Write};
+use std::process::Abort;
+
+const READ_FAILED: &[u8] = b"canboot: read failed\n";
+
+const WRITE_FAILED: &[u8] = b"canboot: write failed\n";
 
 /// The first bytes, up to a length.
 pub fn front(bytes: &[u8], length: usize) -> &[u8] {
@@ -77,4 +83,130 @@ impl Write for Failing {
             Err(io::Error::from(ErrorKind::Other))
         }
     }
+}
+
+/// Reads a text, writes its report or a line of fault, and gives the exit status.
+pub trait Subcommand {
+    fn run<R: Read, W: Write, E: Write>(
+        &self,
+        alloc: Global,
+        reader: &mut R,
+        out: &mut W,
+        err: &mut E,
+    ) -> u8;
+}
+
+/// Asserts the status, the output and the line of fault for what the reader gives.
+pub fn gives<R: Read>(
+    command: &impl Subcommand,
+    rt: &impl Abort,
+    alloc: Global,
+    reader: &mut R,
+    status: u8,
+    out: &[u8],
+    err: &[u8],
+) {
+    let mut written: Vec<u8> = Vec::new(alloc);
+    let mut faults: Vec<u8> = Vec::new(alloc);
+    let got = command.run(alloc, reader, &mut written, &mut faults);
+    assert_eq!(rt; faults.as_slice(), err);
+    assert_eq!(rt; written.as_slice(), out);
+    assert_eq!(rt; got, status);
+}
+
+/// Asserts that a reader that fails, after however many of the bytes, is a failed read, and that one
+/// that gives them one by one isn't.
+pub fn fails_to_read(
+    command: &impl Subcommand,
+    rt: &impl Abort,
+    alloc: Global,
+    bytes: &[u8],
+    report: &[u8],
+) {
+    for kind in [ErrorKind::Other, ErrorKind::Interrupted] {
+        for length in 0..bytes.len() + 1 {
+            let mut reader = Slow {
+                bytes: front(bytes, length),
+                failure: Some(kind),
+            };
+            gives(command, rt, alloc, &mut reader, 3, b"", READ_FAILED);
+        }
+    }
+    let mut reader = Slow {
+        bytes,
+        failure: None,
+    };
+    gives(command, rt, alloc, &mut reader, 0, report, b"");
+}
+
+/// Asserts that `#`, so often, is refused with this line, and that one more is a failed read.
+pub fn refuses_at_most(
+    command: &impl Subcommand,
+    rt: &impl Abort,
+    alloc: Global,
+    longest: u64,
+    fault: &[u8],
+) {
+    for (length, status, line) in [
+        (longest, 1, fault),
+        (longest.saturating_add(1), 3, READ_FAILED),
+        (u64::MAX, 3, READ_FAILED),
+    ] {
+        let mut reader = Many { left: length };
+        gives(command, rt, alloc, &mut reader, status, b"", line);
+    }
+}
+
+/// Asserts that each write that fails is a failed write, and the flush too. The report of the bytes
+/// takes this many writes at least, and fewer than `limit`.
+pub fn fails_to_write(
+    command: &impl Subcommand,
+    rt: &impl Abort,
+    alloc: Global,
+    bytes: &[u8],
+    least: usize,
+    limit: usize,
+) {
+    let mut failures = 0;
+    for writes in 0..limit {
+        let mut input = bytes;
+        let mut out = Failing {
+            writes,
+            flushes: true,
+        };
+        let mut err: Vec<u8> = Vec::new(alloc);
+        let status = command.run(alloc, &mut input, &mut out, &mut err);
+        if status == 0 {
+            assert_eq!(rt; err.len(), 0);
+        } else {
+            assert_eq!(rt; status, 3);
+            assert_eq!(rt; err.as_slice(), WRITE_FAILED);
+            assert_eq!(rt; failures, writes, "a write failed after one that didn't");
+            failures = writes.saturating_add(1);
+        }
+    }
+    assert!(rt;
+        least <= failures && failures < limit,
+        "{failures} writes failed"
+    );
+    let mut input = bytes;
+    let mut out = Failing {
+        writes: 1000,
+        flushes: false,
+    };
+    let mut err: Vec<u8> = Vec::new(alloc);
+    assert_eq!(rt; command.run(alloc, &mut input, &mut out, &mut err), 3);
+    assert_eq!(rt; err.as_slice(), WRITE_FAILED);
+}
+
+/// Asserts that the bytes are refused with status 1 where the line of fault can't be written.
+pub fn refuses_in_silence(command: &impl Subcommand, rt: &impl Abort, alloc: Global, bytes: &[u8]) {
+    let mut input = bytes;
+    let mut out: Vec<u8> = Vec::new(alloc);
+    let mut err = Failing {
+        writes: 0,
+        flushes: true,
+    };
+    assert_eq!(rt; command.run(alloc, &mut input, &mut out, &mut err), 1);
+    assert_eq!(rt; out.len(), 0);
 }
