@@ -1,10 +1,6 @@
-use crate::check::check_text;
-use crate::fakes::{
-    Subcommand, fails_to_read, fails_to_write, gives, refuses_at_most, refuses_in_silence,
-};
+use crate::fakes::Subcommand;
 use crate::input::LONGEST_LIST;
 use std::alloc::Global;
-use std::io::{Read, Write};
 use std::process::Abort;
 use std::test::Fail;
 
@@ -13,33 +9,9 @@ const ONE_SLAVE: &[u8] =
 
 const ONE_SLAVE_LINE: &str = "ok slaves 1 mandatory 1 kept 0\n";
 
-/// `canboot check`.
-struct Check;
-
-impl Subcommand for Check {
-    fn run<R: Read, W: Write, E: Write>(
-        &self,
-        alloc: Global,
-        reader: &mut R,
-        out: &mut W,
-        err: &mut E,
-    ) -> u8 {
-        check_text(alloc, reader, out, err)
-    }
-}
-
 /// Checks the bytes, and asserts the status, the output and the line of fault.
 fn expect(rt: &impl Abort, alloc: Global, bytes: &[u8], status: u8, out: &str, err: &str) {
-    let mut input = bytes;
-    gives(
-        &Check,
-        rt,
-        alloc,
-        &mut input,
-        status,
-        out.as_bytes(),
-        err.as_bytes(),
-    );
+    Subcommand::Check.expect(rt, alloc, bytes, status, out, err);
 }
 
 #[test]
@@ -173,13 +145,7 @@ fn bytes_that_are_no_text_are_not_toml(rt: HostRuntime) -> Result<(), Fail> {
 
 #[test]
 fn a_failing_reader_is_a_failed_read(rt: HostRuntime) -> Result<(), Fail> {
-    fails_to_read(
-        &Check,
-        &rt,
-        rt.alloc(),
-        ONE_SLAVE,
-        ONE_SLAVE_LINE.as_bytes(),
-    );
+    Subcommand::Check.fails_to_read(&rt, rt.alloc(), ONE_SLAVE, ONE_SLAVE_LINE.as_bytes());
     Ok(())
 }
 
@@ -187,19 +153,19 @@ fn a_failing_reader_is_a_failed_read(rt: HostRuntime) -> Result<(), Fail> {
 #[test]
 fn too_long_an_input_is_a_failed_read(rt: HostRuntime) -> Result<(), Fail> {
     let fault = b"canboot: network: missing key\n";
-    refuses_at_most(&Check, &rt, rt.alloc(), LONGEST_LIST as u64, fault);
+    Subcommand::Check.refuses_at_most(&rt, rt.alloc(), LONGEST_LIST as u64, fault);
     Ok(())
 }
 
 #[test]
 fn a_failing_output_is_a_failed_write(rt: HostRuntime) -> Result<(), Fail> {
-    fails_to_write(&Check, &rt, rt.alloc(), ONE_SLAVE, 1, 50);
+    Subcommand::Check.fails_to_write(&rt, rt.alloc(), ONE_SLAVE, 1, 50);
     Ok(())
 }
 
 /// Errors that can't be written are lost, and the status says so all the same.
 #[test]
 fn a_failing_error_output_keeps_the_status(rt: HostRuntime) -> Result<(), Fail> {
-    refuses_in_silence(&Check, &rt, rt.alloc(), b"own = 1\n");
+    Subcommand::Check.refuses_in_silence(&rt, rt.alloc(), b"own = 1\n");
     Ok(())
 }
