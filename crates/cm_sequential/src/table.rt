@@ -89,9 +89,7 @@ pub fn clear_all(slaves: &mut Table)
 pub fn blank_all(slaves: &mut Table)
     ensures { (i : ℕ) → i < 128 → kept_at slaves.new i ≡ blank_slave }
 {
-    for slave in slaves.iter_mut() {
-        *slave = BLANK;
-    }
+    *slaves = [BLANK; 128];
 }
 
 /// Sets what is kept of a node.
