@@ -48,6 +48,23 @@ count_all p node count end is =
     let e : node - 1 ≡ 127 = omega arith in
     is ∙ ap (λ n. length (filter p (range_with_len 1 n))) e ∙ ap (λ xs. length (filter p xs)) (sym unfold_ids)
 
+-- more nodes have no fewer that pass
+count_grows : (p : ℕ → Bool) (n more : ℕ) → length (filter p (range_with_len 1 n)) ≤ length (filter p (range_with_len 1 (n + more)))
+count_grows p n zero = omega (arith, ap (λ (k : ℕ). length (filter p (range_with_len 1 k))) (add-zero n))
+count_grows p n (suc more) =
+    let e : n + suc more ≡ suc (n + more) = omega arith in
+    omega (arith, ap (λ (k : ℕ). length (filter p (range_with_len 1 k))) e, count_after p 1 (n + more), count_grows p n more)
+
+-- one that passes is counted
+pub count_one : (p : ℕ → Bool) (node : ℕ) → 1 ≤ node → node < 128 → p node ≡ true → 1 ≤ length (filter p node_ids)
+count_one p node low high passes =
+    let before : ℕ = length (filter p (range_with_len 1 (node - 1))) in
+    let counted : length (filter p (range_with_len 1 ((node + 1) - 1))) ≡ before + 1 =
+    count_more p node before low refl ∙ ap (λ (b : Bool). before + cond b 1 0) passes in
+    let place : ((node + 1) - 1) + (127 - node) ≡ 127 = omega (arith, low, high) in
+    let grown = count_grows p ((node + 1) - 1) (127 - node) in
+    omega (arith, counted, grown, ap (λ (k : ℕ). length (filter p (range_with_len 1 k))) place, ap (λ (xs : List ℕ). length (filter p xs)) unfold_ids)
+
 agree_from : (p q : ℕ → Bool) → ((x : ℕ) → x < 128 → p x ≡ q x) → (a n : ℕ) → a + n ≤ 128 → filter p (range_with_len a n) ≡ filter q (range_with_len a n)
 agree_from p q h a zero low = refl
 agree_from p q h a (suc n) low =

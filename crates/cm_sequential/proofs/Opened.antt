@@ -1,5 +1,5 @@
 -- The open slaves, and what changes them.
-use Rattle.std.proofs.Common.{◌≡◌, ℕ, List, [], ◌∷◌, refl, ap, sym, ◌∙◌, cond, Bool, true, false, not, ◌&&◌, ◌||◌, inl, inr}
+use Rattle.std.proofs.Common.{◌≡◌, ◌≤◌, ℕ, length, arith, List, [], ◌∷◌, refl, ap, sym, ◌∙◌, cond, Bool, true, false, not, ◌&&◌, ◌||◌, inl, inr}
 use Rattle.std.specs.Prelude.{filter, ◌==◌}
 use Rattle.std.proofs.lemmas.List.Elements.{filter_agree}
 use Rattle.std.proofs.lemmas.Bool.{cases_Bool, eqb-true}
@@ -7,9 +7,17 @@ use Rattle.cm_netlist.specs.Network.{node_ids}
 use Rattle.cm_answers.specs.declared.status.Status.{Status}
 use Rattle.cm_history.specs.declared.slave.Slave.{Slave}
 use Rattle.cm_history.specs.Listing.{Listing, is_mandatory}
-use Rattle.cm_history.specs.History.{is_good}
+use Rattle.cm_history.specs.History.{is_good, is_empty}
 use Rattle.cm_history.specs.Answering.{open_less}
 use Rattle.cm_sequential.specs.Kept.{kept_at, with_slave, is_open_in, open_in, reported_slave}
+
+pub none_counted : (xs : List ℕ) → 0 ≡ length xs → true ≡ is_empty xs
+none_counted [] e = refl
+none_counted (x ∷ xs) e = absurd (omega (arith, e))
+
+pub one_counted : (xs : List ℕ) → 1 ≤ length xs → false ≡ is_empty xs
+one_counted [] e = absurd (omega (arith, e))
+one_counted (x ∷ xs) e = refl
 
 -- a filter of a filter
 pub filter_twice : (p q r : ℕ → Bool) → ((x : ℕ) → r x ≡ (p x && q x)) → (xs : List ℕ) → filter q (filter p xs) ≡ filter r xs

@@ -100,10 +100,16 @@ impl Manager {
         count
     }
 
+    /// Whether every mandatory slave is booted; the first that isn't ends the search.
     fn none_open(&self) -> bool
         ensures { result ≡ is_empty (open_in (listing_in self.now) self.now.slaves) }
     {
-        self.count_open() == 0
+        for number in 1..128u8 {
+            if self.is_open(number) {
+                return false;
+            }
+        }
+        true
     }
 
     // ---- refusals: one table by call, in the order tested
