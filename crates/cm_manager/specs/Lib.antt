@@ -7,8 +7,8 @@ pub use Rattle.cm_history.specs.Legal
 pub use Rattle.cm_history.specs.Frames
 pub use Rattle.cm_sequential.specs.Standing
 pub use Rattle.cm_replay.specs.Laws
-pub use Rattle.cm_journal.specs.Text
+pub use Rattle.cm_writer.specs.Text
 pub use Rattle.cm_journal.specs.Fits
 pub use Rattle.cm_journal.specs.Journals
 pub use Rattle.cm_journal.specs.Inputs
-pub use Rattle.cm_journal.specs.Report
+pub use Rattle.cm_writer.specs.Report
