@@ -7,3 +7,4 @@ pub mod Lines
 pub mod Writes
 pub mod Ends
 pub mod Heads
+pub mod Same

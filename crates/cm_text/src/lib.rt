@@ -6,7 +6,8 @@
 //! the spelling of none are refused.
 //!
 //! Nothing here takes memory. `read_decimal`, `read_hex2`, `read_hex4` and `read_hex8` read one
-//! whole field; `Fields` goes over the fields of a line, or the lines of a text, and reads them.
+//! whole field, and `is_word` compares one with a text; `Fields` goes over the fields of a line, or
+//! the lines of a text, and reads them.
 #![tactic(auto)]
 
 mod decimal;
@@ -14,7 +15,9 @@ mod fields;
 mod hex;
 #[cfg(test)]
 mod tests;
+mod words;
 
 pub use decimal::read_decimal;
 pub use fields::Fields;
 pub use hex::{hex2, hex4, hex8, read_hex2, read_hex4, read_hex8};
+pub use words::is_word;

@@ -1,4 +1,4 @@
-use crate::{Fields, hex2, hex4, hex8, read_decimal, read_hex2, read_hex4, read_hex8};
+use crate::{Fields, hex2, hex4, hex8, is_word, read_decimal, read_hex2, read_hex4, read_hex8};
 
 #[test]
 fn decimals_have_no_leading_zero(rt: HostRuntime) {
@@ -199,6 +199,19 @@ fn a_keyword_is_a_whole_field(rt: HostRuntime) {
     assert_eq!(rt; Fields::new(b"size", b' ').keyword(b""), None);
     assert_eq!(rt; Fields::new(b"a b", b' ').keyword(b"a b"), None);
     assert_eq!(rt; Fields::new(b"a b", b'b').keyword(b"a "), Some(()));
+}
+
+#[test]
+fn a_word_is_compared_whole(rt: HostRuntime) {
+    assert_eq!(rt; is_word(b"", b""), true);
+    assert_eq!(rt; is_word(b"operational", b"operational"), true);
+    assert_eq!(rt; is_word(b"operational", b"preoperational"), false);
+    assert_eq!(rt; is_word(b"operational", b"operationax"), false);
+    assert_eq!(rt; is_word(b"operational", b"xperational"), false);
+    assert_eq!(rt; is_word(b"entry", b"entr"), false);
+    assert_eq!(rt; is_word(b"entr", b"entry"), false);
+    assert_eq!(rt; is_word(b"entry", b"Entry"), false);
+    assert_eq!(rt; is_word(b"", b"-"), false);
 }
 
 #[test]
