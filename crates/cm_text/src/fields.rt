@@ -7,7 +7,7 @@ ghost use Rattle.cm_text.specs.Reading.{with_rest, field_at, word_is, is_empty};
 ghost use Rattle.cm_text.specs.Left.{parts};
 ghost use Rattle.cm_text.specs.Ends.{behind, Lacks, IsOfOtherWidth, IsFirst};
 
-use crate::decimal::{ENOUGH, leading_digits, read_decimal, spelled};
+use crate::decimal::{near_decimal, read_decimal};
 use crate::hex::{read_hex2, read_hex4, read_hex8};
 use memchr::memchr;
 use std::simd::prelude::*;
@@ -77,8 +77,7 @@ fn behind(bytes: &[u8], separator: u8) -> Option<Option<&[u8]>>
 fn first(bytes: &[u8], width: usize) -> Option<(&[u8], Option<&[u8]>)>
     ensures { MatchOption result
         (IsOfOtherWidth width (split 32 bytes.now))
-        (λ r. (r.0.now ≡ take width bytes.now)
-        × IsFirst width r.0.now (parts 32 r.1) (split 32 bytes.now)) }
+        (λ r. IsFirst width r.0.now (parts 32 r.1) (split 32 bytes.now)) }
 {
     if bytes.len() < width {
         return None;
@@ -154,23 +153,7 @@ impl<'a> Fields<'a> {
         Some(word)
     }
 
-    // The next field, if it has so many bytes and they are plain, and what is left behind it; what
-    // else is no such field.
-    #[inline(always)]
-    fn front(&self, width: usize) -> Option<(&'a [u8], Option<&'a [u8]>)>
-        ensures { MatchOption result
-            (IsOfOtherWidth width (left self.now))
-            (λ r. IsFirst width r.0.now (parts self.now.separator r.1) (left self.now)) }
-    {
-        let bytes = self.rest?;
-        if self.separator == b' ' {
-            first(bytes, width)
-        } else {
-            Some(Fields::cut(bytes, self.separator))
-        }
-    }
-
-    // As `decimal`, whatever the separator is and however many digits there are.
+    // As `decimal`, whatever the separator is, however many digits there are and wherever they end.
     #[inline(never)]
     #[tactic(auto, unfolding(crate::specs::Reading::field_at))]
     fn any_decimal(&mut self, most: u64) -> Option<u64>
@@ -182,40 +165,63 @@ impl<'a> Fields<'a> {
 
     /// The number, 0 to `most`, that the next field spells in decimal, as `read_decimal` reads it;
     /// `None` where it spells none, or no field is left.
-    #[tactic(auto, unfolding(crate::specs::Reading::field_at))]
+    #[inline(always)]
     pub fn decimal(&mut self, most: u64) -> Option<u64>
         ensures value { field_at (dec_of most) (left self.old) ≡ with_rest result (left self.new) }
         ensures small { IfSome result (λ n. n ≤ most) }
     {
-        if self.separator != b' ' {
-            return self.any_decimal(most);
+        if self.separator == b' '
+            && let Some(bytes) = self.rest
+            && let Some((n, rest)) = near_decimal(bytes, most)
+        {
+            self.rest = Some(rest);
+            return Some(n);
         }
-        let bytes = self.rest?;
-        let (n, count) = leading_digits(bytes);
-        if ENOUGH <= n {
-            return self.any_decimal(most);
-        }
-        let (digits, rest) = first(bytes, count)?;
-        self.rest = rest;
-        spelled(digits, n, most)
+        self.any_decimal(most)
+    }
+
+    // As `hex2`, whatever the separator is.
+    #[inline(never)]
+    #[tactic(auto, unfolding(crate::specs::Reading::field_at))]
+    fn any_hex2(&mut self) -> Option<u8>
+        ensures { field_at two_of (left self.old) ≡ with_rest result (left self.new) }
+    {
+        read_hex2(self.next_field()?)
     }
 
     /// The byte that the next field spells in two digits, as `read_hex2` reads it; `None` where it
     /// spells none, or no field is left.
+    #[tactic(auto, unfolding(crate::specs::Reading::field_at))]
     pub fn hex2(&mut self) -> Option<u8>
         ensures { field_at two_of (left self.old) ≡ with_rest result (left self.new) }
     {
-        let (word, rest) = self.front(2)?;
+        if self.separator != b' ' {
+            return self.any_hex2();
+        }
+        let (word, rest) = first(self.rest?, 2)?;
         self.rest = rest;
         read_hex2(word)
     }
 
+    // As `hex4`, whatever the separator is.
+    #[inline(never)]
+    #[tactic(auto, unfolding(crate::specs::Reading::field_at))]
+    fn any_hex4(&mut self) -> Option<u16>
+        ensures { field_at four_of (left self.old) ≡ with_rest result (left self.new) }
+    {
+        read_hex4(self.next_field()?)
+    }
+
     /// The number of 16 bits that the next field spells in four digits, as `read_hex4` reads it;
     /// `None` where it spells none, or no field is left.
+    #[tactic(auto, unfolding(crate::specs::Reading::field_at))]
     pub fn hex4(&mut self) -> Option<u16>
         ensures { field_at four_of (left self.old) ≡ with_rest result (left self.new) }
     {
-        let (word, rest) = self.front(4)?;
+        if self.separator != b' ' {
+            return self.any_hex4();
+        }
+        let (word, rest) = first(self.rest?, 4)?;
         self.rest = rest;
         read_hex4(word)
     }
@@ -228,12 +234,29 @@ impl<'a> Fields<'a> {
         self.hex8_or_stay()
     }
 
+    // As `hex8_or_stay`, whatever the separator is.
+    #[inline(never)]
+    #[tactic(auto, unfolding(crate::specs::Reading::field_at))]
+    fn any_hex8_or_stay(&mut self) -> Option<u32>
+        ensures value { field_at eight_of (left self.old) ≡ with_rest result (left self.new) }
+        ensures stays { IfNone result (left self.new ≡ left self.old) }
+    {
+        let (word, rest) = Fields::cut(self.rest?, self.separator);
+        let n = read_hex8(word)?;
+        self.rest = rest;
+        Some(n)
+    }
+
     /// As `hex8`; and where it gives `None`, nothing was read.
+    #[tactic(auto, unfolding(crate::specs::Reading::field_at))]
     pub fn hex8_or_stay(&mut self) -> Option<u32>
         ensures value { field_at eight_of (left self.old) ≡ with_rest result (left self.new) }
         ensures stays { IfNone result (left self.new ≡ left self.old) }
     {
-        let (word, rest) = self.front(8)?;
+        if self.separator != b' ' {
+            return self.any_hex8_or_stay();
+        }
+        let (word, rest) = first(self.rest?, 8)?;
         let n = read_hex8(word)?;
         self.rest = rest;
         Some(n)

@@ -5,14 +5,14 @@ use Rattle.cm_text.proofs.Heads.{eight_first, eight_none}
 use Rattle.cm_text.proofs.fields.Fields.hex8_or_stay.Goals as goal
 
 pub returns-in_err-word-clause-value : goal.returns-in_err-word-clause-value
-returns-in_err-word-clause-value c = rw c.from_residual.ensures (eight_none _ c.in_err-word.ensures)
+returns-in_err-word-clause-value c = rw (c.in_ok-self.was, c.if-self-ne32.false, c.from_residual-in_err-word.ensures) (eight_none _ c.in_err-word.ensures)
 
 pub returns-in_err-n-clause-value : goal.returns-in_err-n-clause-value
 returns-in_err-n-clause-value c =
-    let rest = parts c.args.self.now.separator c.in_ok-word.rest in
-    rw c.from_residual-in_err-n.ensures (eight_first _ _ _ c.in_ok-word.ensures ∙ ap (λ o. with_rest o rest) (sym c.in_err-n.ensures.value))
+    let rest = parts 32 c.in_ok-word.rest in
+    rw (c.in_ok-self.was, c.if-self-ne32.false, c.from_residual-in_err-n.ensures) (eight_first _ _ _ c.in_ok-word.ensures ∙ ap (λ o. with_rest o rest) (sym c.in_err-n.ensures.value))
 
 pub returns-clause-value : goal.returns-clause-value
 returns-clause-value c =
-    let rest = parts c.args.self.now.separator c.in_ok-word.rest in
-    eight_first _ _ _ c.in_ok-word.ensures ∙ ap (λ o. with_rest o rest) (sym c.in_ok-n.ensures.value)
+    let rest = parts 32 c.in_ok-word.rest in
+    rw (c.in_ok-self.was, c.if-self-ne32.false) (eight_first _ _ _ c.in_ok-word.ensures ∙ ap (λ o. with_rest o rest) (sym c.in_ok-n.ensures.value))
