@@ -1,1 +1,2 @@
+mod Agreeing
 mod Both

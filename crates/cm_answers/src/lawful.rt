@@ -1,13 +1,13 @@
-ghost use Rattle.std.specs.Prelude.{◌≡◌, ◌<◌, ◌&&◌};
-ghost use Rattle.cm_answers.specs.Lawful.{answers_are_due, asks_identity, comes_to_beat, condition, date_agrees, date_differs, device_agrees, has_all_answers, has_no_answer, identity_agrees, is_complete, is_dated, is_lawful, is_used, matches, may_configure, must_write, product_agrees, revision_agrees, vendor_agrees, writes_are_counted};
-ghost use Rattle.cm_answers.specs.Settled.{is_settled};
-ghost use Rattle.cm_answers.specs.Fields.{fields};
-ghost use Rattle.std.specs.List.{list_all};
+ghost use Rattle.std.specs.Prelude.{◌≡◌, ◌<◌};
+ghost use Rattle.cm_answers.specs.Lawful.{asks_identity, comes_to_beat, condition, date_agrees, date_differs, device_agrees, has_no_answer, identity_agrees, is_complete, is_dated, is_used, matches, may_configure, must_write, product_agrees, revision_agrees, vendor_agrees, writes_are_counted};
+ghost use Rattle.cm_answers.specs.Settled.{reaches};
 
 use crate::Answers;
 use crate::field::{Field, fields};
 use cm_netlist::Terms;
 
+/// Whether the identity at this place agrees with the expected value; 0 isn't compared.
+#[inline(always)]
 #[tactic(auto, unfolding(crate::specs::Lawful::matches))]
 fn matches(expected: u32, place: usize, answers: &Answers) -> bool
     requires { place < 4 }
@@ -16,6 +16,8 @@ fn matches(expected: u32, place: usize, answers: &Answers) -> bool
     expected == 0 || answers.id(place).is_value(expected)
 }
 
+/// Whether the device type was read and agrees; 0 isn't compared.
+#[inline(always)]
 #[tactic(auto, unfolding(crate::specs::Lawful::device_agrees))]
 fn device_agrees(terms: &Terms, answers: &Answers) -> bool
     ensures { result ≡ device_agrees terms.now answers.now }
@@ -24,50 +26,69 @@ fn device_agrees(terms: &Terms, answers: &Answers) -> bool
     device.has_value() && (terms.device_type == 0 || device.is_value(terms.device_type))
 }
 
+/// Whether the identity is asked for.
+#[inline(always)]
 #[tactic(auto, unfolding(crate::specs::Lawful::asks_identity))]
-fn asks_identity(terms: &Terms, answers: &Answers) -> bool
+pub(crate) fn asks_identity(terms: &Terms, answers: &Answers) -> bool
     ensures { result ≡ asks_identity terms.now answers.now }
 {
     terms.assignment.is_to_be_booted() && device_agrees(terms, answers)
 }
 
+/// Whether so far and the vendor-ID agree, where `asks` says whether the identity is asked for.
+#[inline(always)]
 #[tactic(auto, unfolding(crate::specs::Lawful::vendor_agrees))]
-fn vendor_agrees(terms: &Terms, answers: &Answers) -> bool
+pub(crate) fn vendor_agrees(terms: &Terms, answers: &Answers, asks: bool) -> bool
+    requires { asks ≡ asks_identity terms.now answers.now }
     ensures { result ≡ vendor_agrees terms.now answers.now }
 {
-    asks_identity(terms, answers) && matches(terms.vendor, 0, answers)
+    asks && matches(terms.vendor, 0, answers)
 }
 
+/// Whether so far and the product code agree, where `vendor` says it of the vendor-ID.
+#[inline(always)]
 #[tactic(auto, unfolding(crate::specs::Lawful::product_agrees))]
-fn product_agrees(terms: &Terms, answers: &Answers) -> bool
+pub(crate) fn product_agrees(terms: &Terms, answers: &Answers, vendor: bool) -> bool
+    requires { vendor ≡ vendor_agrees terms.now answers.now }
     ensures { result ≡ product_agrees terms.now answers.now }
 {
-    vendor_agrees(terms, answers) && matches(terms.product, 1, answers)
+    vendor && matches(terms.product, 1, answers)
 }
 
+/// Whether so far and the revision number agree, where `product` says it of the product code.
+#[inline(always)]
 #[tactic(auto, unfolding(crate::specs::Lawful::revision_agrees))]
-fn revision_agrees(terms: &Terms, answers: &Answers) -> bool
+pub(crate) fn revision_agrees(terms: &Terms, answers: &Answers, product: bool) -> bool
+    requires { product ≡ product_agrees terms.now answers.now }
     ensures { result ≡ revision_agrees terms.now answers.now }
 {
-    product_agrees(terms, answers) && matches(terms.revision, 2, answers)
+    product && matches(terms.revision, 2, answers)
 }
 
+/// Whether the whole identity agrees, where `revision` says it up to the revision number.
+#[inline(always)]
 #[tactic(auto, unfolding(crate::specs::Lawful::identity_agrees))]
-fn identity_agrees(terms: &Terms, answers: &Answers) -> bool
+pub(crate) fn identity_agrees(terms: &Terms, answers: &Answers, revision: bool) -> bool
+    requires { revision ≡ revision_agrees terms.now answers.now }
     ensures { result ≡ identity_agrees terms.now answers.now }
 {
-    revision_agrees(terms, answers) && matches(terms.serial, 3, answers)
+    revision && matches(terms.serial, 3, answers)
 }
 
+/// Whether the slave may be configured, where `identity` says whether its identity agrees.
+#[inline(always)]
 #[tactic(auto, unfolding(crate::specs::Lawful::may_configure))]
-fn may_configure(terms: &Terms, answers: &Answers) -> bool
+pub(crate) fn may_configure(terms: &Terms, answers: &Answers, identity: bool) -> bool
+    requires { identity ≡ identity_agrees terms.now answers.now }
     ensures { result ≡ may_configure terms.now answers.now }
 {
-    identity_agrees(terms, answers)
+    identity
         && !terms.assignment.verifies_software()
         && (!terms.assignment.is_kept_alive() || answers.heard.is_other_state())
 }
 
+/// Whether a configuration date and a time are expected.
+#[inline(always)]
 #[tactic(auto, unfolding(crate::specs::Lawful::is_dated))]
 fn is_dated(terms: &Terms) -> bool
     ensures { result ≡ is_dated terms.now }
@@ -75,6 +96,8 @@ fn is_dated(terms: &Terms) -> bool
     !(terms.date == 0) && !(terms.time == 0)
 }
 
+/// Whether no configuration is needed: date and time were read as expected.
+#[inline(always)]
 #[tactic(auto, unfolding(crate::specs::Lawful::date_agrees))]
 fn date_agrees(terms: &Terms, answers: &Answers) -> bool
     ensures { result ≡ date_agrees terms.now answers.now }
@@ -82,6 +105,8 @@ fn date_agrees(terms: &Terms, answers: &Answers) -> bool
     is_dated(terms) && answers.date.is_value(terms.date) && answers.time.is_value(terms.time)
 }
 
+/// Whether a configuration is needed.
+#[inline(always)]
 #[tactic(auto, unfolding(crate::specs::Lawful::date_differs))]
 fn date_differs(terms: &Terms, answers: &Answers) -> bool
     ensures { result ≡ date_differs terms.now answers.now }
@@ -91,50 +116,94 @@ fn date_differs(terms: &Terms, answers: &Answers) -> bool
         || (answers.time.is_answered() && !answers.time.is_value(terms.time))
 }
 
+/// Whether the slave is configured, where `configures` says whether it may be.
+#[inline(always)]
 #[tactic(auto, unfolding(crate::specs::Lawful::must_write))]
-fn must_write(terms: &Terms, answers: &Answers) -> bool
+pub(crate) fn must_write(terms: &Terms, answers: &Answers, configures: bool) -> bool
+    requires { configures ≡ may_configure terms.now answers.now }
     ensures { result ≡ must_write terms.now answers.now }
 {
-    may_configure(terms, answers) && date_differs(terms, answers)
+    configures && date_differs(terms, answers)
 }
 
+/// Whether nothing but the start of error control is left.
+#[inline(always)]
 #[tactic(auto, unfolding(crate::specs::Lawful::comes_to_beat))]
-fn comes_to_beat(terms: &Terms, answers: &Answers) -> bool
+pub(crate) fn comes_to_beat(
+    terms: &Terms,
+    answers: &Answers,
+    identity: bool,
+    configures: bool,
+    writes: bool,
+) -> bool
+    requires identity { identity ≡ identity_agrees terms.now answers.now }
+    requires configures { configures ≡ may_configure terms.now answers.now }
+    requires writes { writes ≡ must_write terms.now answers.now }
     ensures { result ≡ comes_to_beat terms.now answers.now }
 {
     !terms.assignment.is_to_be_booted()
-        || (identity_agrees(terms, answers) && answers.heard.is_operational())
-        || (may_configure(terms, answers) && date_agrees(terms, answers))
-        || (must_write(terms, answers)
-            && answers.acked == terms.writes
-            && !answers.refused.is_answered())
+        || (writes && answers.acked == terms.writes && !answers.refused.is_answered())
+        || (configures && date_agrees(terms, answers))
+        || (identity && answers.heard.is_operational())
 }
 
-/// Whether the field's question is asked of a slave of which this is listed, where what was asked
-/// before it got these answers (CiA 302-2, boot slave; the order and the conditions are own).
+/// Whether the boot comes to the field: all that its question comes after agrees.
+fn reaches(terms: &Terms, answers: &Answers, field: Field) -> bool
+    ensures { result ≡ reaches terms.now answers.now field }
+{
+    let asks = asks_identity(terms, answers);
+    let vendor = vendor_agrees(terms, answers, asks);
+    let product = product_agrees(terms, answers, vendor);
+    let revision = revision_agrees(terms, answers, product);
+    let identity = identity_agrees(terms, answers, revision);
+    let configures = may_configure(terms, answers, identity);
+    let writes = must_write(terms, answers, configures);
+    match field {
+        Field::Device => true,
+        Field::Vendor => asks,
+        Field::Product => vendor,
+        Field::Revision => product,
+        Field::Serial => revision,
+        Field::State => identity,
+        Field::Date | Field::Time => configures,
+        Field::Writes => writes,
+        Field::Beat => comes_to_beat(terms, answers, identity, configures, writes),
+    }
+}
+
+/// Whether the field's question is asked.
+#[inline(always)]
 #[tactic(auto, unfolding(crate::specs::Lawful::condition))]
-pub fn condition(terms: &Terms, answers: &Answers, field: Field) -> bool
+pub(crate) fn is_due(terms: &Terms, answers: &Answers, field: Field, is_reached: bool) -> bool
+    requires { is_reached ≡ reaches terms.now answers.now field }
     ensures { result ≡ condition terms.now answers.now field }
 {
     match field {
         Field::Device => terms.assignment.is_to_be_booted(),
-        Field::Vendor => asks_identity(terms, answers) && !(terms.vendor == 0),
-        Field::Product => vendor_agrees(terms, answers) && !(terms.product == 0),
-        Field::Revision => product_agrees(terms, answers) && !(terms.revision == 0),
-        Field::Serial => revision_agrees(terms, answers) && !(terms.serial == 0),
-        Field::State => identity_agrees(terms, answers) && terms.assignment.is_kept_alive(),
-        Field::Date => may_configure(terms, answers) && is_dated(terms),
-        Field::Time => {
-            may_configure(terms, answers) && is_dated(terms) && answers.date.is_value(terms.date)
-        }
-        Field::Writes => must_write(terms, answers),
-        Field::Beat => !(terms.heartbeat_ms == 0) && comes_to_beat(terms, answers),
+        Field::Vendor => is_reached && !(terms.vendor == 0),
+        Field::Product => is_reached && !(terms.product == 0),
+        Field::Revision => is_reached && !(terms.revision == 0),
+        Field::Serial => is_reached && !(terms.serial == 0),
+        Field::State => is_reached && terms.assignment.is_kept_alive(),
+        Field::Date => is_reached && is_dated(terms),
+        Field::Time => is_reached && is_dated(terms) && answers.date.is_value(terms.date),
+        Field::Writes => is_reached,
+        Field::Beat => !(terms.heartbeat_ms == 0) && is_reached,
     }
 }
 
+/// Whether the field's question is asked of a slave of which this is listed, where what was asked
+/// before it got these answers (CiA 302-2, boot slave; the order and the conditions are own).
+pub fn condition(terms: &Terms, answers: &Answers, field: Field) -> bool
+    ensures { result ≡ condition terms.now answers.now field }
+{
+    is_due(terms, answers, field, reaches(terms, answers, field))
+}
+
 /// Whether the field has an answer.
+#[inline(always)]
 #[tactic(auto, unfolding(crate::specs::Lawful::is_used))]
-fn is_used(answers: &Answers, field: Field) -> bool
+pub(crate) fn is_used(answers: &Answers, field: Field) -> bool
     ensures { result ≡ is_used answers.now field }
 {
     match field {
@@ -153,6 +222,7 @@ fn is_used(answers: &Answers, field: Field) -> bool
 
 /// Whether the field has all its answers: for the writes, each of `terms.writes` was acknowledged, or
 /// one failed; for another field, its question was asked (own).
+#[inline(always)]
 #[tactic(auto, unfolding(crate::specs::Lawful::is_complete))]
 pub fn is_complete(terms: &Terms, answers: &Answers, field: Field) -> bool
     ensures { result ≡ is_complete terms.now answers.now field }
@@ -163,8 +233,9 @@ pub fn is_complete(terms: &Terms, answers: &Answers, field: Field) -> bool
     }
 }
 
+/// Whether no more writes were acknowledged than are listed, and a failed one is one of them.
 #[tactic(auto, unfolding(crate::specs::Lawful::writes_are_counted))]
-fn writes_are_counted(terms: &Terms, answers: &Answers) -> bool
+pub(crate) fn writes_are_counted(terms: &Terms, answers: &Answers) -> bool
     ensures { result ≡ writes_are_counted terms.now answers.now }
 {
     answers.acked <= terms.writes
@@ -173,45 +244,8 @@ fn writes_are_counted(terms: &Terms, answers: &Answers) -> bool
 }
 
 /// Whether no field is answered.
-fn has_no_answer(answers: &Answers) -> bool
+pub(crate) fn has_no_answer(answers: &Answers) -> bool
     ensures { result ≡ has_no_answer answers.now }
 {
     fields().iter().all(|field| !is_used(answers, *field))
-}
-
-/// Whether the field has all its answers where its question is asked, and none where it isn't.
-fn is_settled(terms: &Terms, answers: &Answers, field: Field) -> bool
-    ensures { result ≡ is_settled terms.now answers.now field }
-{
-    if condition(terms, answers, field) {
-        is_complete(terms, answers, field)
-    } else {
-        !is_used(answers, field)
-    }
-}
-
-/// Whether each field is.
-fn all_settled(terms: &Terms, answers: &Answers) -> bool
-    ensures { result ≡ list_all (λ f. is_settled terms.now answers.now f) fields }
-{
-    fields()
-        .iter()
-        .all(|field| is_settled(terms, answers, *field))
-}
-
-/// Whether each answered field has its condition, and each field whose condition holds its answers.
-fn has_just_its_answers(terms: &Terms, answers: &Answers) -> bool
-    ensures { result ≡ (answers_are_due terms.now answers.now && has_all_answers terms.now answers.now) }
-{
-    all_settled(terms, answers)
-}
-
-/// Whether a boot can end with these answers.
-pub fn is_lawful(terms: Option<Terms>, answers: &Answers) -> bool
-    ensures { result ≡ is_lawful terms answers.now }
-{
-    match terms {
-        None => has_no_answer(answers),
-        Some(terms) => writes_are_counted(&terms, answers) && has_just_its_answers(&terms, answers),
-    }
 }

@@ -16,6 +16,7 @@ mod field;
 mod got;
 mod heard;
 mod lawful;
+mod settled;
 mod status;
 #[cfg(test)]
 mod tests;

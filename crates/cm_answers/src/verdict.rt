@@ -1,7 +1,14 @@
-ghost use Rattle.std.specs.Prelude.{◌≡◌, ◌<◌};
+ghost use Rattle.std.specs.Prelude.{◌≡◌, ◌<◌, ◌&&◌, ◌==◌, not, true, false, Some};
 ghost use Rattle.cm_answers.specs.Verdict.{is_wrong, judged, verdict};
+ghost use Rattle.cm_netlist.specs.Bits.{has_bit};
+ghost use Rattle.cm_answers.specs.Got.{has_value, is_value};
+ghost use Rattle.cm_answers.specs.Lawful.{identity_agrees};
+ghost use Rattle.cm_answers.specs.Settled.{is_settled};
+ghost use Rattle.cm_answers.specs.Fields.{fields};
+ghost use Rattle.std.specs.List.{list_all};
 
-use crate::lawful::is_lawful;
+use crate::lawful::has_no_answer;
+use crate::settled::lawful_identity;
 use crate::{Answers, Status};
 use cm_netlist::Terms;
 
@@ -14,36 +21,21 @@ fn is_wrong(answers: &Answers, place: usize, expected: u32) -> bool
     got.is_answered() && !got.is_value(expected)
 }
 
-/// The status that the answers come to (CiA 302-2, boot slave, error statuses; where each applies is
-/// own): the first one whose row in the table applies. `terms` is what is listed of the slave, `None`
-/// for one that isn't listed, whose status is A. Whether a boot ends with these answers it doesn't look
-/// at; [`judged_by_tables`] does.
+/// The status of a listed slave to which none of the rows B to O applies.
+#[inline(always)]
 #[tactic(auto, unfolding(crate::specs::Verdict::verdict))]
-pub fn status_of(terms: Option<Terms>, answers: &Answers) -> Status
-    ensures { result ≡ verdict terms answers.now }
+fn status_after_identity(terms: &Terms, answers: &Answers) -> Status
+    requires read { (has_bit terms.now.assignment.0 2 && not (has_value answers.now.device)) ≡ false }
+    requires typed { (has_value answers.now.device && not (terms.now.device_type == 0) && not (is_value answers.now.device terms.now.device_type)) ≡ false }
+    requires vendor { is_wrong answers.now 0 terms.now.vendor ≡ false }
+    requires product { is_wrong answers.now 1 terms.now.product ≡ false }
+    requires revision { is_wrong answers.now 2 terms.now.revision ≡ false }
+    requires serial { is_wrong answers.now 3 terms.now.serial ≡ false }
+    ensures { result ≡ verdict (Some terms.now) answers.now }
 {
-    let Some(terms) = terms else {
-        return Status::A;
-    };
-    let device = answers.device;
     let boots = terms.assignment.is_to_be_booted();
     let operational = answers.heard.is_operational();
-    if boots && !device.has_value() {
-        Status::B
-    } else if device.has_value()
-        && !(terms.device_type == 0)
-        && !device.is_value(terms.device_type)
-    {
-        Status::C
-    } else if is_wrong(answers, 0, terms.vendor) {
-        Status::D
-    } else if is_wrong(answers, 1, terms.product) {
-        Status::M
-    } else if is_wrong(answers, 2, terms.revision) {
-        Status::N
-    } else if is_wrong(answers, 3, terms.serial) {
-        Status::O
-    } else if answers.heard.is_silent() && !(terms.heartbeat_ms == 0) {
+    if answers.heard.is_silent() && !(terms.heartbeat_ms == 0) {
         Status::E
     } else if answers.heard.is_silent() {
         Status::F
@@ -60,16 +52,72 @@ pub fn status_of(terms: Option<Terms>, answers: &Answers) -> Status
     }
 }
 
+/// The status of answers with which a boot can end and whose identity agrees. None of its values is
+/// compared again: each was read where it is expected, and as expected.
+#[tactic(auto, unfolding(crate::specs::Lawful::identity_agrees, crate::specs::Lawful::revision_agrees, crate::specs::Lawful::product_agrees, crate::specs::Lawful::vendor_agrees, crate::specs::Lawful::asks_identity, crate::specs::Lawful::device_agrees))]
+fn status_of_agreeing(terms: &Terms, answers: &Answers) -> Status
+    requires agrees { identity_agrees terms.now answers.now ≡ true }
+    requires settled { list_all (λ f. is_settled terms.now answers.now f) fields ≡ true }
+    ensures { result ≡ verdict (Some terms.now) answers.now }
+{
+    status_after_identity(terms, answers)
+}
+
+/// The status that the answers come to (CiA 302-2, boot slave, error statuses; where each applies is
+/// own): the first one whose row in the table applies. `terms` is what is listed of the slave, `None`
+/// for one that isn't listed, whose status is A. Whether a boot ends with these answers it doesn't look
+/// at; [`judged_by_tables`] does.
+#[tactic(auto, unfolding(crate::specs::Verdict::verdict))]
+pub fn status_of(terms: Option<Terms>, answers: &Answers) -> Status
+    ensures { result ≡ verdict terms answers.now }
+{
+    let Some(terms) = terms else {
+        return Status::A;
+    };
+    let device = answers.device;
+    let boots = terms.assignment.is_to_be_booted();
+    if boots && !device.has_value() {
+        Status::B
+    } else if device.has_value()
+        && !(terms.device_type == 0)
+        && !device.is_value(terms.device_type)
+    {
+        Status::C
+    } else if is_wrong(answers, 0, terms.vendor) {
+        Status::D
+    } else if is_wrong(answers, 1, terms.product) {
+        Status::M
+    } else if is_wrong(answers, 2, terms.revision) {
+        Status::N
+    } else if is_wrong(answers, 3, terms.serial) {
+        Status::O
+    } else {
+        status_after_identity(&terms, answers)
+    }
+}
+
+/// The status of a boot of a listed slave that ended with these answers; `None` where none does.
+#[tactic(auto, unfolding(crate::specs::Verdict::judged))]
+fn judged_listed(terms: &Terms, answers: &Answers) -> Option<Status>
+    ensures { result ≡ judged (Some terms.now) answers.now }
+{
+    match lawful_identity(terms, answers) {
+        None => None,
+        Some(true) => Some(status_of_agreeing(terms, answers)),
+        Some(false) => Some(status_of(Some(*terms), answers)),
+    }
+}
+
 /// The status of a boot that ended with these answers; `None` exactly where no boot ends with them.
 /// `terms` is what is listed of the slave, `None` for one that isn't listed. It goes by the two tables
 /// (CiA 302-2, boot slave): which answers are those of a boot, and which status they come to.
-#[tactic(auto, unfolding(crate::specs::Verdict::judged))]
+#[tactic(auto, unfolding(crate::specs::Verdict::judged, crate::specs::Verdict::verdict))]
 pub fn judged_by_tables(terms: Option<Terms>, answers: &Answers) -> Option<Status>
     ensures { result ≡ judged terms answers.now }
 {
-    if is_lawful(terms, answers) {
-        Some(status_of(terms, answers))
-    } else {
-        None
+    match &terms {
+        Some(terms) => judged_listed(terms, answers),
+        None if has_no_answer(answers) => Some(Status::A),
+        None => None,
     }
 }
