@@ -1,13 +1,14 @@
 -- A decimal field is read exactly.
-use Rattle.std.proofs.Common.{◌≡◌, ℕ, zero, suc, ◌+◌, ◌*◌, ◌^◌, ◌<◌, ◌≤◌, Bool, true, false, cond, List, length, get_or, take, Some, None, refl, sym, ap, subst, ◌∙◌, arith}
+use Rattle.std.proofs.Common.{◌≡◌, ℕ, zero, suc, ◌+◌, ◌*◌, ◌^◌, ◌<◌, ◌≤◌, Bool, true, false, cond, List, ◌∷◌, ◌++◌, length, get_or, take, drop, drop-cons, take-append-drop, length-take-le, get_or-take, Some, None, refl, sym, ap, subst, ◌∙◌, arith}
 use Rattle.std.specs.Prelude.{decimal}
 use Rattle.std.specs.Char.{digit_value}
 use Rattle.std.specs.Int.{IsInRange}
 use Rattle.std.specs.Str.Parse.{AllDigits, IsNumeral, digits_value}
+use Rattle.std.proofs.lemmas.Bool.Decides.{nat_tests}
 use Rattle.std.proofs.lemmas.Bool.{leb-true, le-leb, lt-leb}
 use Rattle.std.proofs.lemmas.Fmt.{decimal_is_IsNumeral, decimal_digit, first_decimal, decimal-digits_value}
-use Rattle.std.proofs.lemmas.Int.Digits.{digits_value_more}
-use Rattle.std.proofs.lemmas.Str.Parse.{digit_at, digits_value-take-le, numerals_by_value, tells_digits}
+use Rattle.std.proofs.lemmas.Int.Digits.{digits_more, digits_value_more}
+use Rattle.std.proofs.lemmas.Str.Parse.{digit_at, digits_value-take-le, digits_value_short, numerals_by_value, tells_digits}
 use Rattle.cm_text.specs.Exact.{IsExact}
 use Rattle.cm_text.specs.Decimal.{dec_of}
 use Rattle.cm_text.proofs.Fronts.{same, same_itself}
@@ -77,3 +78,28 @@ pub whole_number : (most : ℕ) (w : List ℕ) → most < 2 ^ 64 → AllDigits 1
 whole_number most w wide digits some lead le =
     let e : decimal (digits_value 10 w) ≡ w = decimal-digits_value (numerals_by_value _ tells_digits) w digits some lead (omega arith) in
     sym (ap (dec_of most) e) ∙ dec_of_decimal most (digits_value 10 w) wide le
+
+-- ---- a number at the front of other bytes
+
+module _ (bytes : List ℕ) (at n : ℕ) (inside : at < length bytes) (digits : AllDigits 10 (take at bytes)) (value : n ≡ digits_value 10 (take at bytes)) where
+  pub few_digits : at ≤ 8 → n < 10 ^ 8
+  few_digits few = omega (arith, value, digits_value_short (numerals_by_value _ tells_digits) (take at bytes) 8 digits (omega (arith, length-take-le at bytes)))
+
+  -- digits with no leading zero that a space ends
+  pub number_ends : 0 < at → at ≤ 8 → (get_or bytes 0 0 ≡ 48 → at ≡ 1) → get_or bytes at 0 ≡ 32 → bytes ≡ decimal n ++ 32 ∷ drop (at + 1) bytes
+  number_ends some few lead space =
+      let w = take at bytes in
+      let long : length w ≡ at = length-take-le at bytes (omega arith) in
+      let first : get_or w 0 0 ≡ get_or bytes 0 0 = get_or-take at bytes 0 0 some in
+      let spelled : decimal (digits_value 10 w) ≡ w =
+      decimal-digits_value (numerals_by_value _ tells_digits) w digits (omega (arith, long)) (λ zero. omega (arith, long, lead (omega (arith, first, zero)))) (omega (arith, value, few_digits few)) in
+      let next : at + 1 ≡ suc at = omega arith in
+      let tail : drop at bytes ≡ 32 ∷ drop (at + 1) bytes = rw next (drop-cons bytes at 0 inside ∙ ap (λ (b : ℕ). b ∷ drop (suc at) bytes) space) in
+      sym (take-append-drop at bytes) ∙ ap (λ (l : List ℕ). w ++ l) tail ∙ ap (λ (l : List ℕ). l ++ (32 ∷ drop (at + 1) bytes)) (sym (ap decimal value ∙ spelled))
+
+-- one digit more
+pub one_digit : (bytes : List ℕ) (at n digit : ℕ) → at < length bytes → n ≡ digits_value 10 (take at bytes) → AllDigits 10 (take at bytes) → digit < 10 → get_or bytes at 0 ≡ digit + 48
+    → (n * 10 + digit ≡ digits_value 10 (take (at + 1) bytes)) × AllDigits 10 (take (at + 1) bytes)
+one_digit bytes at n digit inside value digits small byte =
+    let worth : digit_value (get_or bytes at 0) ≡ digit = grind (arith, nat_tests) in
+    (omega (arith, worth, digits_value_more 10 bytes at inside, value), digits_more 10 bytes at inside digits (grind (arith, nat_tests)))

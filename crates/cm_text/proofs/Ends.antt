@@ -1,5 +1,5 @@
 -- Where a first part ends, and what reads it without a look for its end.
-use Rattle.std.proofs.Common.{◌≡◌, ℕ, suc, drop-cons, eqb-true, ◌<◌, ◌≤◌, Bool, true, false, cond, eqb, ltb, List, [], ◌∷◌, ◌++◌, length, get_or, take, drop, Option, Some, None, refl, sym, ap, subst, ◌∙◌, arith, append-nil, ne_eqb, take-append-drop}
+use Rattle.std.proofs.Common.{◌≡◌, ℕ, ◌<◌, ◌≤◌, Bool, true, false, cond, eqb, ltb, List, [], ◌∷◌, ◌++◌, length, get_or, take, drop, Option, Some, None, refl, sym, ap, subst, ◌∙◌, arith, append-nil, ne_eqb, take-append-drop}
 use Rattle.std.specs.List.{onto_first}
 use Rattle.std.proofs.lemmas.Bool.{ltb-true}
 use Rattle.std.proofs.lemmas.List.Sums.{AllPass-from_list_all}
@@ -44,12 +44,6 @@ has_part c (b ∷ bs) = one_more c b bs (split c bs) (eqb b c) refl refl (has_pa
 pub first_part : (c : ℕ) (bytes w : List ℕ) (ws : Words) → split c bytes ≡ w ∷ ws → IsPart c bytes w ws
 unfolding HasPart
 first_part c bytes w ws e = subst (HasPart c bytes) e (has_part c bytes)
-
--- where a part ends before the last byte, the separator stands
-pub ended_byte : (c k : ℕ) (bytes : List ℕ) (ws : Words) → k < length bytes → behind c (drop k bytes) ≡ Some ws → get_or bytes k 0 ≡ c
-ended_byte c k bytes ws inside e =
-    let h : behind c (get_or bytes k 0 ∷ drop (suc k) bytes) ≡ Some ws = subst (λ (l : List ℕ). behind c l ≡ Some ws) (drop-cons bytes k 0 inside) e in
-    eqb-true _ _ (respelled_is (eqb (get_or bytes k 0) c) (split c (drop (suc k) bytes)) ws h).0
 
 -- ---- a part of so many bytes
 

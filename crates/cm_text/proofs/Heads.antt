@@ -1,25 +1,21 @@
 -- What the first field of some bytes is, by what reads it where it stands.
-use Rattle.std.proofs.Common.{◌≡◌, ℕ, ◌+◌, ◌^◌, ◌<◌, ◌≤◌, true, false, eqb, List, [], ◌∷◌, ◌++◌, length, get_or, take, Option, Some, None, refl, sym, ap, subst, ◌∙◌, arith, eq-eqb, ne_eqb, get_or-take, length-take-le}
-use Rattle.std.specs.Prelude.{◌≢◌}
-use Rattle.std.specs.Int.{IsInRange}
-use Rattle.std.specs.Str.Parse.{AllDigits}
+use Rattle.std.proofs.Common.{◌≡◌, ℕ, ◌+◌, ◌^◌, ◌<◌, ◌≤◌, true, false, eqb, List, [], ◌∷◌, ◌++◌, length, get_or, take, Option, Some, None, refl, sym, ap, subst, ◌∙◌, arith, eq-eqb, ne_eqb, get_or-take}
+use Rattle.std.specs.Prelude.{◌≢◌, decimal}
 use Rattle.std.proofs.Math.Seq.{drop-append_seam}
 use Rattle.std.proofs.lemmas.List.{take_more}
 use Rattle.std.proofs.lemmas.List.Elements.{All-nil, All-cons, All-append}
-use Rattle.std.proofs.lemmas.Fmt.{decimal_is_IsNumeral}
-use Rattle.std.proofs.lemmas.Str.Parse.{digit_at}
 use Rattle.cm_text.specs.Exact.{IsExact}
 use Rattle.cm_text.specs.Plain.{is_plain}
 use Rattle.cm_text.specs.Words.{Words, split}
 use Rattle.cm_text.specs.Decimal.{dec_of}
-use Rattle.cm_text.specs.Hex.{two_of, four_of, eight_of}
+use Rattle.cm_text.specs.Hex.{hex_eight, two_of, four_of, eight_of}
 use Rattle.cm_text.specs.Reading.{with_rest, field_at, word_is}
 use Rattle.cm_text.specs.Ends.{behind, Lacks, IsOfOtherWidth, IsFirst}
-use Rattle.cm_text.proofs.Fronts.{word_takes, keyword_again}
-use Rattle.cm_text.proofs.Decimals.{dec_of_takes}
-use Rattle.cm_text.proofs.Plain.{digits_plain}
+use Rattle.cm_text.proofs.Fronts.{word_takes, keyword_again, field_again}
+use Rattle.cm_text.proofs.Decimals.{dec_exact}
+use Rattle.cm_text.proofs.Plain.{decimal_plain, split_front}
 use Rattle.cm_text.proofs.Digits.{hex_two_exact, hex_two_plain, hex_two_length, hex_four_exact, hex_four_plain, hex_four_length, hex_eight_exact, hex_eight_plain, hex_eight_length}
-use Rattle.cm_text.proofs.Ends.{first_part, ended_part, ended_byte, unread, OfWidth, read_first, read_none, too_short, goes_on}
+use Rattle.cm_text.proofs.Ends.{first_part, ended_part, unread, read_first, read_none, too_short, goes_on}
 
 -- ---- spellings that have all the same number of bytes
 
@@ -85,36 +81,17 @@ text_goes_on c text tail more_bytes = no_text c text (text ++ tail) (λ more e. 
 pub text_ends : (c : ℕ) (text tail : List ℕ) (ws : Words) → Lacks c text → behind c tail ≡ Some ws → field_at (word_is text) (split c (text ++ tail)) ≡ Some (tt, ws)
 text_ends c text tail ws lacks ended = ap (field_at (word_is text)) (ended_part c text tail ws lacks ended) ∙ keyword_again text ws
 
--- ---- a decimal number: its field ends where its digits do
+-- ---- a spelling with the space that ends it
 
-module _ (bytes : List ℕ) (count : ℕ) (inside : count ≤ length bytes) (digits : AllDigits 10 (take count bytes))
-    (all : count < length bytes → ¬ (IsInRange 48 57 (get_or bytes count 0))) (w : List ℕ) (more : Words) (is : split 32 bytes ≡ w ∷ more) (numeral : AllDigits 10 w) where
-  not_less : length w < count → ⊥
-  not_less less =
-      let p = first_part 32 bytes w more is in
-      let digit = digit_at (take count bytes) (length w) digits (omega (arith, length-take-le count bytes)) in
-      let same = get_or-take count bytes (length w) 0 less in
-      omega (arith, digit, same, ended_byte 32 (length w) bytes more (omega arith) p.ended)
+spelled_first : {A : Type 0} (spell : A → List ℕ) (read : List ℕ → Option A) (Fits : A → Type 0) → IsExact spell read Fits → (x : A) (bytes rest : List ℕ) → Fits x → is_plain (spell x) ≡ true → bytes ≡ spell x ++ 32 ∷ rest
+    → field_at read (split 32 bytes) ≡ Some (x, split 32 rest)
+spelled_first spell read Fits exact x bytes rest fits plain is =
+    ap (field_at read) (ap (split 32) is ∙ split_front 32 (spell x) rest plain) ∙ field_again spell read Fits exact x (split 32 rest) fits
 
-  not_more : count < length w → ⊥
-  not_more more_digits =
-      let p = first_part 32 bytes w more is in
-      let digit = digit_at w count numeral more_digits in
-      let same : get_or w count 0 ≡ get_or bytes count 0 = ap (λ (l : List ℕ). get_or l count 0) (sym p.front) ∙ get_or-take (length w) bytes count 0 more_digits in
-      all (omega (arith, p.short)) (subst (IsInRange 48 57) same digit)
+pub decimal_first : (most n : ℕ) (bytes rest : List ℕ) → most < 2 ^ 64 → n ≤ most → bytes ≡ decimal n ++ 32 ∷ rest → field_at (dec_of most) (split 32 bytes) ≡ Some (n, split 32 rest)
+decimal_first most n bytes rest wide le is = spelled_first decimal (dec_of most) (λ m. m ≤ most) (dec_exact most wide) n bytes rest le (decimal_plain n (omega arith)) is
 
-  digits_end : length w ≡ count
-  digits_end = omega (arith, not_less, not_more)
-
-module _ (bytes : List ℕ) (count : ℕ) (inside : count ≤ length bytes) (digits : AllDigits 10 (take count bytes))
-    (all : count < length bytes → ¬ (IsInRange 48 57 (get_or bytes count 0))) (most : ℕ) (wide : most < 2 ^ 64) where
-  dec_width : OfWidth (dec_of most) count (split 32 bytes)
-  dec_width w more n is e =
-      let t = dec_of_takes most w n e in
-      digits_end bytes count inside digits all w more is (subst (AllDigits 10) (sym t.0) (decimal_is_IsNumeral n (omega (arith, t.1))).0.1)
-
-  pub dec_first : (rest : Words) → IsFirst count (take count bytes) rest (split 32 bytes) → field_at (dec_of most) (split 32 bytes) ≡ with_rest (dec_of most (take count bytes)) rest
-  dec_first rest first = read_first (dec_of most) count (take count bytes) rest (split 32 bytes) first dec_width (λ n e. digits_plain (take count bytes) digits)
-
-  pub dec_none : IsOfOtherWidth count (split 32 bytes) → field_at (dec_of most) (split 32 bytes) ≡ None
-  dec_none other = read_none (dec_of most) count (split 32 bytes) other dec_width
+pub eight_near : (word bytes rest : List ℕ) (n : ℕ) → Some n ≡ eight_of word → bytes ≡ word ++ 32 ∷ rest → field_at eight_of (split 32 bytes) ≡ Some (n, split 32 rest)
+eight_near word bytes rest n read is =
+    let t = hex_eight_exact.takes word n (sym read) in
+    spelled_first hex_eight eight_of (λ m. m < 2 ^ 32) hex_eight_exact n bytes rest t.1 (hex_eight_plain n) (is ∙ ap (λ (w : List ℕ). w ++ (32 ∷ rest)) t.0)

@@ -1,6 +1,4 @@
-ghost use Rattle.std.specs.Prelude.{◌≡◌, ◌≢◌, ◌<◌, ◌≤◌, ◌^◌, ℕ, length, take, slice_index, MatchOption, IfSome, decimal};
-ghost use Rattle.std.specs.Int.{IsInRange};
-ghost use Rattle.std.specs.Str.Parse.{AllDigits, digits_value};
+ghost use Rattle.std.specs.Prelude.{◌≡◌, ◌≢◌, ◌<◌, ◌≤◌, ◌+◌, ◌∷◌, ◌++◌, ℕ, MatchOption, IfSome, decimal};
 ghost use Rattle.cm_text.specs.Decimal.{dec_of};
 
 /// The number, 0 to `most`, that a field of decimal digits spells; `None` exactly where it spells
@@ -38,39 +36,39 @@ fn decimal_value(word: &[u8], most: u64) -> Option<u64>
     Some(n)
 }
 
-/// The least number of 19 digits: one more digit may be too much for 64 bits.
-pub(crate) const ENOUGH: u64 = 1000000000000000000;
-
-// The number that the decimal digits at the start of these bytes spell, and how many they are; no
-// further digit is read once the number is `ENOUGH`.
+// What a digit is worth, and 10 or more for any other byte.
 #[inline(always)]
-pub(crate) fn leading_digits(bytes: &[u8]) -> (u64, usize)
-    ensures inside { result.1 ≤ length bytes.now }
-    ensures digits { AllDigits 10 (take result.1 bytes.now) }
-    ensures value { result.0 ≡ digits_value 10 (take result.1 bytes.now) }
-    ensures all { result.0 < 10 ^ 18 → result.1 < length bytes.now
-        → ¬ (IsInRange 48 57 (slice_index bytes.now result.1)) }
+fn worth(byte: u8) -> u64
+    ensures { result < 10 → byte ≡ result + 48 }
 {
-    let mut n = 0;
-    for count in 0..bytes.len() {
-        if ENOUGH <= n || !bytes[count].is_ascii_digit() {
-            return (n, count);
-        }
-        n = n * 10 + u64::from(bytes[count] - b'0');
-    }
-    (n, bytes.len())
+    u64::from(byte).wrapping_sub(u64::from(b'0'))
 }
 
-// The number of these digits, if they have no leading zero and it is 0 to `most`.
+// How many bytes are looked at for a number and the space that ends it.
+const NEAR: usize = 8;
+
+// The number, 0 to `most`, that these bytes begin with, and what is left behind the space that ends it.
+// `None` says nothing: the number may be long, or stand near the end.
 #[inline(always)]
-pub(crate) fn spelled(digits: &[u8], n: u64, most: u64) -> Option<u64>
-    requires digits { AllDigits 10 digits.now }
-    requires value { n ≡ digits_value 10 digits.now }
-    ensures value { result ≡ dec_of most digits.now }
-    ensures small { IfSome result (λ m. m ≤ most) }
+pub(crate) fn near_decimal(bytes: &[u8], most: u64) -> Option<(u64, &[u8])>
+    ensures { IfSome result (λ r. (bytes.now ≡ decimal r.0 ++ 32 ∷ r.1.now) × (r.0 ≤ most)) }
 {
-    if *digits.first()? == b'0' && 1 < digits.len() {
+    if bytes.len() < NEAR {
         return None;
     }
-    if n <= most { Some(n) } else { None }
+    let mut n = worth(bytes[0]);
+    if 9 < n {
+        return None;
+    }
+    for at in 1..NEAR {
+        if bytes[at] == b' ' && n <= most {
+            return Some((n, &bytes[at + 1..]));
+        }
+        let digit = worth(bytes[at]);
+        if 9 < digit || n == 0 {
+            return None;
+        }
+        n = n * 10 + digit;
+    }
+    None
 }

@@ -1,4 +1,4 @@
-ghost use Rattle.std.specs.Prelude.{◌≡◌, ◌≤◌, ◌==◌, ◌∷◌, ◌++◌, [], ℕ, length, take, map, Some, None, MatchOption, IfSome, IfNone, position};
+ghost use Rattle.std.specs.Prelude.{◌≡◌, ◌≤◌, ◌==◌, ◌∷◌, ◌++◌, [], ℕ, length, map, Some, None, MatchOption, IfSome, IfNone, position};
 ghost use Rattle.std.specs.Simd.Lanes.{mask_l};
 ghost use Rattle.cm_text.specs.Words.{split};
 ghost use Rattle.cm_text.specs.Decimal.{dec_of};
@@ -7,7 +7,7 @@ ghost use Rattle.cm_text.specs.Reading.{with_rest, field_at, word_is, is_empty};
 ghost use Rattle.cm_text.specs.Left.{parts};
 ghost use Rattle.cm_text.specs.Ends.{behind, Lacks, IsOfOtherWidth, IsFirst};
 
-use crate::decimal::{ENOUGH, leading_digits, read_decimal, spelled};
+use crate::decimal::{near_decimal, read_decimal};
 use crate::hex::{read_hex2, read_hex4, read_hex8};
 use memchr::memchr;
 use std::simd::prelude::*;
@@ -77,8 +77,7 @@ fn behind(bytes: &[u8], separator: u8) -> Option<Option<&[u8]>>
 fn first(bytes: &[u8], width: usize) -> Option<(&[u8], Option<&[u8]>)>
     ensures { MatchOption result
         (IsOfOtherWidth width (split 32 bytes.now))
-        (λ r. (r.0.now ≡ take width bytes.now)
-        × IsFirst width r.0.now (parts 32 r.1) (split 32 bytes.now)) }
+        (λ r. IsFirst width r.0.now (parts 32 r.1) (split 32 bytes.now)) }
 {
     if bytes.len() < width {
         return None;
@@ -87,6 +86,18 @@ fn first(bytes: &[u8], width: usize) -> Option<(&[u8], Option<&[u8]>)>
     match behind(tail, b' ') {
         Some(rest) => Some((word, rest)),
         None => None,
+    }
+}
+
+// The first so many bytes and what stands behind the space after them. `None` says nothing.
+#[inline(always)]
+fn near_field(bytes: &[u8], width: usize) -> Option<(&[u8], &[u8])>
+    ensures { IfSome result (λ r. bytes.now ≡ r.0.now ++ 32 ∷ r.1.now) }
+{
+    if width < bytes.len() && bytes[width] == b' ' {
+        Some((&bytes[..width], &bytes[width + 1..]))
+    } else {
+        None
     }
 }
 
@@ -170,7 +181,7 @@ impl<'a> Fields<'a> {
         }
     }
 
-    // As `decimal`, whatever the separator is and however many digits there are.
+    // As `decimal`, whatever the separator is, however many digits there are and wherever they end.
     #[inline(never)]
     #[tactic(auto, unfolding(crate::specs::Reading::field_at))]
     fn any_decimal(&mut self, most: u64) -> Option<u64>
@@ -182,22 +193,19 @@ impl<'a> Fields<'a> {
 
     /// The number, 0 to `most`, that the next field spells in decimal, as `read_decimal` reads it;
     /// `None` where it spells none, or no field is left.
-    #[tactic(auto, unfolding(crate::specs::Reading::field_at))]
+    #[inline(always)]
     pub fn decimal(&mut self, most: u64) -> Option<u64>
         ensures value { field_at (dec_of most) (left self.old) ≡ with_rest result (left self.new) }
         ensures small { IfSome result (λ n. n ≤ most) }
     {
-        if self.separator != b' ' {
-            return self.any_decimal(most);
+        if self.separator == b' '
+            && let Some(bytes) = self.rest
+            && let Some((n, rest)) = near_decimal(bytes, most)
+        {
+            self.rest = Some(rest);
+            return Some(n);
         }
-        let bytes = self.rest?;
-        let (n, count) = leading_digits(bytes);
-        if ENOUGH <= n {
-            return self.any_decimal(most);
-        }
-        let (digits, rest) = first(bytes, count)?;
-        self.rest = rest;
-        spelled(digits, n, most)
+        self.any_decimal(most)
     }
 
     /// The byte that the next field spells in two digits, as `read_hex2` reads it; `None` where it
@@ -228,8 +236,9 @@ impl<'a> Fields<'a> {
         self.hex8_or_stay()
     }
 
-    /// As `hex8`; and where it gives `None`, nothing was read.
-    pub fn hex8_or_stay(&mut self) -> Option<u32>
+    // As `hex8_or_stay`, whatever the separator is and wherever the field ends.
+    #[inline(never)]
+    fn any_hex8_or_stay(&mut self) -> Option<u32>
         ensures value { field_at eight_of (left self.old) ≡ with_rest result (left self.new) }
         ensures stays { IfNone result (left self.new ≡ left self.old) }
     {
@@ -237,6 +246,22 @@ impl<'a> Fields<'a> {
         let n = read_hex8(word)?;
         self.rest = rest;
         Some(n)
+    }
+
+    /// As `hex8`; and where it gives `None`, nothing was read.
+    pub fn hex8_or_stay(&mut self) -> Option<u32>
+        ensures value { field_at eight_of (left self.old) ≡ with_rest result (left self.new) }
+        ensures stays { IfNone result (left self.new ≡ left self.old) }
+    {
+        if self.separator == b' '
+            && let Some(bytes) = self.rest
+            && let Some((word, rest)) = near_field(bytes, 8)
+            && let Some(n) = read_hex8(word)
+        {
+            self.rest = Some(rest);
+            return Some(n);
+        }
+        self.any_hex8_or_stay()
     }
 
     /// `Some` where the next field is just this text; `None` where it is another, or no field is

@@ -130,6 +130,12 @@ fn a_decimal_ends_where_its_field_does(rt: HostRuntime) {
     assert_eq!(rt; fields.decimal(1), Some(1));
     assert_eq!(rt; fields.is_done(), true);
     assert_eq!(rt; fields.decimal(1), None);
+    let mut fields = Fields::new(b"0 127 1234567 12345678 and more", b' ');
+    assert_eq!(rt; fields.decimal(0), Some(0));
+    assert_eq!(rt; fields.decimal(127), Some(127));
+    assert_eq!(rt; fields.decimal(u64::MAX), Some(1234567));
+    assert_eq!(rt; fields.decimal(u64::MAX), Some(12345678));
+    assert_eq!(rt; fields.next_field(), Some(b"and".as_slice()));
     for line in [
         b"".as_slice(),
         b" 1".as_slice(),
@@ -139,6 +145,13 @@ fn a_decimal_ends_where_its_field_does(rt: HostRuntime) {
         b"1270 5".as_slice(),
         b"128 5".as_slice(),
         b"18446744073709551616 5".as_slice(),
+        b" 1 and more".as_slice(),
+        b"12x and more".as_slice(),
+        b"12\n and more".as_slice(),
+        b"07 and more".as_slice(),
+        b"128 and more".as_slice(),
+        b"1280 and more".as_slice(),
+        b"12801280 and more".as_slice(),
     ] {
         assert_eq!(rt; Fields::new(line, b' ').decimal(127), None);
     }
