@@ -8,7 +8,7 @@ use Rattle.cm_text.specs.Exact.{IsExact}
 use Rattle.cm_text.specs.Plain.{is_plain}
 use Rattle.cm_text.specs.Words.{Words, split}
 use Rattle.cm_text.specs.Decimal.{dec_of}
-use Rattle.cm_text.specs.Hex.{two_of, four_of, eight_of}
+use Rattle.cm_text.specs.Hex.{hex_eight, two_of, four_of, eight_of}
 use Rattle.cm_text.specs.Reading.{with_rest, field_at, word_is}
 use Rattle.cm_text.specs.Ends.{behind, Lacks, IsOfOtherWidth, IsFirst}
 use Rattle.cm_text.proofs.Fronts.{word_takes, keyword_again, field_again}
@@ -81,9 +81,17 @@ text_goes_on c text tail more_bytes = no_text c text (text ++ tail) (λ more e. 
 pub text_ends : (c : ℕ) (text tail : List ℕ) (ws : Words) → Lacks c text → behind c tail ≡ Some ws → field_at (word_is text) (split c (text ++ tail)) ≡ Some (tt, ws)
 text_ends c text tail ws lacks ended = ap (field_at (word_is text)) (ended_part c text tail ws lacks ended) ∙ keyword_again text ws
 
--- ---- a decimal number with the space that ends it
+-- ---- a spelling with the space that ends it
+
+spelled_first : {A : Type 0} (spell : A → List ℕ) (read : List ℕ → Option A) (Fits : A → Type 0) → IsExact spell read Fits → (x : A) (bytes rest : List ℕ) → Fits x → is_plain (spell x) ≡ true → bytes ≡ spell x ++ 32 ∷ rest
+    → field_at read (split 32 bytes) ≡ Some (x, split 32 rest)
+spelled_first spell read Fits exact x bytes rest fits plain is =
+    ap (field_at read) (ap (split 32) is ∙ split_front 32 (spell x) rest plain) ∙ field_again spell read Fits exact x (split 32 rest) fits
 
 pub decimal_first : (most n : ℕ) (bytes rest : List ℕ) → most < 2 ^ 64 → n ≤ most → bytes ≡ decimal n ++ 32 ∷ rest → field_at (dec_of most) (split 32 bytes) ≡ Some (n, split 32 rest)
-decimal_first most n bytes rest wide le is =
-    let first : split 32 bytes ≡ decimal n ∷ split 32 rest = ap (split 32) is ∙ split_front 32 (decimal n) rest (decimal_plain n (omega arith)) in
-    ap (field_at (dec_of most)) first ∙ field_again decimal (dec_of most) (λ m. m ≤ most) (dec_exact most wide) n (split 32 rest) le
+decimal_first most n bytes rest wide le is = spelled_first decimal (dec_of most) (λ m. m ≤ most) (dec_exact most wide) n bytes rest le (decimal_plain n (omega arith)) is
+
+pub eight_near : (word bytes rest : List ℕ) (n : ℕ) → Some n ≡ eight_of word → bytes ≡ word ++ 32 ∷ rest → field_at eight_of (split 32 bytes) ≡ Some (n, split 32 rest)
+eight_near word bytes rest n read is =
+    let t = hex_eight_exact.takes word n (sym read) in
+    spelled_first hex_eight eight_of (λ m. m < 2 ^ 32) hex_eight_exact n bytes rest t.1 (hex_eight_plain n) (is ∙ ap (λ (w : List ℕ). w ++ (32 ∷ rest)) t.0)

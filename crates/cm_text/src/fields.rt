@@ -1,4 +1,4 @@
-ghost use Rattle.std.specs.Prelude.{◌≡◌, ◌≤◌, ◌==◌, ◌∷◌, ◌++◌, [], ℕ, length, take, map, Some, None, MatchOption, IfSome, IfNone, position};
+ghost use Rattle.std.specs.Prelude.{◌≡◌, ◌≤◌, ◌==◌, ◌∷◌, ◌++◌, [], ℕ, length, map, Some, None, MatchOption, IfSome, IfNone, position};
 ghost use Rattle.std.specs.Simd.Lanes.{mask_l};
 ghost use Rattle.cm_text.specs.Words.{split};
 ghost use Rattle.cm_text.specs.Decimal.{dec_of};
@@ -89,6 +89,18 @@ fn first(bytes: &[u8], width: usize) -> Option<(&[u8], Option<&[u8]>)>
     }
 }
 
+// The first so many bytes and what stands behind the space after them. `None` says nothing.
+#[inline(always)]
+fn near_field(bytes: &[u8], width: usize) -> Option<(&[u8], &[u8])>
+    ensures { IfSome result (λ r. bytes.now ≡ r.0.now ++ 32 ∷ r.1.now) }
+{
+    if width < bytes.len() && bytes[width] == b' ' {
+        Some((&bytes[..width], &bytes[width + 1..]))
+    } else {
+        None
+    }
+}
+
 // What follows the text, if these bytes begin with it and the separator isn't in it.
 #[inline(always)]
 fn behind_text<'a>(bytes: &'a [u8], text: &[u8], separator: u8) -> Option<&'a [u8]>
@@ -153,6 +165,22 @@ impl<'a> Fields<'a> {
         Some(word)
     }
 
+    // The next field, if it has so many bytes and they are plain, and what is left behind it; what
+    // else is no such field.
+    #[inline(always)]
+    fn front(&self, width: usize) -> Option<(&'a [u8], Option<&'a [u8]>)>
+        ensures { MatchOption result
+            (IsOfOtherWidth width (left self.now))
+            (λ r. IsFirst width r.0.now (parts self.now.separator r.1) (left self.now)) }
+    {
+        let bytes = self.rest?;
+        if self.separator == b' ' {
+            first(bytes, width)
+        } else {
+            Some(Fields::cut(bytes, self.separator))
+        }
+    }
+
     // As `decimal`, whatever the separator is, however many digits there are and wherever they end.
     #[inline(never)]
     #[tactic(auto, unfolding(crate::specs::Reading::field_at))]
@@ -180,48 +208,22 @@ impl<'a> Fields<'a> {
         self.any_decimal(most)
     }
 
-    // As `hex2`, whatever the separator is.
-    #[inline(never)]
-    #[tactic(auto, unfolding(crate::specs::Reading::field_at))]
-    fn any_hex2(&mut self) -> Option<u8>
-        ensures { field_at two_of (left self.old) ≡ with_rest result (left self.new) }
-    {
-        read_hex2(self.next_field()?)
-    }
-
     /// The byte that the next field spells in two digits, as `read_hex2` reads it; `None` where it
     /// spells none, or no field is left.
-    #[tactic(auto, unfolding(crate::specs::Reading::field_at))]
     pub fn hex2(&mut self) -> Option<u8>
         ensures { field_at two_of (left self.old) ≡ with_rest result (left self.new) }
     {
-        if self.separator != b' ' {
-            return self.any_hex2();
-        }
-        let (word, rest) = first(self.rest?, 2)?;
+        let (word, rest) = self.front(2)?;
         self.rest = rest;
         read_hex2(word)
     }
 
-    // As `hex4`, whatever the separator is.
-    #[inline(never)]
-    #[tactic(auto, unfolding(crate::specs::Reading::field_at))]
-    fn any_hex4(&mut self) -> Option<u16>
-        ensures { field_at four_of (left self.old) ≡ with_rest result (left self.new) }
-    {
-        read_hex4(self.next_field()?)
-    }
-
     /// The number of 16 bits that the next field spells in four digits, as `read_hex4` reads it;
     /// `None` where it spells none, or no field is left.
-    #[tactic(auto, unfolding(crate::specs::Reading::field_at))]
     pub fn hex4(&mut self) -> Option<u16>
         ensures { field_at four_of (left self.old) ≡ with_rest result (left self.new) }
     {
-        if self.separator != b' ' {
-            return self.any_hex4();
-        }
-        let (word, rest) = first(self.rest?, 4)?;
+        let (word, rest) = self.front(4)?;
         self.rest = rest;
         read_hex4(word)
     }
@@ -234,32 +236,32 @@ impl<'a> Fields<'a> {
         self.hex8_or_stay()
     }
 
-    // As `hex8_or_stay`, whatever the separator is.
+    // As `hex8_or_stay`, whatever the separator is and wherever the field ends.
     #[inline(never)]
-    #[tactic(auto, unfolding(crate::specs::Reading::field_at))]
     fn any_hex8_or_stay(&mut self) -> Option<u32>
         ensures value { field_at eight_of (left self.old) ≡ with_rest result (left self.new) }
         ensures stays { IfNone result (left self.new ≡ left self.old) }
     {
-        let (word, rest) = Fields::cut(self.rest?, self.separator);
+        let (word, rest) = self.front(8)?;
         let n = read_hex8(word)?;
         self.rest = rest;
         Some(n)
     }
 
     /// As `hex8`; and where it gives `None`, nothing was read.
-    #[tactic(auto, unfolding(crate::specs::Reading::field_at))]
     pub fn hex8_or_stay(&mut self) -> Option<u32>
         ensures value { field_at eight_of (left self.old) ≡ with_rest result (left self.new) }
         ensures stays { IfNone result (left self.new ≡ left self.old) }
     {
-        if self.separator != b' ' {
-            return self.any_hex8_or_stay();
+        if self.separator == b' '
+            && let Some(bytes) = self.rest
+            && let Some((word, rest)) = near_field(bytes, 8)
+            && let Some(n) = read_hex8(word)
+        {
+            self.rest = Some(rest);
+            return Some(n);
         }
-        let (word, rest) = first(self.rest?, 8)?;
-        let n = read_hex8(word)?;
-        self.rest = rest;
-        Some(n)
+        self.any_hex8_or_stay()
     }
 
     /// `Some` where the next field is just this text; `None` where it is another, or no field is

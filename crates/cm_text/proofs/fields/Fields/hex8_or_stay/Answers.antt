@@ -1,18 +1,7 @@
-use Rattle.std.proofs.Common.{sym, ap, ◌∙◌}
-use Rattle.cm_text.specs.Left.{parts}
-use Rattle.cm_text.specs.Reading.{with_rest}
-use Rattle.cm_text.proofs.Heads.{eight_first, eight_none}
+use Rattle.cm_text.proofs.Heads.{eight_near}
 use Rattle.cm_text.proofs.fields.Fields.hex8_or_stay.Goals as goal
-
-pub returns-in_err-word-clause-value : goal.returns-in_err-word-clause-value
-returns-in_err-word-clause-value c = rw (c.in_ok-self.was, c.if-self-ne32.false, c.from_residual-in_err-word.ensures) (eight_none _ c.in_err-word.ensures)
-
-pub returns-in_err-n-clause-value : goal.returns-in_err-n-clause-value
-returns-in_err-n-clause-value c =
-    let rest = parts 32 c.in_ok-word.rest in
-    rw (c.in_ok-self.was, c.if-self-ne32.false, c.from_residual-in_err-n.ensures) (eight_first _ _ _ c.in_ok-word.ensures ∙ ap (λ o. with_rest o rest) (sym c.in_err-n.ensures.value))
 
 pub returns-clause-value : goal.returns-clause-value
 returns-clause-value c =
-    let rest = parts 32 c.in_ok-word.rest in
-    rw (c.in_ok-self.was, c.if-self-ne32.false) (eight_first _ _ _ c.in_ok-word.ensures ∙ ap (λ o. with_rest o rest) (sym c.in_ok-n.ensures.value))
+    let cut = c.in-Some-near_field in
+    rw (c.in-Some.is, c.if-self-eq32.true) (eight_near cut.word.now c.in-Some.bytes.now cut.rest.now c.in-Some-read_hex8.n c.in-Some-read_hex8.ensures.value cut.ensures)
