@@ -46,9 +46,9 @@ fn configuration_skipped(terms: &Terms, answers: &Answers, identity: bool) -> bo
 
 /// Whether each field from the date on is, where the slave may be configured.
 #[inline(always)]
+#[tactic(auto, unfolding(crate::specs::Lawful::may_configure))]
 fn configuration_settled(terms: &Terms, answers: &Answers) -> bool
-    requires identity { identity_agrees terms.now answers.now ≡ true }
-    requires open { may_configure terms.now answers.now ≡ true }
+    requires { may_configure terms.now answers.now ≡ true }
     ensures { result ≡ list_all (λ f. is_settled terms.now answers.now f) (Date ∷ Time ∷ Writes ∷ Beat ∷ []) }
 {
     if !is_settled(terms, answers, Field::Date, true)
