@@ -1,4 +1,4 @@
-ghost use Rattle.std.specs.Prelude.{◌≤◌, length, IfOk};
+ghost use Rattle.std.specs.Prelude.{◌≡◌, ◌≤◌, false, length, IfOk};
 ghost use Rattle.cm_input.specs.Input.{ReadsAll, ReadsMore, ReadsUntil, SkipsAll};
 
 use std::alloc::Global;
@@ -48,7 +48,9 @@ pub fn read_until<R: Read>(
     most: usize,
 ) -> Result<bool, InputFault>
     requires { length bytes.old.items ≤ most }
-    ensures { IfOk result (λ ended. ReadsUntil most (R.remaining reader.old) (R.remaining reader.new) bytes.old.items bytes.new.items ended) }
+    ensures read { IfOk result (λ ended. ReadsUntil most (R.remaining reader.old) (R.remaining reader.new) bytes.old.items bytes.new.items ended) }
+    // Before the end it doesn't stop with fewer bytes than are enough.
+    ensures enough { IfOk result (λ ended. ended ≡ false → enough ≤ length bytes.new.items) }
 {
     for _ in 0..u64::MAX {
         if bytes.len() >= enough {

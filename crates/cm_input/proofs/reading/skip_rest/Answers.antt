@@ -1,4 +1,4 @@
-use Rattle.std.proofs.Common.{◌≡◌, ◌+◌, ◌++◌, length, take, length-append, arith}
+use Rattle.std.proofs.Common.{◌++◌, take, length-append, arith}
 use Rattle.std.proofs.KnownBytes.{Consumes-trans}
 use Rattle.cm_input.proofs.reading.skip_rest.Goals as goal
 
