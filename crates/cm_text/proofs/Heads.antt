@@ -1,7 +1,7 @@
 -- What the first field of some bytes is, by what reads it where it stands.
-use Rattle.std.proofs.Common.{◌≡◌, ℕ, ◌+◌, ◌^◌, ◌<◌, ◌≤◌, true, false, eqb, List, [], ◌∷◌, ◌++◌, length, get_or, take, Option, Some, None, refl, sym, ap, subst, ◌∙◌, arith, eq-eqb, ne_eqb, get_or-take}
-use Rattle.std.specs.Prelude.{◌≢◌, decimal}
-use Rattle.std.proofs.Math.Seq.{drop-append_seam}
+use Rattle.std.proofs.Common.{◌≡◌, ℕ, ◌+◌, ◌^◌, ◌<◌, ◌≤◌, Bool, true, false, ◌||◌, eqb, List, [], ◌∷◌, ◌++◌, length, get_or, take, drop, Option, Some, None, refl, sym, ap, subst, ◌∙◌, arith, eq-eqb, take-append-drop}
+use Rattle.std.specs.Prelude.{decimal, bytes_eq, MatchOption}
+use Rattle.std.proofs.lemmas.Bool.{eqb-true}
 use Rattle.std.proofs.lemmas.List.{take_more}
 use Rattle.std.proofs.lemmas.List.Elements.{All-nil, All-cons, All-append}
 use Rattle.cm_text.specs.Exact.{IsExact}
@@ -10,8 +10,8 @@ use Rattle.cm_text.specs.Words.{Words, split}
 use Rattle.cm_text.specs.Decimal.{dec_of}
 use Rattle.cm_text.specs.Hex.{hex_eight, two_of, four_of, eight_of}
 use Rattle.cm_text.specs.Reading.{with_rest, field_at, word_is}
-use Rattle.cm_text.specs.Ends.{behind, Lacks, IsOfOtherWidth, IsFirst}
-use Rattle.cm_text.proofs.Fronts.{word_takes, keyword_again, field_again}
+use Rattle.cm_text.specs.Ends.{behind, Lacks, Holds, IsOfOtherWidth, IsFirst}
+use Rattle.cm_text.proofs.Fronts.{same, same_itself, word_takes, field_again}
 use Rattle.cm_text.proofs.Decimals.{dec_exact}
 use Rattle.cm_text.proofs.Plain.{decimal_plain, split_front}
 use Rattle.cm_text.proofs.Digits.{hex_two_exact, hex_two_plain, hex_two_length, hex_four_exact, hex_four_plain, hex_four_length, hex_eight_exact, hex_eight_plain, hex_eight_length}
@@ -55,31 +55,34 @@ module _ (c : ℕ) (text bytes : List ℕ) where
   pub text_too_long : length bytes < length text → field_at (word_is text) (split c bytes) ≡ None
   text_too_long short = no_text (λ more e. too_short c (length text) bytes short text more e refl)
 
-  pub text_differs : (at : ℕ) → at < length text → get_or bytes at 0 ≢ get_or text at 0 → field_at (word_is text) (split c bytes) ≡ None
-  text_differs at inside other = no_text (λ more e.
-      let p = first_part c bytes text more e in
-      other (sym (get_or-take (length text) bytes at 0 inside) ∙ ap (λ (l : List ℕ). get_or l at 0) p.front))
+  pub text_is_other : bytes_eq (take (length text) bytes) text ≡ false → field_at (word_is text) (split c bytes) ≡ None
+  text_is_other other = no_text (λ more e. let p = first_part c bytes text more e in cc (same_itself text, p.front, other))
 
-  pub text_is_cut : (at : ℕ) → at < length text → get_or text at 0 ≡ c → field_at (word_is text) (split c bytes) ≡ None
-  text_is_cut at inside is = no_text (λ more e. let p = first_part c bytes text more e in absurd (cc (p.lacks at 0 inside, eq-eqb (get_or text at 0) c is)))
+  pub text_is_cut : Holds c text → field_at (word_is text) (split c bytes) ≡ None
+  text_is_cut held = no_text (λ more e. let p = first_part c bytes text more e in absurd (cc (p.lacks held.0 0 held.1, eq-eqb (get_or text held.0 0) c held.2)))
 
--- one byte more is the same, and is no separator
+  -- what stands behind the text
+  pub text_behind : {R : Type 0} (parts : R → Words) (o : Option R) → bytes_eq (take (length text) bytes) text ≡ true → Lacks c text
+      → MatchOption o (behind c (drop (length text) bytes) ≡ None) (λ r. behind c (drop (length text) bytes) ≡ Some (parts r))
+      → MatchOption o (field_at (word_is text) (split c bytes) ≡ None) (λ r. split c bytes ≡ text ∷ parts r)
+  text_behind parts None begins lacks goes = no_text (λ more e. goes_on c (length text) bytes goes text more e refl)
+  text_behind parts (Some r) begins lacks ended =
+      ap (split c) (sym (take-append-drop (length text) bytes) ∙ ap (λ (l : List ℕ). l ++ drop (length text) bytes) (same (take (length text) bytes) text begins))
+      ∙ ended_part c text (drop (length text) bytes) (parts r) lacks ended
 
-pub begins_more : (text bytes : List ℕ) (at : ℕ) → take at bytes ≡ take at text → at < length bytes → at < length text → get_or bytes at 0 ≡ get_or text at 0 → take (at + 1) bytes ≡ take (at + 1) text
-begins_more text bytes at so_far p q same = let e = take_more bytes at 0 p in let f = take_more text at 0 q in cc
+-- ---- whether a byte is in a text
 
-pub lacks_more : (c : ℕ) (text : List ℕ) (at : ℕ) → Lacks c (take at text) → at < length text → get_or text at 0 ≢ c → Lacks c (take (at + 1) text)
+lacks_more : (c : ℕ) (text : List ℕ) (at : ℕ) → Lacks c (take at text) → at < length text → eqb (get_or text at 0) c ≡ false → Lacks c (take (at + 1) text)
 lacks_more c text at so_far inside other =
     let P : ℕ → Type 0 = λ b. eqb b c ≡ false in
-    subst (Lacks c) (sym (take_more text at 0 inside)) (All-append P (take at text) (get_or text at 0 ∷ []) so_far (All-cons P (get_or text at 0) [] (ne_eqb (get_or text at 0) c other) (All-nil P)))
+    subst (Lacks c) (sym (take_more text at 0 inside)) (All-append P (take at text) (get_or text at 0 ∷ []) so_far (All-cons P (get_or text at 0) [] other (All-nil P)))
 
--- what stands behind the text
-
-pub text_goes_on : (c : ℕ) (text tail : List ℕ) → behind c tail ≡ None → field_at (word_is text) (split c (text ++ tail)) ≡ None
-text_goes_on c text tail more_bytes = no_text c text (text ++ tail) (λ more e. goes_on c (length text) (text ++ tail) (rw drop-append_seam more_bytes) text more e refl)
-
-pub text_ends : (c : ℕ) (text tail : List ℕ) (ws : Words) → Lacks c text → behind c tail ≡ Some ws → field_at (word_is text) (split c (text ++ tail)) ≡ Some (tt, ws)
-text_ends c text tail ws lacks ended = ap (field_at (word_is text)) (ended_part c text tail ws lacks ended) ∙ keyword_again text ws
+-- one byte more
+pub held_more : (c : ℕ) (text : List ℕ) (at : ℕ) (held here : Bool) → at < length text → eqb (get_or text at 0) c ≡ here
+    → (held ≡ false → Lacks c (take at text)) × (held ≡ true → Holds c text) → ((held || here) ≡ false → Lacks c (take (at + 1) text)) × ((held || here) ≡ true → Holds c text)
+held_more c text at true here inside is so_far = (λ e. absurd cc, λ e. so_far.1 refl)
+held_more c text at false true inside is so_far = (λ e. absurd cc, λ e. (at, inside, eqb-true (get_or text at 0) c is))
+held_more c text at false false inside is so_far = (λ e. lacks_more c text at (so_far.0 refl) inside is, λ e. absurd cc)
 
 -- ---- a spelling with the space that ends it
 

@@ -1,6 +1,6 @@
 -- Working definitions: no public contract cites them.
 -- Where a first part ends.
-use Rattle.std.specs.Prelude.{◌≡◌, ◌≢◌, ℕ, ◌==◌, if◌then◌else◌, true, false, List, [], ◌∷◌, length, Option, Some, None}
+use Rattle.std.specs.Prelude.{◌≡◌, ◌≢◌, ◌<◌, get_or, ℕ, ◌==◌, if◌then◌else◌, true, false, List, [], ◌∷◌, length, Option, Some, None}
 use Rattle.std.specs.List.{All}
 use Rattle.cm_text.specs.Plain.{is_plain}
 use Rattle.cm_text.specs.Words.{Words, split}
@@ -13,6 +13,10 @@ behind separator (b ∷ bs) = if b == separator then Some (split separator bs) e
 -- no byte is the separator (own)
 abbrev pub Lacks : ℕ → List ℕ → Type 0
 Lacks separator w = All (λ b. (b == separator) ≡ false) w
+
+-- the separator is one of the bytes (own)
+abbrev pub Holds : ℕ → List ℕ → Type 0
+Holds separator w = (at : ℕ) × (at < length w) × (get_or w at 0 ≡ separator)
 
 -- the first part has another number of bytes (own)
 abbrev pub IsOfOtherWidth : ℕ → Words → Type 0

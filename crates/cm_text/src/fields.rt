@@ -1,14 +1,15 @@
-ghost use Rattle.std.specs.Prelude.{◌≡◌, ◌≤◌, ◌==◌, ◌∷◌, ◌++◌, [], ℕ, length, map, Some, None, MatchOption, IfSome, IfNone, position};
+ghost use Rattle.std.specs.Prelude.{◌≡◌, ◌≤◌, ◌==◌, ◌∷◌, ◌++◌, [], true, false, length, map, Some, None, MatchOption, IfSome, IfNone, position};
 ghost use Rattle.std.specs.Simd.Lanes.{mask_l};
 ghost use Rattle.cm_text.specs.Words.{split};
 ghost use Rattle.cm_text.specs.Decimal.{dec_of};
 ghost use Rattle.cm_text.specs.Hex.{two_of, four_of, eight_of};
 ghost use Rattle.cm_text.specs.Reading.{with_rest, field_at, word_is, is_empty};
 ghost use Rattle.cm_text.specs.Left.{parts};
-ghost use Rattle.cm_text.specs.Ends.{behind, Lacks, IsOfOtherWidth, IsFirst};
+ghost use Rattle.cm_text.specs.Ends.{behind, Lacks, Holds, IsOfOtherWidth, IsFirst};
 
 use crate::decimal::{near_decimal, read_decimal};
 use crate::hex::{read_hex2, read_hex4, read_hex8};
+use crate::words::is_word;
 use memchr::memchr;
 use std::simd::prelude::*;
 
@@ -101,32 +102,54 @@ fn near_field(bytes: &[u8], width: usize) -> Option<(&[u8], &[u8])>
     }
 }
 
-// What follows the text, if these bytes begin with it and the separator isn't in it.
+// Whether the separator is in the text. With no way out at the first one, this is known of a
+// constant text.
 #[inline(always)]
-fn behind_text<'a>(bytes: &'a [u8], text: &[u8], separator: u8) -> Option<&'a [u8]>
+fn holds(text: &[u8], separator: u8) -> bool
+    ensures lacks { result ≡ false → Lacks separator text.now }
+    ensures holds { result ≡ true → Holds separator text.now }
+{
+    let mut held = false;
+    for at in 0..text.len() {
+        held |= text[at] == separator;
+    }
+    held
+}
+
+// What is left behind the text, if it is the first part of these bytes.
+#[inline(always)]
+fn behind_text<'a>(bytes: &'a [u8], text: &[u8], separator: u8) -> Option<Option<&'a [u8]>>
     ensures { MatchOption result
         (field_at (word_is text.now) (split separator bytes.now) ≡ None)
-        (λ tail. (bytes.now ≡ text.now ++ tail.now) × Lacks separator text.now) }
+        (λ rest. split separator bytes.now ≡ text.now ∷ parts separator rest) }
 {
     if bytes.len() < text.len() {
         return None;
     }
-    for at in 0..text.len() {
-        if bytes[at] != text[at] {
-            return None;
-        }
-        if text[at] == separator {
-            return None;
-        }
+    let (front, tail) = bytes.split_at(text.len());
+    if !is_word(front, text) {
+        return None;
     }
-    let (_, tail) = bytes.split_at(text.len());
-    Some(tail)
+    if holds(text, separator) {
+        return None;
+    }
+    behind(tail, separator)
+}
+
+// As `behind_text`, where the separator is no constant.
+#[inline(never)]
+fn behind_any_text<'a>(bytes: &'a [u8], text: &[u8], separator: u8) -> Option<Option<&'a [u8]>>
+    ensures { MatchOption result
+        (field_at (word_is text.now) (split separator bytes.now) ≡ None)
+        (λ rest. split separator bytes.now ≡ text.now ∷ parts separator rest) }
+{
+    behind_text(bytes, text, separator)
 }
 
 /// The parts of some bytes that are still to be read: the fields of a line, with a space as
 /// separator, or the lines of a text, with a line feed. Contracts see the list of these parts.
 ///
-/// Where a reading method gives `None`, nothing is said of what is left then.
+/// Where a reading method gives `None`, nothing is said of what is left then, unless it says so.
 #[derive(Clone, Copy)]
 pub struct Fields<'a> {
     separator: u8,
@@ -265,13 +288,21 @@ impl<'a> Fields<'a> {
     }
 
     /// `Some` where the next field is just this text; `None` where it is another, or no field is
-    /// left.
-    #[tactic(auto, unfolding(crate::specs::Reading::field_at))]
+    /// left, and then nothing was read.
+    #[inline(always)]
+    #[tactic(auto, unfolding(crate::specs::Reading::field_at), using(crate::proofs::Fronts::keyword_again))]
     pub fn keyword(&mut self, text: &[u8]) -> Option<()>
-        ensures { field_at (word_is text.now) (left self.old) ≡ with_rest result (left self.new) }
+        ensures value { field_at (word_is text.now) (left self.old) ≡ with_rest result (left self.new) }
+        ensures taken { IfSome result (λ u. left self.old ≡ text.now ∷ left self.new) }
+        ensures stays { IfNone result (left self.new ≡ left self.old) }
     {
-        let tail = behind_text(self.rest?, text, self.separator)?;
-        self.rest = behind(tail, self.separator)?;
+        let bytes = self.rest?;
+        let rest = if self.separator == b' ' {
+            behind_text(bytes, text, b' ')?
+        } else {
+            behind_any_text(bytes, text, self.separator)?
+        };
+        self.rest = rest;
         Some(())
     }
 

@@ -212,6 +212,15 @@ fn a_keyword_is_a_whole_field(rt: HostRuntime) {
     assert_eq!(rt; Fields::new(b"size", b' ').keyword(b""), None);
     assert_eq!(rt; Fields::new(b"a b", b' ').keyword(b"a b"), None);
     assert_eq!(rt; Fields::new(b"a b", b'b').keyword(b"a "), Some(()));
+    assert_eq!(rt; Fields::new(b"a b", b'b').keyword(b"a b"), None);
+    let mut fields = Fields::new(b"size 1", b' ');
+    assert_eq!(rt; fields.keyword(b"length"), None);
+    assert_eq!(rt; fields.keyword(b"siz"), None);
+    assert_eq!(rt; fields.keyword(b"sizes"), None);
+    assert_eq!(rt; fields.keyword(b"size 1"), None);
+    assert_eq!(rt; fields.keyword(b"size"), Some(()));
+    assert_eq!(rt; fields.keyword(b"1"), Some(()));
+    assert_eq!(rt; fields.keyword(b"1"), None);
 }
 
 #[test]
