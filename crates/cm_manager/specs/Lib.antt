@@ -12,3 +12,4 @@ pub use Rattle.cm_journal.specs.Fits
 pub use Rattle.cm_journal.specs.Journals
 pub use Rattle.cm_journal.specs.Inputs
 pub use Rattle.cm_writer.specs.Report
+pub use Rattle.cm_writer.specs.Summaries

@@ -9,11 +9,11 @@ mod tests;
 
 pub use cm_history::{Call, Entry, Orders, Phase, Reply, abort_code, frames};
 pub use cm_journal::{
-    FaultKind, Journal, JournalFault, ReadFault, Replayed, journal_read, journal_read_from,
+    FaultKind, Journal, JournalFault, ReadFault, Replayed, journal_read, journal_replay,
     no_text_goes_on, one_text,
 };
 pub use cm_replay::{
     boots_start_rightly, network_becomes_operational_rightly, replay, replay_to_fault,
 };
 pub use cm_sequential::Manager;
-pub use cm_writer::{Head, journal_write, report, report_by};
+pub use cm_writer::{Cause, Head, Summary, Untaken, journal_write, report};

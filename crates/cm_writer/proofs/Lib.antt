@@ -1,3 +1,4 @@
 mod Reports
 pub mod Puts
 pub mod Walks
+mod Summaries
