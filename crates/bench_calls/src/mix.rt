@@ -1,7 +1,8 @@
 use arrayvec::ArrayVec;
-use cm_boot::{Answers, Got, Heard};
+use cm_answers::{Answers, Got, Heard};
 use cm_history::{Call, Phase};
-use cm_netlist::{Assignment, Network, SlaveEntry, Startup, Terms, Write};
+use cm_objects::{Assignment, Startup, Terms, Write};
+use cm_netlist::{Network, SlaveEntry};
 use cm_nmt::{NmtState, NodeId};
 use cm_sequential::Manager;
 use std::alloc::Global;

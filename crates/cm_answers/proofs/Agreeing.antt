@@ -1,9 +1,9 @@
 -- No identity is wrong where all of them agree, and each was read just where it is expected.
 use Rattle.std.proofs.Common.{◌≡◌, true, false, arith}
 use Rattle.std.proofs.lemmas.Grind.{common_steps}
-use Rattle.cm_netlist.specs.declared.terms.Terms.{Terms}
-use Rattle.cm_answers.specs.Lawful.{condition, identity_agrees, is_complete, is_used, matches, product_agrees, revision_agrees, vendor_agrees}
-use Rattle.cm_answers.specs.Settled.{is_settled}
+use Rattle.cm_objects.specs.declared.terms.Terms.{Terms}
+use Rattle.cm_answers.specs.Conditions.{condition, identity_agrees, is_complete, is_used, matches, product_agrees, revision_agrees, vendor_agrees}
+use Rattle.cm_answers.specs.Judging.{is_settled}
 use Rattle.cm_answers.specs.Verdict.{is_wrong}
 use Rattle.cm_answers.specs.declared.answers.Answers.{Answers}
 use Rattle.cm_answers.specs.declared.field.Field.TheVariants.{Vendor, Product, Revision, Serial}

@@ -1,2 +1,2 @@
 mod Agreeing
-mod Both
+pub mod Both

@@ -2,7 +2,7 @@ pub mod Got
 pub mod Heard
 pub mod Answers
 pub mod Fields
-pub mod Lawful
-pub mod Settled
+pub mod Conditions
+pub mod Judging
 pub mod Status
 pub mod Verdict

@@ -1,5 +1,5 @@
--- The letters of the error statuses (CiA 302-2, boot slave).
-use Rattle.std.specs.Prelude.{ℕ, List, codes}
+-- The error statuses of a boot: their letters, and what they mean for the slave (CiA 302-2, boot slave).
+use Rattle.std.specs.Prelude.{ℕ, Bool, true, false, List, codes}
 use Rattle.cm_answers.specs.declared.status.Status.{Status}
 use Rattle.cm_answers.specs.declared.status.Status.TheVariants.{Ok, A, B, C, D, E, F, G, J, K, L, M, N, O}
 
@@ -19,3 +19,27 @@ status_letter L = codes "L"
 status_letter M = codes "M"
 status_letter N = codes "N"
 status_letter O = codes "O"
+
+-- the slave is booted: Ok, or L, found operational and kept alive
+abbrev pub is_good : Status → Bool
+is_good Ok = true
+is_good L = true
+is_good _ = false
+
+-- the boot may be tried again: B, no device type was read
+abbrev pub is_retried : Status → Bool
+is_retried B = true
+is_retried _ = false
+
+-- the slave wasn't there: B, E, F, K
+abbrev pub is_missing : Status → Bool
+is_missing B = true
+is_missing E = true
+is_missing F = true
+is_missing K = true
+is_missing _ = false
+
+-- no error: the slave may be started (CiA 302-2, boot slave)
+abbrev pub is_ok : Status → Bool
+is_ok Ok = true
+is_ok _ = false

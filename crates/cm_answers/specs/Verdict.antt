@@ -1,11 +1,11 @@
 -- What a boot comes to (CiA 302-2, boot slave, error statuses; where each applies is own).
 use Rattle.std.specs.Prelude.{ℕ, Bool, ◌==◌, ◌&&◌, not, if◌then◌else◌, Option, Some, None}
-use Rattle.cm_netlist.specs.Bits.{has_bit}
-use Rattle.cm_netlist.specs.declared.terms.Terms.{Terms}
+use Rattle.cm_objects.specs.Bits.{has_bit}
+use Rattle.cm_objects.specs.declared.terms.Terms.{Terms}
 use Rattle.cm_answers.specs.Got.{is_answered, has_value, is_value}
 use Rattle.cm_answers.specs.Heard.{is_silent, is_operational}
 use Rattle.cm_answers.specs.Answers.{id_of}
-use Rattle.cm_answers.specs.Lawful.{is_lawful}
+use Rattle.cm_answers.specs.Conditions.{is_lawful}
 use Rattle.cm_answers.specs.declared.answers.Answers.{Answers}
 use Rattle.cm_answers.specs.declared.status.Status.{Status}
 use Rattle.cm_answers.specs.declared.status.Status.TheVariants.{Ok, A, B, C, D, E, F, G, J, K, L, M, N, O}

@@ -12,20 +12,20 @@
 #![tactic(auto)]
 
 mod answers;
+mod conditions;
 mod field;
 mod got;
 mod heard;
-mod lawful;
-mod settled;
+mod judging;
 mod status;
 #[cfg(test)]
 mod tests;
 mod verdict;
 
 pub use answers::{Answers, count_ids};
+pub use conditions::{condition, is_complete};
 pub use field::{Field, fields};
 pub use got::Got;
 pub use heard::Heard;
-pub use lawful::{condition, is_complete};
 pub use status::Status;
 pub use verdict::{judged_by_tables, status_of};

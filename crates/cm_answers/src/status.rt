@@ -1,5 +1,5 @@
 ghost use Rattle.std.specs.Prelude.{◌≡◌};
-ghost use Rattle.cm_answers.specs.Status.{status_letter};
+ghost use Rattle.cm_answers.specs.Status.{is_good, is_missing, is_ok, is_retried, status_letter};
 
 /// What a boot came to: the error statuses of CiA 302-2, boot slave, without H and I, which
 /// belong to program download.
@@ -56,5 +56,33 @@ impl Status {
             Status::N => "N",
             Status::O => "O",
         }
+    }
+
+    /// Whether the slave is booted: Ok, or L, found operational and kept alive.
+    pub fn is_good(self) -> bool
+        ensures { result ≡ is_good self }
+    {
+        matches!(self, Status::Ok | Status::L)
+    }
+
+    /// Whether the slave may be started: no error.
+    pub fn is_ok(self) -> bool
+        ensures { result ≡ is_ok self }
+    {
+        matches!(self, Status::Ok)
+    }
+
+    /// Whether the boot may be tried again: B, no device type was read.
+    pub fn is_retried(self) -> bool
+        ensures { result ≡ is_retried self }
+    {
+        matches!(self, Status::B)
+    }
+
+    /// Whether the slave wasn't there: B, E, F, K.
+    pub fn is_missing(self) -> bool
+        ensures { result ≡ is_missing self }
+    {
+        matches!(self, Status::B | Status::E | Status::F | Status::K)
     }
 }

@@ -1,6 +1,6 @@
 use crate::{Answers, Got, Heard, Status, judged_by_tables};
-use cm_netlist::{Assignment, Terms};
 use cm_nmt::NmtState;
+use cm_objects::{Assignment, Terms};
 
 /// The device type that the slaves of these tests give.
 const TYPE: Got = Got::Value(0x0002_0192);

@@ -1,16 +1,16 @@
 ghost use Rattle.std.specs.Prelude.{◌≡◌, ◌<◌, ◌&&◌, ◌==◌, not, true, false, Some};
 ghost use Rattle.cm_answers.specs.Verdict.{is_wrong, judged, verdict};
-ghost use Rattle.cm_netlist.specs.Bits.{has_bit};
+ghost use Rattle.cm_objects.specs.Bits.{has_bit};
 ghost use Rattle.cm_answers.specs.Got.{has_value, is_value};
-ghost use Rattle.cm_answers.specs.Lawful.{identity_agrees};
-ghost use Rattle.cm_answers.specs.Settled.{is_settled};
+ghost use Rattle.cm_answers.specs.Conditions.{identity_agrees};
+ghost use Rattle.cm_answers.specs.Judging.{is_settled};
 ghost use Rattle.cm_answers.specs.Fields.{fields};
 ghost use Rattle.std.specs.List.{list_all};
 
-use crate::lawful::has_no_answer;
-use crate::settled::lawful_identity;
+use crate::conditions::has_no_answer;
+use crate::judging::lawful_identity;
 use crate::{Answers, Status};
-use cm_netlist::Terms;
+use cm_objects::Terms;
 
 /// Whether an identity was read and isn't the expected one.
 fn is_wrong(answers: &Answers, place: usize, expected: u32) -> bool
@@ -54,7 +54,7 @@ fn status_after_identity(terms: &Terms, answers: &Answers) -> Status
 
 /// The status of answers with which a boot can end and whose identity agrees. None of its values is
 /// compared again: each was read where it is expected, and as expected.
-#[tactic(auto, unfolding(crate::specs::Lawful::identity_agrees, crate::specs::Lawful::revision_agrees, crate::specs::Lawful::product_agrees, crate::specs::Lawful::vendor_agrees, crate::specs::Lawful::asks_identity, crate::specs::Lawful::device_agrees))]
+#[tactic(auto, unfolding(crate::specs::Conditions::identity_agrees, crate::specs::Conditions::revision_agrees, crate::specs::Conditions::product_agrees, crate::specs::Conditions::vendor_agrees, crate::specs::Conditions::asks_identity, crate::specs::Conditions::device_agrees))]
 fn status_of_agreeing(terms: &Terms, answers: &Answers) -> Status
     requires agrees { identity_agrees terms.now answers.now ≡ true }
     requires settled { list_all (λ f. is_settled terms.now answers.now f) fields ≡ true }

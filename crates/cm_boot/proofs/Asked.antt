@@ -6,13 +6,13 @@ use Rattle.std.proofs.lemmas.Option.{slice_get_within, get_or_from_slice_get}
 use Rattle.std.proofs.lemmas.Grind.{flat_map-append}
 use Rattle.std.proofs.lemmas.Bool.Decides.{nat_tests}
 use Rattle.cm_netlist.specs.declared.entry.SlaveEntry.{SlaveEntry}
-use Rattle.cm_netlist.specs.declared.terms.Terms.{Terms}
-use Rattle.cm_netlist.specs.declared.write.Write.{Write}
+use Rattle.cm_objects.specs.declared.terms.Terms.{Terms}
+use Rattle.cm_objects.specs.declared.write.Write.{Write}
 use Rattle.cm_answers.specs.Got.{is_answered}
 use Rattle.cm_answers.specs.Heard.{is_heard}
 use Rattle.cm_answers.specs.Answers.{id_of}
 use Rattle.cm_answers.specs.Fields.{fields}
-use Rattle.cm_answers.specs.Lawful.{is_complete, is_proper, is_used}
+use Rattle.cm_answers.specs.Conditions.{is_complete, is_proper, is_used}
 use Rattle.cm_boot.specs.Questions.{question}
 use Rattle.cm_boot.specs.Machine.{got_of, heard_of, next_field, with_answer, with_write}
 use Rattle.cm_boot.specs.Talk.{asked, asked_of, each_of, given, given_state}
@@ -27,7 +27,7 @@ use Rattle.cm_boot.specs.declared.question.Question.{Question}
 use Rattle.cm_boot.specs.declared.question.Question.TheVariants as ask
 use Rattle.cm_boot.specs.declared.question.Answer.{Answer}
 use Rattle.cm_boot.specs.declared.question.Answer.TheVariants as answer
-use Rattle.cm_boot.proofs.Due.{and_left, and_right}
+use Rattle.cm_answers.proofs.Both.{and_left, and_right}
 use Rattle.cm_boot.proofs.Order.{place}
 use Rattle.cm_boot.proofs.Stays.{IsKept, by_field, of_four, uses_stay}
 use Rattle.cm_boot.proofs.Kept.{none_later, due_field}

@@ -3,10 +3,10 @@ use Rattle.std.proofs.Common.{◌≡◌, ℕ, suc, zero, ◌<◌, Bool, true, fa
 use Rattle.std.specs.List.{list_all, find, slice_get}
 use Rattle.cm_netlist.specs.Network.{terms_of}
 use Rattle.cm_netlist.specs.declared.entry.SlaveEntry.{SlaveEntry}
-use Rattle.cm_netlist.specs.declared.terms.Terms.{Terms}
+use Rattle.cm_objects.specs.declared.terms.Terms.{Terms}
 use Rattle.cm_answers.specs.Answers.{none, id_of}
 use Rattle.cm_answers.specs.Fields.{fields}
-use Rattle.cm_answers.specs.Lawful.{condition, is_complete, is_lawful, is_proper, is_used, writes_are_counted}
+use Rattle.cm_answers.specs.Conditions.{condition, is_complete, is_lawful, is_proper, is_used, writes_are_counted}
 use Rattle.cm_boot.specs.Questions.{question}
 use Rattle.cm_boot.specs.Machine.{Booting, due, next_field, next_step, question_due, step_of, terms}
 use Rattle.cm_answers.specs.Verdict.{judged, verdict}
@@ -17,17 +17,7 @@ use Rattle.cm_boot.specs.declared.question.Step.TheVariants.{Ask, Done}
 use Rattle.std.proofs.lemmas.Bool.Decides.{nat_tests}
 use Rattle.cm_answers.specs.declared.field.Field.{Field}
 use Rattle.cm_answers.specs.declared.field.Field.TheVariants.{Device, Vendor, Product, Revision, Serial, State, Date, Time, Writes, Beat}
-
-pub and_left : (a b : Bool) → (a && b) ≡ true → a ≡ true
-and_left true b e = refl
-and_left false b e = e
-
-pub and_right : (a b : Bool) → (a && b) ≡ true → b ≡ true
-and_right true b e = e
-and_right false b e = cc
-
-pub both : (a b : Bool) → a ≡ true → b ≡ true → (a && b) ≡ true
-both a b p q = rw (p, q) refl
+use Rattle.cm_answers.proofs.Both.{and_left, and_right, both, judged_is}
 
 passes_step : {X : Type 0} (p : X → Bool) (y x : X) (rest : Option X) → (rest ≡ Some x → p x ≡ true) → (b : Bool) → p y ≡ b → cond b (Some y) rest ≡ Some x → p x ≡ true
 passes_step p y x rest later true is e = let same : y ≡ x = cc in rw (← same) is
@@ -109,15 +99,6 @@ done_step : (o : Option Status) (r : Option Question) (s : Status) → step_of o
 done_step (Some v) r s h = let same : v ≡ s = cc in rw same refl
 done_step None None s h = cc
 done_step None (Some p) s h = cc
-
-judged_by : (b : Bool) (v s : Status) → cond b (Some v) None ≡ Some s → (b ≡ true) × (v ≡ s)
-judged_by true v s h = (refl, cc)
-judged_by false v s h = cc
-
--- a record has a status exactly where it is lawful, and it is the verdict
-pub judged_is : (t : Option Terms) (a : Answers) (s : Status) → judged t a ≡ Some s → (is_lawful t a ≡ true) × (verdict t a ≡ s)
-unfolding judged
-judged_is t a s h = judged_by (is_lawful t a) (verdict t a) s h
 
 pub asked_next : (b : Booting) (q : Question) → next_step b ≡ Some (Ask q) → question_due b ≡ Some q
 asked_next b q h = ask_step (judged (terms b) b.answers) (question_due b) q h

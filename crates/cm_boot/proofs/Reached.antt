@@ -3,12 +3,12 @@ use Rattle.std.proofs.Common.{◌≡◌, ◌∙◌, ◌↔◌, ℕ, suc, zero, �
 use Rattle.std.specs.List.{list_all, find}
 use Rattle.std.proofs.lemmas.Bool.{false≢true}
 use Rattle.std.proofs.lemmas.Bool.Decides.{nat_tests}
-use Rattle.cm_netlist.specs.declared.terms.Terms.{Terms}
+use Rattle.cm_objects.specs.declared.terms.Terms.{Terms}
 use Rattle.cm_answers.specs.Got.{is_answered, is_refusal}
 use Rattle.cm_answers.specs.Heard.{is_heard}
 use Rattle.cm_answers.specs.Answers.{id_of}
 use Rattle.cm_answers.specs.Fields.{fields}
-use Rattle.cm_answers.specs.Lawful.{answers_are_due, asks_identity, comes_to_beat, condition, date_agrees, date_differs, device_agrees, identity_agrees, is_complete, is_dated, is_finished, is_proper, is_used, matches, may_configure, must_write, product_agrees, revision_agrees, vendor_agrees, writes_are_counted}
+use Rattle.cm_answers.specs.Conditions.{answers_are_due, asks_identity, comes_to_beat, condition, date_agrees, date_differs, device_agrees, identity_agrees, is_complete, is_dated, is_finished, is_proper, is_used, matches, may_configure, must_write, product_agrees, revision_agrees, vendor_agrees, writes_are_counted}
 use Rattle.cm_boot.specs.Machine.{due, got_of, heard_of, next_field, with_answer}
 use Rattle.cm_boot.specs.Procedure.{IsEnd, Reached}
 use Rattle.cm_boot.specs.Procedure.Move.{Asks, Ends}
@@ -24,11 +24,12 @@ use Rattle.cm_answers.specs.declared.field.Field.{Field}
 use Rattle.cm_answers.specs.declared.field.Field.TheVariants.{Device, Vendor, Product, Revision, Serial, State, Date, Time, Writes, Beat}
 use Rattle.cm_boot.specs.declared.question.Answer.{Answer}
 use Rattle.cm_boot.specs.declared.question.Answer.TheVariants as answer
-use Rattle.cm_boot.proofs.Due.{and_left, and_right, judged_from_lawful, judged_is, lawful_from_due, none_from_lawful, none_is_proper}
+use Rattle.cm_answers.proofs.Both.{and_left, and_right, judged_is, all_at}
+use Rattle.cm_boot.proofs.Due.{judged_from_lawful, lawful_from_due, none_from_lawful, none_is_proper}
 use Rattle.cm_boot.proofs.Moves.{move_is, move_to}
 use Rattle.cm_boot.proofs.Order.{place, stands}
 use Rattle.cm_boot.proofs.Stays.{of_four, four_stay}
-use Rattle.cm_boot.proofs.Kept.{used_has_condition, proper_kept, all_at}
+use Rattle.cm_boot.proofs.Kept.{used_has_condition, proper_kept}
 use Rattle.cm_boot.proofs.Asked.{before, after, parts, all_before}
 
 -- ---- what is reached is proper

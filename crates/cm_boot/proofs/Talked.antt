@@ -9,7 +9,7 @@ use Rattle.cm_netlist.specs.declared.entry.SlaveEntry.{SlaveEntry}
 use Rattle.cm_netlist.specs.Network.{terms_of}
 use Rattle.cm_answers.specs.Got.{is_answered, is_refusal}
 use Rattle.cm_answers.specs.Fields.{fields}
-use Rattle.cm_answers.specs.Lawful.{is_lawful, is_proper, writes_are_counted}
+use Rattle.cm_answers.specs.Conditions.{is_lawful, is_proper, writes_are_counted}
 use Rattle.cm_boot.specs.Questions.{counted, fits, question}
 use Rattle.cm_boot.specs.Machine.{Booting, IsBooting, answered, due, got_of, heard_of, next_field, question_due, terms, with_answer, with_write}
 use Rattle.cm_boot.specs.Talk.{Talks, asked, asked_of, each_of, given, given_state}
@@ -26,7 +26,8 @@ use Rattle.cm_boot.specs.declared.question.Answer.{Answer}
 use Rattle.cm_boot.specs.declared.question.Answer.TheVariants as answer
 use Rattle.cm_boot.proofs.Order.{place}
 use Rattle.cm_answers.specs.Answers.{none, id_of}
-use Rattle.cm_boot.proofs.Due.{and_left, both, lawful_from_none, question_is_there}
+use Rattle.cm_answers.proofs.Both.{and_left, both}
+use Rattle.cm_boot.proofs.Due.{lawful_from_none, question_is_there}
 use Rattle.cm_boot.proofs.Kept.{proper_kept}
 use Rattle.cm_boot.proofs.Stays.{four_stay}
 use Rattle.cm_boot.proofs.Asked.{asked_more, write_asked, none_of}

@@ -3,9 +3,9 @@ use Rattle.std.specs.Prelude.{◌≡◌, ◌≤◌, IfSome, length, ◌+◌, tru
 use Rattle.std.specs.List.{find}
 use Rattle.cm_netlist.specs.Network.{terms_of}
 use Rattle.cm_netlist.specs.declared.entry.SlaveEntry.{SlaveEntry}
-use Rattle.cm_netlist.specs.declared.terms.Terms.{Terms}
+use Rattle.cm_objects.specs.declared.terms.Terms.{Terms}
 use Rattle.cm_answers.specs.Fields.{fields}
-use Rattle.cm_answers.specs.Lawful.{condition, is_complete, is_proper}
+use Rattle.cm_answers.specs.Conditions.{condition, is_complete, is_proper}
 use Rattle.cm_boot.specs.Questions.{question}
 use Rattle.cm_answers.specs.Verdict.{judged}
 use Rattle.cm_answers.specs.declared.answers.Answers.{Answers}

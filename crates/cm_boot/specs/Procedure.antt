@@ -3,13 +3,13 @@
 -- tables of Lawful and Verdict speak of finished records and never of this machine; a law says that
 -- the records with which it ends, and its status there, are those of the tables.
 use Rattle.std.specs.Prelude.{◌≡◌, Bool, ◌==◌, ◌&&◌, not, if◌then◌else◌, List, [], ◌∷◌, Option, Some, None}
-use Rattle.cm_netlist.specs.Bits.{has_bit}
-use Rattle.cm_netlist.specs.declared.terms.Terms.{Terms}
+use Rattle.cm_objects.specs.Bits.{has_bit}
+use Rattle.cm_objects.specs.declared.terms.Terms.{Terms}
 use Rattle.cm_answers.specs.Got.{has_value, is_answered, is_value}
 use Rattle.cm_answers.specs.Heard.{is_operational, is_silent}
 use Rattle.cm_answers.specs.Answers.{none}
 use Rattle.cm_answers.specs.Fields.{fields}
-use Rattle.cm_answers.specs.Lawful.{date_agrees, is_complete, is_dated}
+use Rattle.cm_answers.specs.Conditions.{date_agrees, is_complete, is_dated}
 use Rattle.cm_boot.specs.Machine.{with_answer}
 use Rattle.cm_answers.specs.Verdict.{is_wrong}
 use Rattle.cm_answers.specs.declared.answers.Answers.{Answers}

@@ -1,6 +1,6 @@
 ghost use Rattle.std.specs.Prelude.{◌≡◌, ◌≤◌, ℕ, true, Some, length};
 ghost use Rattle.cm_netlist.specs.Network.{entry as entry_of, terms as terms_in};
-ghost use Rattle.cm_answers.specs.Lawful.{is_lawful};
+ghost use Rattle.cm_answers.specs.Conditions.{is_lawful};
 ghost use Rattle.cm_boot.specs.Machine.{answered, question_due};
 ghost use Rattle.cm_boot.specs.Questions.{counted};
 ghost use Rattle.cm_boot.specs.Talk.{Talks, asked};

@@ -1,6 +1,6 @@
 use crate::Status;
-use cm_netlist::Write;
 use cm_nmt::NmtState;
+use cm_objects::Write;
 
 /// What a boot asks of its slave.
 #[derive(Clone, Copy, Debug, PartialEq, Eq)]

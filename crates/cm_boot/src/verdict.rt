@@ -5,8 +5,9 @@ ghost use Rattle.cm_answers.specs.Verdict.{judged};
 
 use crate::{Answers, Status};
 use cm_answers::{count_ids, judged_by_tables};
-use cm_netlist::{Network, Terms};
+use cm_netlist::Network;
 use cm_nmt::NodeId;
+use cm_objects::Terms;
 
 /// The status of a boot of the slave that ended with these answers; `None` exactly where no boot
 /// ends with them. `terms` is what is listed of the slave, `None` for one that isn't listed.

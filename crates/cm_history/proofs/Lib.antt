@@ -1,2 +1,1 @@
-pub mod Ids
-mod Resets
+pub mod OpenSlaves

@@ -8,13 +8,14 @@ use Rattle.cm_nmt.specs.declared.command.Command.{Command}
 use Rattle.cm_nmt.specs.declared.state.NmtState.{NmtState}
 use Rattle.cm_nmt.specs.declared.state.NmtState.TheVariants as state
 use Rattle.cm_nmt.specs.declared.command.Command.TheVariants as command
+use Rattle.cm_answers.specs.Status.{is_good, is_ok}
 use Rattle.cm_answers.specs.Verdict.{judged}
 use Rattle.cm_answers.specs.declared.status.Status.{Status}
 use Rattle.cm_answers.specs.declared.status.Status.TheVariants as status
-use Rattle.cm_history.specs.Listing.{Listing, is_listed, is_to_be_booted, is_mandatory, is_master, starts_all_at_once, leaves_operational_to_application, starts_no_slave, resets_all_on_error, stops_all_on_error}
+use Rattle.cm_objects.specs.Listing.{Listing, is_listed, is_to_be_booted, is_mandatory, is_master, starts_all_at_once, leaves_operational_to_application, starts_no_slave, resets_all_on_error, stops_all_on_error}
 use Rattle.cm_history.specs.Orders.{to_every, to_node}
 use Rattle.cm_history.specs.Phases.{is_idle, is_booting, is_ready, is_halted}
-use Rattle.cm_history.specs.History.{is_good, is_fatal, is_empty, is_reset_value, phase_of, own_of, begun_in, open_of, state_of, is_booted, session_of}
+use Rattle.cm_history.specs.History.{is_fatal, is_empty, is_reset_value, phase_of, own_of, begun_in, open_of, state_of, is_booted, session_of}
 use Rattle.cm_history.specs.declared.call.Call.{Call}
 use Rattle.cm_history.specs.declared.call.Call.TheVariants as call
 use Rattle.cm_history.specs.declared.call.Reply.{Reply}
@@ -133,10 +134,6 @@ first_refusal (p ∷ ps) = if p.1 then Some p.0 else first_refusal ps
 abbrev pub is_operational : NmtState → Bool
 is_operational state.Operational = true
 is_operational _ = false
-
-abbrev pub is_ok : Status → Bool
-is_ok status.Ok = true
-is_ok _ = false
 
 -- the open slaves once a boot of i came to this status
 abbrev pub open_less : List ℕ → ℕ → Status → List ℕ

@@ -4,19 +4,18 @@
 use Rattle.std.specs.Prelude.{ℕ, Bool, true, false, ◌==◌, ◌&&◌, ◌||◌, not, if◌then◌else◌, ◌+◌, ◌%◌, List, [], ◌∷◌, ◌++◌, filter, Option, Some, None, option_map, option_to_list, unwrap_or}
 use Rattle.std.specs.Option.{option_or, is_some}
 use Rattle.std.specs.List.{list_any}
-use Rattle.cm_nmt.specs.Codes.{state_code, state_of_code}
+use Rattle.cm_nmt.specs.Codes.{state_code, state_left, state_of_code}
 use Rattle.cm_nmt.specs.declared.state.NmtState.{NmtState}
 use Rattle.cm_nmt.specs.declared.state.NmtState.TheVariants as state
 use Rattle.cm_nmt.specs.declared.command.Command.{Command}
-use Rattle.cm_netlist.specs.Network.{node_ids}
+use Rattle.cm_objects.specs.Listing.{node_ids, Listing, is_listed, is_mandatory, leaves_operational_to_application}
 use Rattle.cm_answers.specs.Got.{is_answered}
+use Rattle.cm_answers.specs.Status.{is_good, is_missing, is_retried}
 use Rattle.cm_answers.specs.declared.answers.Answers.{Answers}
 use Rattle.cm_answers.specs.declared.heard.Heard.{Heard}
 use Rattle.cm_answers.specs.declared.heard.Heard.TheVariants as heard
 use Rattle.cm_answers.specs.declared.status.Status.{Status}
-use Rattle.cm_answers.specs.declared.status.Status.TheVariants as status
-use Rattle.cm_history.specs.Listing.{Listing, is_listed, is_mandatory, leaves_operational_to_application}
-use Rattle.cm_history.specs.Orders.{to_all, is_start_of, is_reset, is_reset_all, is_stop_all, state_left}
+use Rattle.cm_history.specs.Orders.{to_all, is_start_of, is_reset, is_reset_all, is_stop_all}
 use Rattle.cm_history.specs.Phases.{is_booting, is_ready}
 use Rattle.cm_history.specs.declared.call.Call.{Call}
 use Rattle.cm_history.specs.declared.call.Call.TheVariants as call
@@ -59,29 +58,10 @@ abbrev pub begun_number : Reply → Option ℕ
 begun_number (reply.Begun n) = Some n
 begun_number _ = None
 
--- the slave is booted: Ok, or L, found operational and kept alive
-abbrev pub is_good : Status → Bool
-is_good status.Ok = true
-is_good status.L = true
-is_good _ = false
-
 -- the reply is Reported with the status Ok or L
 abbrev pub is_good_report : Reply → Bool
 is_good_report (reply.Reported s) = is_good s
 is_good_report _ = false
-
--- the boot may be tried again: B, no device type was read
-abbrev pub is_retried : Status → Bool
-is_retried status.B = true
-is_retried _ = false
-
--- the slave wasn't there: B, E, F, K
-abbrev pub is_missing : Status → Bool
-is_missing status.B = true
-is_missing status.E = true
-is_missing status.F = true
-is_missing status.K = true
-is_missing _ = false
 
 -- what may be there, where the condition holds
 abbrev pub only_if : {A : Type 0} → Option A → Bool → Option A
@@ -270,3 +250,15 @@ own_of net (e ∷ past) =
 abbrev pub begun_in : List Entry → ℕ
 begun_in [] = 0
 begun_in (e ∷ past) = if is_some (begun_number e.reply) then begun_in past + 1 else begun_in past
+
+-- ---- each slave: the status of its last report
+
+-- the status of a Reported reply to a report of i
+abbrev pub status_by : Call → Reply → ℕ → Option Status
+status_by (call.Report j n a) r i = only_if (reported r) (j == i)
+status_by _ r i = None
+
+-- the status of the last Reported reply of slave i, in a history with its newest entry first
+abbrev pub last_status : List Entry → ℕ → Option Status
+last_status [] i = None
+last_status (e ∷ past) i = option_or (status_by e.call e.reply i) (last_status past i)

@@ -1,5 +1,4 @@
 pub mod Phases
-pub mod Listing
 pub mod Orders
 pub mod History
 pub mod Answering

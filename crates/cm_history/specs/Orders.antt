@@ -27,14 +27,6 @@ abbrev pub is_stop : Command → Bool
 is_stop command.Stop = true
 is_stop _ = false
 
--- the state in which a command leaves a device, 0 (unknown) for a reset
-abbrev pub state_left : Command → ℕ
-state_left command.Start = 5
-state_left command.Stop = 4
-state_left command.EnterPre = 127
-state_left command.ResetNode = 0
-state_left command.ResetComm = 0
-
 abbrev pub is_all : Target → Bool
 is_all target.All = true
 is_all (target.Node i) = false

@@ -1,10 +1,8 @@
 ghost use Rattle.std.specs.Prelude.{◌≡◌};
-ghost use Rattle.cm_history.specs.History.{is_good, is_retried, is_missing, state_reported};
-ghost use Rattle.cm_history.specs.Answering.{is_ok, has_session};
-ghost use Rattle.cm_history.specs.Orders.{state_left};
+ghost use Rattle.cm_history.specs.History.{state_reported};
+ghost use Rattle.cm_history.specs.Answering.{has_session};
 
-use cm_boot::{Answers, Got, Heard, Status};
-use cm_nmt::Command;
+use cm_answers::{Answers, Got, Heard, Status};
 
 /// What a history says of one slave.
 #[derive(Clone, Copy, Debug, PartialEq, Eq)]
@@ -35,39 +33,11 @@ impl Slave {
     }
 }
 
-/// Whether the slave is booted.
-pub fn is_good(status: Status) -> bool
-    ensures { result ≡ is_good status }
-{
-    matches!(status, Status::Ok | Status::L)
-}
-
-/// Whether the boot may be tried again.
-pub fn is_retried(status: Status) -> bool
-    ensures { result ≡ is_retried status }
-{
-    matches!(status, Status::B)
-}
-
-/// Whether the slave was not there.
-fn is_missing(status: Status) -> bool
-    ensures { result ≡ is_missing status }
-{
-    matches!(status, Status::B | Status::E | Status::F | Status::K)
-}
-
-/// Whether the slave may be started.
-pub fn is_ok(status: Status) -> bool
-    ensures { result ≡ is_ok status }
-{
-    matches!(status, Status::Ok)
-}
-
 /// The state in which a boot left its slave.
 pub fn state_reported(status: Status, answers: &Answers) -> u8
     ensures { result ≡ state_reported status answers.now }
 {
-    if is_missing(status) {
+    if status.is_missing() {
         return 1;
     }
     if let Heard::State(state) = answers.beat {
@@ -79,17 +49,5 @@ pub fn state_reported(status: Status, answers: &Answers) -> u8
     match answers.device {
         Got::NotAsked => 0,
         _ => 127,
-    }
-}
-
-/// The state in which a command leaves a device.
-pub fn state_left(command: Command) -> u8
-    ensures { result ≡ state_left command }
-{
-    match command {
-        Command::Start => 5,
-        Command::Stop => 4,
-        Command::EnterPre => 127,
-        Command::ResetNode | Command::ResetComm => 0,
     }
 }

@@ -16,4 +16,4 @@ pub use cm_replay::{
     boots_start_rightly, network_becomes_operational_rightly, replay, replay_to_fault,
 };
 pub use cm_sequential::Manager;
-pub use cm_writer::{Cause, Head, Summary, Untaken, journal_write, report};
+pub use cm_writer::{Cause, CompactReplay, Head, Untaken, journal_write, report};

@@ -2,14 +2,15 @@
 use Rattle.std.specs.Prelude.{◌≡◌, ◌≢◌, ℕ, Bool, true, false, List, [], ◌∷◌, IfSome, Option, Some, None, is_some, option_map, length, refl}
 use Rattle.std.specs.Coded.{Coded, code_by, coded×, coded_ℕ}
 use Rattle.std.specs.Ordering.{nat_cmp}
-use Rattle.std.specs.List.{filter, range_with_len}
+use Rattle.std.specs.List.{filter}
 use Rattle.std.specs.FinMap as map
 use Rattle.std.specs.FinMap.{FinMap}
 use Rattle.cm_nmt.specs.NodeId.{IsNodeId}
-use Rattle.cm_netlist.specs.Bits.{has_bit}
-use Rattle.cm_netlist.specs.Write.{all_fit}
+use Rattle.cm_objects.specs.Listing.{Listing, node_ids}
+use Rattle.cm_objects.specs.Bits.{has_bit}
+use Rattle.cm_objects.specs.Write.{all_fit}
 use Rattle.cm_netlist.specs.declared.entry.SlaveEntry.{SlaveEntry}
-use Rattle.cm_netlist.specs.declared.terms.Terms.{Terms}
+use Rattle.cm_objects.specs.declared.terms.Terms.{Terms}
 
 -- the own node-ID, 1F80h, 1F89h, and what is listed of each slave (CiA 302-2)
 pub record Network : Type 0 where
@@ -95,10 +96,10 @@ expected_of e = e.device_type ∷ e.vendor ∷ e.product ∷ e.revision ∷ e.se
 abbrev pub expected : Network → ℕ → Option (List ℕ)
 expected net i = option_map expected_of (entry net i)
 
--- the node-IDs 1 to 127, in rising order
-unfoldable pub node_ids : List ℕ
-node_ids = range_with_len 1 127
-
 -- the listed nodes, in rising order
 abbrev pub listed_ids : Network → List ℕ
 listed_ids net = filter (is_listed net) node_ids
+
+-- what a network list says, without the writes themselves
+abbrev pub listing : Network → Listing
+listing net = record { own = net.own; startup = net.startup; boot_time = net.boot_time; terms = terms net }

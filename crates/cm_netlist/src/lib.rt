@@ -6,21 +6,14 @@
 //! [`Network::from_toml`] reads a list from TOML.
 #![tactic(auto)]
 
-mod assignment;
 mod document;
 mod entry;
 mod fault;
 mod network;
-mod startup;
-mod terms;
 #[cfg(test)]
 mod tests;
-mod write;
 
-pub use assignment::Assignment;
+pub use cm_objects::{Assignment, Startup, Terms, Write};
 pub use entry::SlaveEntry;
 pub use fault::NetFault;
 pub use network::Network;
-pub use startup::Startup;
-pub use terms::Terms;
-pub use write::Write;

@@ -3,9 +3,10 @@ ghost use Rattle.std.specs.FinMap as map;
 ghost use Rattle.cm_netlist.specs.Network.{IsNetwork, entry, expected, is_kept, is_listed, is_mandatory, listed_ids, terms, with_entry};
 ghost use Rattle.cm_netlist.specs.Add.{add_fault};
 
-use crate::{NetFault, SlaveEntry, Startup, Terms};
+use crate::{NetFault, SlaveEntry};
 use arrayvec::ArrayVec;
 use cm_nmt::NodeId;
+use cm_objects::{Startup, Terms};
 use std::alloc::Global;
 use std::collections::BTreeMap;
 use std::marker::Model;

@@ -48,3 +48,11 @@ command_of_request value =
     else if value == 7 then Some ResetComm
     else if value == 127 then Some EnterPre
     else None
+
+-- the state in which a command leaves a device, by its number; 0, unknown, for a reset (CiA 301, NMT node control)
+abbrev pub state_left : Command → ℕ
+state_left Start = 5
+state_left Stop = 4
+state_left EnterPre = 127
+state_left ResetNode = 0
+state_left ResetComm = 0

@@ -1,5 +1,5 @@
 ghost use Rattle.std.specs.Prelude.{◌≡◌, ◌≢◌, MatchOption};
-ghost use Rattle.cm_nmt.specs.Codes.{command_of_request, specifier_code};
+ghost use Rattle.cm_nmt.specs.Codes.{command_of_request, specifier_code, state_left};
 
 /// An NMT command (CiA 301, NMT node control).
 #[derive(Clone, Copy, Debug, Default, PartialEq, Eq)]
@@ -14,6 +14,19 @@ pub enum Command {
 
 impl Command {
     ghost use Rattle.cm_nmt.specs.declared.command.Command.{Command as AnyCommand};
+
+    /// The state in which this command leaves a device, as object 1F82h reads it: 4 stopped, 5
+    /// operational, 127 pre-operational, 0 (unknown) after a reset.
+    pub fn state_left(self) -> u8
+        ensures left { result ≡ state_left self }
+    {
+        match self {
+            Command::Start => 5,
+            Command::Stop => 4,
+            Command::EnterPre => 127,
+            Command::ResetNode | Command::ResetComm => 0,
+        }
+    }
 
     /// The command specifier, the first byte of the message.
     pub fn specifier(self) -> u8

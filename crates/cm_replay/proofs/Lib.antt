@@ -1,4 +1,2 @@
 pub mod Replays
-pub mod Identity
-pub mod Started
-pub mod Operational
+mod CompactReplays

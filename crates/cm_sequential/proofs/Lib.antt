@@ -4,3 +4,4 @@ pub mod Phases
 mod Signals
 mod Serving
 mod Listings
+mod Resets

@@ -5,12 +5,12 @@ use Rattle.std.specs.Option.{is_some}
 use Rattle.std.specs.List.{slice_index_or}
 use Rattle.std.proofs.lemmas.Bool.{cases_lt}
 use Rattle.std.proofs.lemmas.List.{get_or_past}
-use Rattle.cm_netlist.specs.Network.{Network, IsEntry, IsNetwork, terms_of}
+use Rattle.cm_netlist.specs.Network.{Network, IsEntry, IsNetwork, terms_of, listing}
 use Rattle.cm_netlist.specs.Network as network
 use Rattle.cm_netlist.specs.declared.entry.SlaveEntry.{SlaveEntry}
-use Rattle.cm_netlist.specs.declared.terms.Terms.{Terms}
+use Rattle.cm_objects.specs.declared.terms.Terms.{Terms}
 use Rattle.cm_netlist.proofs.Networks.{terms_above}
-use Rattle.cm_history.specs.Listing.{Listing, is_listed, listing}
+use Rattle.cm_objects.specs.Listing.{Listing, is_listed}
 use Rattle.cm_sequential.specs.Plan.{kept_listing}
 use Rattle.cm_sequential.specs.declared.plan.Plan.{Plan}
 

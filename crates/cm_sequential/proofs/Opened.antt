@@ -3,13 +3,14 @@ use Rattle.std.proofs.Common.{◌≡◌, ◌≤◌, ℕ, length, arith, List, []
 use Rattle.std.specs.Prelude.{filter, ◌==◌}
 use Rattle.std.proofs.lemmas.List.Elements.{filter_agree}
 use Rattle.std.proofs.lemmas.Bool.{cases_Bool, eqb-true}
-use Rattle.cm_netlist.specs.Network.{node_ids}
+use Rattle.cm_objects.specs.Listing.{node_ids, Listing, is_mandatory}
 use Rattle.cm_answers.specs.declared.status.Status.{Status}
 use Rattle.cm_history.specs.declared.slave.Slave.{Slave}
-use Rattle.cm_history.specs.Listing.{Listing, is_mandatory}
-use Rattle.cm_history.specs.History.{is_good, is_empty}
+use Rattle.cm_answers.specs.Status.{is_good}
+use Rattle.cm_history.specs.History.{is_empty}
 use Rattle.cm_history.specs.Answering.{open_less}
 use Rattle.cm_sequential.specs.Kept.{kept_at, with_slave, is_open_in, open_in, reported_slave}
+use Rattle.cm_history.proofs.OpenSlaves.{filter_twice}
 
 pub none_counted : (xs : List ℕ) → 0 ≡ length xs → true ≡ is_empty xs
 none_counted [] e = refl
@@ -18,16 +19,6 @@ none_counted (x ∷ xs) e = absurd (omega (arith, e))
 pub one_counted : (xs : List ℕ) → 1 ≤ length xs → false ≡ is_empty xs
 one_counted [] e = absurd (omega (arith, e))
 one_counted (x ∷ xs) e = refl
-
--- a filter of a filter
-pub filter_twice : (p q r : ℕ → Bool) → ((x : ℕ) → r x ≡ (p x && q x)) → (xs : List ℕ) → filter q (filter p xs) ≡ filter r xs
-filter_twice p q r h [] = refl
-filter_twice p q r h (x ∷ xs) =
-    let again : filter q (filter p xs) ≡ filter r xs = filter_twice p q r h xs in
-    elim (p x) as (λ b. (r x ≡ (b && q x)) → filter q (cond b (x ∷ filter p xs) (filter p xs)) ≡ cond (r x) (x ∷ filter r xs) (filter r xs)) [
-      | true ↦ λ e. rw (e, again) refl
-      | false ↦ λ e. rw (e, again) refl
-    ] (h x)
 
 -- b is what stands there otherwise
 good_less : (m b e : Bool) → (m && not (cond e true b)) ≡ ((m && not b) && not e)

@@ -10,8 +10,8 @@ use Rattle.cm_nmt.specs.declared.command.Command.{Command}
 use Rattle.cm_nmt.specs.declared.state.NmtState.{NmtState}
 use Rattle.cm_nmt.specs.declared.state.NmtState.TheVariants as state
 use Rattle.cm_nmt.specs.declared.command.Command.TheVariants as command
-use Rattle.cm_netlist.specs.Network.{Network, IsNetwork}
-use Rattle.cm_netlist.specs.declared.terms.Terms.{Terms}
+use Rattle.cm_netlist.specs.Network.{Network, IsNetwork, listing}
+use Rattle.cm_objects.specs.declared.terms.Terms.{Terms}
 use Rattle.cm_netlist.proofs.Networks.{terms_above}
 use Rattle.cm_answers.specs.Verdict.{judged}
 use Rattle.cm_answers.specs.declared.answers.Answers.{Answers}
@@ -27,7 +27,7 @@ use Rattle.cm_history.specs.declared.call.Orders.TheVariants as orders
 use Rattle.cm_sequential.specs.declared.manager.Manager.{Manager}
 use Rattle.cm_history.specs.declared.phase.Phase.{Phase}
 use Rattle.cm_history.specs.declared.slave.Slave.{Slave}
-use Rattle.cm_history.specs.Listing.{Listing, listing, is_listed, is_mandatory, resets_all_on_error, stops_all_on_error}
+use Rattle.cm_objects.specs.Listing.{Listing, is_listed, is_mandatory, resets_all_on_error, stops_all_on_error}
 use Rattle.cm_history.specs.Orders.{is_reset_all, is_start_of, is_stop_all, to_every, to_node}
 use Rattle.cm_history.specs.Phases.{is_booting, is_halted}
 use Rattle.cm_history.specs.History.{is_granted, is_booted, is_reset_value, begun_in, open_of, phase_of, phase_then, own_of, own_by, is_fatal, state_reported, state_requested}
@@ -35,11 +35,12 @@ use Rattle.cm_history.specs.Answering.{slave_of, blank_slave, Seen, seen_of, nod
 use Rattle.cm_sequential.specs.Kept.{cleared, kept_at, is_open_in, open_in, with_slave, reported_slave, requested_slave, signalled_slave}
 use Rattle.cm_sequential.specs.Steps.{Keeps, listing_in, slave_in, seen_in, sessions_begun, settled_phase, settled_own, ordered, lost_slave, own_after_loss, own_after_request, refusal_in, Effect, After}
 use Rattle.cm_sequential.specs.Standing.{Stands, Agrees}
-use Rattle.cm_history.proofs.Ids.{agree_on_ids}
+use Rattle.cm_objects.proofs.Ids.{agree_on_ids}
 use Rattle.cm_sequential.proofs.Slaves.{refused_slave, started_slave, begun_slave, report_slave, again_slave, told_slave, noted_slave, handled_slave, read_slave, elapsed_slave, own_request_slave, all_request_slave, one_request_slave}
 use Rattle.cm_sequential.proofs.Signals.{code_of_signal}
 use Rattle.cm_sequential.proofs.Listings.{own_unlisted}
-use Rattle.cm_sequential.proofs.Phases.{phase_same, own_same, phase_settled, open_after_report}
+use Rattle.cm_sequential.proofs.Phases.{phase_same, own_same, phase_settled}
+use Rattle.cm_history.proofs.OpenSlaves.{open_after_report}
 
 entry : ℕ → Call → Reply → Orders → Entry
 entry seat c r o = record { seat = seat; call = c; reply = r; orders = o }

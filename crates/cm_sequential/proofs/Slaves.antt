@@ -16,9 +16,11 @@ use Rattle.cm_history.specs.declared.call.Reply.TheVariants as reply
 use Rattle.cm_history.specs.declared.call.Orders.{Orders}
 use Rattle.cm_history.specs.declared.call.Orders.TheVariants as orders
 use Rattle.cm_history.specs.declared.slave.Slave.{Slave}
-use Rattle.cm_history.specs.Listing.{Listing, is_listed}
-use Rattle.cm_history.specs.Orders.{to_all, to_every, to_node, is_start_of, is_reset, is_reset_all, state_left}
-use Rattle.cm_history.specs.History.{is_booted, session_of, state_of, last_set, state_under, sets_by, only_if, is_good, is_reset_value, state_reported, state_requested}
+use Rattle.cm_objects.specs.Listing.{Listing, is_listed}
+use Rattle.cm_history.specs.Orders.{to_all, to_every, to_node, is_start_of, is_reset, is_reset_all}
+use Rattle.cm_nmt.specs.Codes.{state_left}
+use Rattle.cm_history.specs.History.{is_booted, session_of, state_of, last_set, state_under, sets_by, only_if, is_reset_value, state_reported, state_requested}
+use Rattle.cm_answers.specs.Status.{is_good}
 use Rattle.cm_history.specs.Answering.{slave_of, blank_slave}
 use Rattle.cm_sequential.specs.Kept.{cleared, kept_at, reported_slave, requested_slave}
 use Rattle.cm_sequential.specs.Steps.{put_by, ordered}

@@ -5,10 +5,10 @@ use Rattle.std.specs.List.{slice_index_or}
 use Rattle.cm_nmt.specs.Codes.{state_code}
 use Rattle.cm_nmt.specs.declared.signal.Signal.{Signal}
 use Rattle.cm_nmt.specs.declared.signal.Signal.TheVariants as signal
-use Rattle.cm_netlist.specs.Network.{node_ids}
+use Rattle.cm_objects.specs.Listing.{node_ids, Listing, is_mandatory}
 use Rattle.cm_answers.specs.declared.status.Status.{Status}
-use Rattle.cm_history.specs.Listing.{Listing, is_mandatory}
-use Rattle.cm_history.specs.History.{is_good, is_reset_value}
+use Rattle.cm_answers.specs.Status.{is_good}
+use Rattle.cm_history.specs.History.{is_reset_value}
 use Rattle.cm_history.specs.Answering.{blank_slave}
 use Rattle.cm_history.specs.declared.slave.Slave.{Slave}
 

@@ -2,7 +2,7 @@
 -- The manager's own copy of its network list.
 use Rattle.std.specs.Prelude.{None}
 use Rattle.std.specs.List.{slice_index_or}
-use Rattle.cm_history.specs.Listing.{Listing}
+use Rattle.cm_objects.specs.Listing.{Listing}
 use Rattle.cm_sequential.specs.declared.plan.Plan.{Plan}
 
 -- what the copy says

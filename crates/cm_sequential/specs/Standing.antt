@@ -1,7 +1,7 @@
 -- When a manager stands for a history (own).
 use Rattle.std.specs.Prelude.{List}
-use Rattle.cm_netlist.specs.Network.{Network, IsNetwork}
-use Rattle.cm_history.specs.Listing.{Listing, listing}
+use Rattle.cm_netlist.specs.Network.{Network, IsNetwork, listing}
+use Rattle.cm_objects.specs.Listing.{Listing}
 use Rattle.cm_history.specs.History.{phase_of, own_of, begun_in}
 use Rattle.cm_history.specs.Answering.{slave_of}
 use Rattle.cm_sequential.specs.Steps.{Keeps}

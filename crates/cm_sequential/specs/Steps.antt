@@ -1,15 +1,15 @@
 -- Working definitions, behind `Stands`: what they hold shows in the contracts of the manager's readers.
 -- What the manager keeps, read as what a history says, and how a call changes it.
 use Rattle.std.specs.Prelude.{◌≡◌, ◌<◌, ℕ, Bool, false, if◌then◌else◌, ◌+◌, ◌==◌, MatchBool, MatchOption, List, Option, Some, None, unwrap_or}
-use Rattle.cm_nmt.specs.Codes.{signal_of, state_of_code}
+use Rattle.cm_nmt.specs.Codes.{signal_of, state_of_code, state_left}
 use Rattle.cm_nmt.specs.declared.state.NmtState.{NmtState}
 use Rattle.cm_nmt.specs.declared.state.NmtState.TheVariants as state
 use Rattle.cm_nmt.specs.declared.command.Command.{Command}
 use Rattle.cm_answers.specs.Verdict.{judged}
 use Rattle.cm_answers.specs.declared.status.Status.{Status}
 use Rattle.cm_answers.specs.declared.status.Status.TheVariants as status
-use Rattle.cm_history.specs.Listing.{Listing, is_listed}
-use Rattle.cm_history.specs.Orders.{to_all, is_start_of, is_reset_all, is_stop_all, state_left}
+use Rattle.cm_objects.specs.Listing.{Listing, is_listed}
+use Rattle.cm_history.specs.Orders.{to_all, is_start_of, is_reset_all, is_stop_all}
 use Rattle.cm_history.specs.Phases.{is_booting}
 use Rattle.cm_history.specs.History.{is_empty, is_fatal, state_reported, state_requested, becomes_operational}
 use Rattle.cm_history.specs.Answering.{Seen, blank_slave, node_named, refusals, first_refusal, is_late, open_less}

@@ -1,9 +1,12 @@
 //! The sequential NMT manager: it answers a call after any history of calls as the definitions of
-//! cm_history answer it, from a state of fixed size, which is copied. It takes no memory.
+//! cm_history answer it, from a state of fixed size, which is copied; and the frames
+//! that its orders send. It takes no memory.
 #![tactic(auto)]
 
 mod manager;
 mod plan;
+mod sending;
 mod table;
 
 pub use manager::Manager;
+pub use sending::frames;

@@ -1,8 +1,8 @@
 ghost use Rattle.std.specs.Prelude.{◌≡◌, ℕ, List, [], ◌∷◌, ◌^◌, ◌<◌, ◌≤◌, ◌-◌, ◌+◌, ◌==◌, IsSome, IsTrue, MatchBool, MatchOption, None, length, unwrap_or};
 ghost use Rattle.cm_nmt.specs.Codes.{command_of_request, signal_of};
-ghost use Rattle.cm_netlist.specs.Network.{Network as AnyNetwork};
+ghost use Rattle.cm_netlist.specs.Network.{Network as AnyNetwork, listing};
 ghost use Rattle.cm_answers.specs.Verdict.{judged};
-ghost use Rattle.cm_history.specs.Listing.{Listing, listing, is_listed};
+ghost use Rattle.cm_objects.specs.Listing.{Listing, is_listed};
 ghost use Rattle.cm_history.specs.Orders.{is_reset_all, is_stop_all, to_every, to_node};
 ghost use Rattle.cm_history.specs.History.{is_empty, begun_in, state_of, state_requested, own_of, phase_of, is_booted, session_of, open_of, is_fatal, state_reported};
 ghost use Rattle.cm_history.specs.Answering.{answer_of, answer_from, node_named, open_less, starts_every, starts_one, report_orders, lost_orders, is_late, first_refusal, refusals, granted_answer, blank_slave};
@@ -10,11 +10,8 @@ ghost use Rattle.cm_history.specs.declared.call.Entry.{Entry};
 
 use crate::plan::Plan;
 use crate::table::{self, Table};
-use cm_boot::{Answers, Status, judge_terms};
-use cm_history::{
-    BLANK, Call, Orders, Phase, Reply, Slave, is_good, is_ok, is_retried, state_left,
-    state_reported,
-};
+use cm_answers::{Answers, Status, judged_by_tables};
+use cm_history::{BLANK, Call, Orders, Phase, Reply, Slave, state_reported};
 use cm_netlist::Network;
 use cm_nmt::{Command, Frame, NmtState, NodeId, Signal, Target};
 
@@ -154,7 +151,10 @@ impl Manager {
         ensures { result ≡ judged_in (listing_in self.now) call.now }
     {
         match call {
-            Call::Report(id, _number, answers) => judge_terms(self.plan.terms(id.get()), answers),
+            Call::Report(id, _number, answers) => judged_by_tables(
+                self.plan.terms(id.get()),
+                answers,
+            ),
             _ => None,
         }
     }
@@ -328,7 +328,7 @@ impl Manager {
     fn starts_one(&self, id: NodeId, status: Status) -> bool
         ensures { result ≡ starts_one (listing_in self.now) self.now.own id status }
     {
-        is_ok(status)
+        status.is_ok()
             && self.plan.is_to_be_booted(id.get())
             && !self.plan.starts_no_slave()
             && (!self.plan.starts_all_at_once() || self.own == NmtState::Operational)
@@ -338,7 +338,7 @@ impl Manager {
     fn is_fatal(&self, id: NodeId, status: Status) -> bool
         ensures { result ≡ is_fatal (listing_in self.now) id status }
     {
-        self.plan.is_mandatory(id.get()) && !(is_good(status) || is_retried(status))
+        self.plan.is_mandatory(id.get()) && !(status.is_good() || status.is_retried())
     }
 
     /// The orders of a report, once its slave is written.
@@ -389,7 +389,7 @@ impl Manager {
     {
         if let Orders::One(frame) = orders {
             match &frame.target {
-                Target::All => table::put_all(&mut self.slaves, state_left(frame.command)),
+                Target::All => table::put_all(&mut self.slaves, frame.command.state_left()),
                 Target::Node(id) => {
                     let node = id.get();
                     if frame.command == Command::Start {

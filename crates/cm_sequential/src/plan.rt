@@ -1,10 +1,12 @@
 ghost use Rattle.std.specs.Prelude.{◌≡◌, ◌<◌, ℕ, None, IsSome, IsTrue, length};
 ghost use Rattle.std.specs.List.{slice_index_or};
-ghost use Rattle.cm_history.specs.Listing.{listing, is_listed, is_mandatory, is_to_be_booted, is_master, starts_all_at_once, leaves_operational_to_application, starts_no_slave, resets_all_on_error, stops_all_on_error};
+ghost use Rattle.cm_netlist.specs.Network.{listing};
+ghost use Rattle.cm_objects.specs.Listing.{is_listed, is_mandatory, is_to_be_booted, is_master, starts_all_at_once, leaves_operational_to_application, starts_no_slave, resets_all_on_error, stops_all_on_error};
 ghost use Rattle.cm_netlist.specs.Network as network;
 
-use cm_netlist::{Network, Startup, Terms};
+use cm_netlist::Network;
 use cm_nmt::NodeId;
+use cm_objects::{Startup, Terms};
 
 /// The manager's own copy of its network list. The terms of node i stand at place i.
 #[derive(Clone, Copy)]

@@ -3,8 +3,8 @@ ghost use Rattle.cm_history.specs.Answering.{blank_slave};
 ghost use Rattle.cm_history.specs.History.{state_requested};
 ghost use Rattle.cm_sequential.specs.Kept.{cleared, kept_at, put, reported_slave, requested_slave, signalled_slave, with_slave};
 
-use cm_boot::Status;
-use cm_history::{BLANK, Slave, is_good};
+use cm_answers::Status;
+use cm_history::{BLANK, Slave};
 use cm_nmt::Signal;
 
 /// What the manager keeps of each slave, that of node i at place i.
@@ -30,7 +30,7 @@ pub fn reported(slave: Slave, left: u8, status: Status) -> Slave
 {
     Slave {
         state: left,
-        booted: is_good(status) || slave.booted,
+        booted: status.is_good() || slave.booted,
         session: None,
     }
 }

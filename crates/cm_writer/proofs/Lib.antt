@@ -1,4 +1,3 @@
 mod Reports
 pub mod Puts
 pub mod Walks
-mod Summaries

@@ -2,7 +2,7 @@ use super::{
     BOOTING, HALTED, READY, READY_ONLY, TYPE, begin, boot, frame, listed, network, network_in,
     node, of_device, of_states, refuse, report, run, slave, started, whole,
 };
-use cm_boot::{Got, Heard, Status};
+use cm_answers::{Got, Heard, Status};
 use cm_history::{Call, Orders, Phase, Reply, abort_code};
 use cm_nmt::NmtState;
 use cm_sequential::Manager;

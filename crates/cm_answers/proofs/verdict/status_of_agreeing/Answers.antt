@@ -1,5 +1,5 @@
 use Rattle.cm_answers.specs.Fields.{fields}
-use Rattle.cm_answers.specs.Settled.{is_settled}
+use Rattle.cm_answers.specs.Judging.{is_settled}
 use Rattle.cm_answers.specs.declared.field.Field.{Field}
 use Rattle.cm_answers.specs.declared.field.Field.TheVariants.{Device, Vendor, Product, Revision, Serial, State, Date, Time, Writes, Beat}
 use Rattle.std.proofs.Common.{[], ◌∷◌}

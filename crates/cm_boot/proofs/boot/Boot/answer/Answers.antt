@@ -1,8 +1,8 @@
 use Rattle.std.proofs.Common.{◌≡◌, ◌∙◌, ◌≤◌, true, Some, Option, ap, sym, subst, arith}
 use Rattle.std.specs.Option.{option_copied}
 use Rattle.cm_netlist.specs.Network.{terms_of}
-use Rattle.cm_netlist.specs.declared.terms.Terms.{Terms}
-use Rattle.cm_answers.specs.Lawful.{is_proper}
+use Rattle.cm_objects.specs.declared.terms.Terms.{Terms}
+use Rattle.cm_answers.specs.Conditions.{is_proper}
 use Rattle.cm_boot.specs.Machine.{next_field, terms}
 use Rattle.cm_boot.specs.BootView.{view_of}
 use Rattle.cm_boot.proofs.Kept.{proper_kept}

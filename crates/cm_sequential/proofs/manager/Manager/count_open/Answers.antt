@@ -1,7 +1,7 @@
 use Rattle.std.proofs.Common.{◌+◌, ◌-◌, arith, sym, ap, ◌∙◌, cond}
 use Rattle.cm_sequential.specs.Kept.{is_open_in}
 use Rattle.cm_sequential.specs.Steps.{listing_in}
-use Rattle.cm_history.proofs.Ids.{count_more, count_most, count_all}
+use Rattle.cm_objects.proofs.Ids.{count_more, count_most, count_all}
 use Rattle.cm_sequential.proofs.manager.Manager.count_open.Goals as goal
 use Rattle.cm_sequential.proofs.manager.Manager.count_open.Goals.{then-is_open, else-is_open}
 

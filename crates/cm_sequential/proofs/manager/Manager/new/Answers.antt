@@ -1,5 +1,5 @@
 use Rattle.std.proofs.Common.{refl}
-use Rattle.cm_history.specs.Listing.{listing}
+use Rattle.cm_netlist.specs.Network.{listing}
 use Rattle.cm_sequential.proofs.Slaves.{first_slave}
 use Rattle.cm_sequential.proofs.manager.Manager.new.Goals as goal
 

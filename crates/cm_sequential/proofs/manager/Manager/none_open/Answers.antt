@@ -1,5 +1,5 @@
 use Rattle.std.proofs.Common.{Bool, ◌+◌, sym, ◌∙◌, ap, cond, arith}
-use Rattle.cm_history.proofs.Ids.{count_more, count_one, count_all}
+use Rattle.cm_objects.proofs.Ids.{count_more, count_one, count_all}
 use Rattle.cm_sequential.specs.Kept.{is_open_in, open_in}
 use Rattle.cm_sequential.specs.Steps.{listing_in}
 use Rattle.cm_sequential.proofs.Opened.{none_counted, one_counted}

@@ -1,5 +1,5 @@
 use Rattle.std.proofs.Common.{◌∙◌, ap, length}
-use Rattle.cm_history.specs.Listing.{listing}
+use Rattle.cm_netlist.specs.Network.{listing}
 use Rattle.cm_sequential.proofs.Serving.{open_same}
 use Rattle.cm_sequential.proofs.manager.Manager.open_mandatory.Goals as goal
 

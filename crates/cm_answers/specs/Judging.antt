@@ -1,0 +1,25 @@
+-- Working definitions: the two tests of a field, of the record's whole table, as one, and
+-- where a boot comes to a field.
+use Rattle.std.specs.Prelude.{Bool, true, ◌&&◌, ◌||◌, not}
+use Rattle.cm_objects.specs.declared.terms.Terms.{Terms}
+use Rattle.cm_answers.specs.Conditions.{asks_identity, comes_to_beat, condition, identity_agrees, is_complete, is_used, may_configure, must_write, product_agrees, revision_agrees, vendor_agrees}
+use Rattle.cm_answers.specs.declared.answers.Answers.{Answers}
+use Rattle.cm_answers.specs.declared.field.Field.{Field}
+use Rattle.cm_answers.specs.declared.field.Field.TheVariants.{Device, Vendor, Product, Revision, Serial, State, Date, Time, Writes, Beat}
+
+-- an answered field has its condition, and a field whose condition holds has all its answers
+abbrev pub is_settled : Terms → Answers → Field → Bool
+is_settled t a f = (not (is_used a f) || condition t a f) && (not (condition t a f) || is_complete t a f)
+
+-- the boot comes to the field: all that its question comes after agrees
+abbrev pub reaches : Terms → Answers → Field → Bool
+reaches t a Device = true
+reaches t a Vendor = asks_identity t a
+reaches t a Product = vendor_agrees t a
+reaches t a Revision = product_agrees t a
+reaches t a Serial = revision_agrees t a
+reaches t a State = identity_agrees t a
+reaches t a Date = may_configure t a
+reaches t a Time = may_configure t a
+reaches t a Writes = must_write t a
+reaches t a Beat = comes_to_beat t a

@@ -1,0 +1,3 @@
+mod Identity
+pub mod Started
+pub mod Operational

@@ -1,0 +1,4 @@
+pub mod Bits
+pub mod Size
+pub mod Write
+pub mod Listing

@@ -1,0 +1,47 @@
+ghost use Rattle.std.specs.Prelude.{◌≡◌, IsTrue};
+ghost use Rattle.cm_objects.specs.Size.{is_size};
+
+/// One write to the slave's object dictionary, of 1, 2 or 4 bytes.
+#[derive(Clone, Copy, Debug, PartialEq, Eq)]
+pub struct Write {
+    pub index: u16,
+    pub sub: u8,
+    pub size: u8,
+    pub value: u32,
+    ghost sized: { IsTrue (is_size size) },
+}
+
+impl Write {
+    ghost use Rattle.cm_objects.specs.Write.{fits};
+
+    /// Whether a write may have this size.
+    pub fn is_size(size: u8) -> bool
+        ensures { result ≡ is_size size }
+    {
+        size == 1 || size == 2 || size == 4
+    }
+
+    /// Whether the value fits into the write's bytes.
+    pub fn fits(&self) -> bool
+        ensures { result ≡ fits self.now }
+    {
+        let value = self.value;
+        match self.size {
+            1 => value < 256,
+            2 => value < 65_536,
+            _ => true,
+        }
+    }
+}
+
+/// A write of one byte 0, which stands in the unused places of lists of fixed size.
+impl Default for Write {
+    fn default() -> Write {
+        Write {
+            index: 0,
+            sub: 0,
+            size: 1,
+            value: 0,
+        }
+    }
+}
