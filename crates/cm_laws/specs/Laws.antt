@@ -70,7 +70,7 @@ StartsRightly net e past =
 -- ---- the network becomes operational with every mandatory slave booted
 
 -- the entry is a report of slave i that was granted, and shows the identity that is expected
-pub record IsProofOf (t : Terms) (i : ℕ) (e : Entry) : Type 0 where
+pub record ShowsIdentity (t : Terms) (i : ℕ) (e : Entry) : Type 0 where
   pub number : ℕ
   pub answers : Answers
   pub status : Status
@@ -83,7 +83,7 @@ pub record IsProofOf (t : Terms) (i : ℕ) (e : Entry) : Type 0 where
 pub record IsAllThere (net : Listing) (past : List Entry) : Type 0 where
   pub none_open : open_of net past ≡ []
   pub shown : (i : ℕ) (t : Terms) → IsNodeId i → net.terms i ≡ Some t → IsTrue (is_mandatory net i) → has_bit t.assignment.0 2 ≡ true
-      → StandsSince (IsProofOf t i) i past
+      → StandsSince (ShowsIdentity t i) i past
 
 -- the manager itself becomes operational with the entry
 pub record GoesOperational (net : Listing) (e : Entry) (past : List Entry) : Type 0 where

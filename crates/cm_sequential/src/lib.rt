@@ -4,9 +4,9 @@
 #![tactic(auto)]
 
 mod manager;
-mod plan;
+mod listing_copy;
 mod sending;
-mod table;
+mod slaves;
 
 pub use manager::Manager;
 pub use sending::frames;

@@ -1,7 +1,7 @@
 use Rattle.std.proofs.Common.{◌≡◌, ℕ, ◌<◌, length, None}
 use Rattle.std.specs.List.{slice_index_or}
 use Rattle.cm_netlist.specs.Network as network
-use Rattle.cm_sequential.proofs.plan.terms_by_node.Given as goal
+use Rattle.cm_sequential.proofs.listing_copy.terms_by_node.Given as goal
 
 -- the places so far have the nodes' terms
 abbrev pub invariant-loop-node : goal.invariant-loop-node

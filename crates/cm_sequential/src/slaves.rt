@@ -1,14 +1,14 @@
 ghost use Rattle.std.specs.Prelude.{◌≡◌, ◌<◌, ◌%◌, ℕ};
 ghost use Rattle.cm_history.specs.Answering.{blank_slave};
 ghost use Rattle.cm_history.specs.History.{state_requested};
-ghost use Rattle.cm_sequential.specs.Kept.{cleared, kept_at, put, reported_slave, requested_slave, signalled_slave, with_slave};
+ghost use Rattle.cm_sequential.specs.Kept.{cleared_slave, kept_at, put, reported_slave, requested_slave, signalled_slave, with_slave};
 
 use cm_answers::Status;
-use cm_history::{BLANK, Slave};
+use cm_history::Slave;
 use cm_nmt::Signal;
 
 /// What the manager keeps of each slave, that of node i at place i.
-pub type Table = [Slave; 128];
+pub type Slaves = [Slave; 128];
 
 /// A slave after a command to all that leaves this state: unknown and missing slaves stay so.
 fn put(slave: Slave, left: u8) -> Slave
@@ -57,7 +57,7 @@ pub fn requested(slave: Slave, value: u8) -> Slave
     ensures { result ≡ record (requested_slave value slave) { state = state_requested value } }
 {
     if value == 6 || value == 7 {
-        BLANK
+        Slave::blank()
     } else {
         Slave {
             state: value,
@@ -67,7 +67,7 @@ pub fn requested(slave: Slave, value: u8) -> Slave
 }
 
 /// Puts every slave into a state, but those that are unknown or missing.
-pub fn put_all(slaves: &mut Table, left: u8)
+pub fn put_all(slaves: &mut Slaves, left: u8)
     ensures { (i : ℕ) → i < 128 → kept_at slaves.new i ≡ put left (kept_at slaves.old i) }
 {
     for slave in slaves.iter_mut() {
@@ -76,8 +76,8 @@ pub fn put_all(slaves: &mut Table, left: u8)
 }
 
 /// Clears every slave: none is booted, none has a session.
-pub fn clear_all(slaves: &mut Table)
-    ensures { (i : ℕ) → i < 128 → kept_at slaves.new i ≡ cleared (kept_at slaves.old i) }
+pub fn clear_all(slaves: &mut Slaves)
+    ensures { (i : ℕ) → i < 128 → kept_at slaves.new i ≡ cleared_slave (kept_at slaves.old i) }
 {
     for slave in slaves.iter_mut() {
         slave.booted = false;
@@ -86,14 +86,14 @@ pub fn clear_all(slaves: &mut Table)
 }
 
 /// Forgets all of every slave.
-pub fn blank_all(slaves: &mut Table)
+pub fn blank_all(slaves: &mut Slaves)
     ensures { (i : ℕ) → i < 128 → kept_at slaves.new i ≡ blank_slave }
 {
-    *slaves = [BLANK; 128];
+    *slaves = [Slave::blank(); 128];
 }
 
 /// Sets what is kept of a node.
-pub fn set_at(slaves: &mut Table, node: u8, slave: Slave)
+pub fn set_at(slaves: &mut Slaves, node: u8, slave: Slave)
     requires { node < 128 }
     ensures { (i : ℕ) → kept_at slaves.new i ≡ with_slave node slave slaves.old i }
 {

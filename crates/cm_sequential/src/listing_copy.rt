@@ -10,7 +10,7 @@ use cm_objects::{Startup, Terms};
 
 /// The manager's own copy of its network list. The terms of node i stand at place i.
 #[derive(Clone, Copy)]
-pub struct Plan {
+pub struct ListingCopy {
     own: NodeId,
     startup: Startup,
     boot_time: u32,
@@ -40,15 +40,15 @@ fn terms_by_node(net: &Network) -> [Option<Terms>; 128]
     terms
 }
 
-impl Plan {
-    ghost use Rattle.cm_sequential.specs.Plan.{kept_listing};
+impl ListingCopy {
+    ghost use Rattle.cm_sequential.specs.Standing.{kept_listing};
 
     /// The copy of a network list.
-    pub fn of(net: &Network) -> Plan
+    pub fn of(net: &Network) -> ListingCopy
         ensures value { kept_listing result ≡ listing net.now }
         ensures kept { network.IsNetwork net.now }
     {
-        Plan {
+        ListingCopy {
             own: net.own_id(),
             startup: net.startup(),
             boot_time: net.boot_time(),
@@ -57,15 +57,15 @@ impl Plan {
     }
 
     /// The manager's own node-ID.
-    #[tactic(auto, unfolding(crate::specs::Plan::kept_listing))]
-    pub fn own(&self) -> u8
+    #[tactic(auto, unfolding(crate::specs::Standing::kept_listing))]
+    pub fn own_id(&self) -> u8
         ensures { result ≡ (kept_listing self.now).own }
     {
         self.own.get()
     }
 
     /// 1F89h, in ms.
-    #[tactic(auto, unfolding(crate::specs::Plan::kept_listing))]
+    #[tactic(auto, unfolding(crate::specs::Standing::kept_listing))]
     pub fn boot_time(&self) -> u32
         ensures { result ≡ (kept_listing self.now).boot_time }
     {
@@ -73,7 +73,7 @@ impl Plan {
     }
 
     /// What is listed of the node; nothing for a number that is no node-ID.
-    #[tactic(auto, unfolding(crate::specs::Plan::kept_listing))]
+    #[tactic(auto, unfolding(crate::specs::Standing::kept_listing))]
     pub fn terms(&self, node: u8) -> Option<Terms>
         ensures value { result ≡ (kept_listing self.now).terms node }
         ensures small { IsSome result → node < 128 }
@@ -110,42 +110,42 @@ impl Plan {
         }
     }
 
-    #[tactic(auto, unfolding(crate::specs::Plan::kept_listing))]
+    #[tactic(auto, unfolding(crate::specs::Standing::kept_listing))]
     pub fn is_master(&self) -> bool
         ensures { result ≡ is_master (kept_listing self.now) }
     {
         self.startup.is_master()
     }
 
-    #[tactic(auto, unfolding(crate::specs::Plan::kept_listing))]
+    #[tactic(auto, unfolding(crate::specs::Standing::kept_listing))]
     pub fn starts_all_at_once(&self) -> bool
         ensures { result ≡ starts_all_at_once (kept_listing self.now) }
     {
         self.startup.starts_all_at_once()
     }
 
-    #[tactic(auto, unfolding(crate::specs::Plan::kept_listing))]
+    #[tactic(auto, unfolding(crate::specs::Standing::kept_listing))]
     pub fn leaves_operational_to_application(&self) -> bool
         ensures { result ≡ leaves_operational_to_application (kept_listing self.now) }
     {
         self.startup.leaves_operational_to_application()
     }
 
-    #[tactic(auto, unfolding(crate::specs::Plan::kept_listing))]
+    #[tactic(auto, unfolding(crate::specs::Standing::kept_listing))]
     pub fn starts_no_slave(&self) -> bool
         ensures { result ≡ starts_no_slave (kept_listing self.now) }
     {
         self.startup.starts_no_slave()
     }
 
-    #[tactic(auto, unfolding(crate::specs::Plan::kept_listing))]
+    #[tactic(auto, unfolding(crate::specs::Standing::kept_listing))]
     pub fn resets_all_on_error(&self) -> bool
         ensures { result ≡ resets_all_on_error (kept_listing self.now) }
     {
         self.startup.resets_all_on_error()
     }
 
-    #[tactic(auto, unfolding(crate::specs::Plan::kept_listing))]
+    #[tactic(auto, unfolding(crate::specs::Standing::kept_listing))]
     pub fn stops_all_on_error(&self) -> bool
         ensures { result ≡ stops_all_on_error (kept_listing self.now) }
     {

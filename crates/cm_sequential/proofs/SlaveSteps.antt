@@ -22,8 +22,8 @@ use Rattle.cm_nmt.specs.Codes.{state_left}
 use Rattle.cm_history.specs.History.{is_booted, session_of, state_of, last_set, state_under, sets_by, only_if, is_reset_value, state_reported, state_requested}
 use Rattle.cm_answers.specs.Status.{is_good}
 use Rattle.cm_history.specs.Answering.{slave_of, blank_slave}
-use Rattle.cm_sequential.specs.Kept.{cleared, kept_at, reported_slave, requested_slave}
-use Rattle.cm_sequential.specs.Steps.{put_by, ordered}
+use Rattle.cm_sequential.specs.Kept.{cleared_slave, kept_at, reported_slave, requested_slave}
+use Rattle.cm_sequential.specs.Steps.{put_by, slave_after_orders}
 
 -- a state after a command to all, where there is one
 abbrev pub obeyed : Option Command → ℕ → ℕ
@@ -143,7 +143,7 @@ ordered_cases (Some c) false false n b s h w = ap (λ k. stated (obeyed (Some c)
 
 -- the slave after an entry's orders, where it sets the state n
 pub ordered_slave : (net : Listing) (o : Orders) (i n : ℕ) (b : Bool) (s : Option ℕ) → (is_start_of o i ≡ true → is_listed net i ≡ true) → cond (is_listed net i) n 0 ≡ n
-    → stated (cond (is_listed net i) (obeyed (to_all o) (cond (is_start_of o i) 5 n)) 0) b s ≡ ordered o i (stated n b s)
+    → stated (cond (is_listed net i) (obeyed (to_all o) (cond (is_start_of o i) 5 n)) 0) b s ≡ slave_after_orders o i (stated n b s)
 ordered_slave net o i n b s h w = ordered_cases (to_all o) (is_listed net i) (is_start_of o i) n b s h w
 
 -- the parts of a slave's slave after a report
@@ -172,7 +172,7 @@ reported_split false v w g bk ses = refl
 pub report_slave : (net : Listing) (past : List Entry) (seat id number : ℕ) (a : Answers) (s : Status) (o : Orders) (i : ℕ)
     → ((id == i) ≡ true → is_listed net i ≡ true) → ((id == i) ≡ false → is_start_of o i ≡ false)
     → slave_of net (record { seat = seat; call = call.Report id number a; reply = reply.Reported s; orders = o } ∷ past) i
-    ≡ ordered o i (cond (id == i) (reported_slave (slave_of net past i) (state_reported s a) s) (slave_of net past i))
+    ≡ slave_after_orders o i (cond (id == i) (reported_slave (slave_of net past i) (state_reported s a) s) (slave_of net past i))
 report_slave net past seat id number a s o i here there =
     let e : Entry = record { seat = seat; call = call.Report id number a; reply = reply.Reported s; orders = o } in
     let l = is_listed net i in
@@ -186,7 +186,7 @@ report_slave net past seat id number a s o i here there =
     ∙ ap (λ k. stated (cond l (obeyed (to_all o) (cond (is_start_of o i) 5 n)) 0) (cond (id == i) (is_good s || is_booted past i) (is_booted past i)) k) parts.2
     ∙ ordered_slave net o i n (cond (id == i) (is_good s || is_booted past i) (is_booted past i)) (cond (id == i) None (session_of past i))
     (starts_listed (id == i) (is_start_of o i) l here there) (listed_cases (id == i) l v w here (listed_state net past i))
-    ∙ ap (ordered o i) (reported_split (id == i) v w (is_good s) (is_booted past i) (session_of past i))
+    ∙ ap (slave_after_orders o i) (reported_split (id == i) v w (is_good s) (is_booted past i) (session_of past i))
 
 -- a state that an entry sets to a listed slave, or that the slave had
 set_or_had : (l : Bool) (set : Option ℕ) (w : ℕ) → (is_some set ≡ true → l ≡ true) → cond l w 0 ≡ w → cond l (unwrap_or set w) 0 ≡ unwrap_or set w
@@ -196,7 +196,7 @@ set_or_had l (Some n) w h e = rw (h refl) refl
 -- an entry that starts no single slave
 pub plain_slave : (net : Listing) (past : List Entry) (e : Entry) (i : ℕ) → is_start_of e.orders i ≡ false
     → (is_some (sets_by e.call e.reply e.orders i) ≡ true → is_listed net i ≡ true)
-    → slave_of net (e ∷ past) i ≡ ordered e.orders i (stated (unwrap_or (sets_by e.call e.reply e.orders i) (state_of net past i)) (is_booted (e ∷ past) i) (session_of (e ∷ past) i))
+    → slave_of net (e ∷ past) i ≡ slave_after_orders e.orders i (stated (unwrap_or (sets_by e.call e.reply e.orders i) (state_of net past i)) (is_booted (e ∷ past) i) (session_of (e ∷ past) i))
 plain_slave net past e i st h =
     let l = is_listed net i in
     let n = unwrap_or (sets_by e.call e.reply e.orders i) (state_of net past i) in
@@ -225,7 +225,7 @@ noted_slave net past seat id i here =
 
 handled_split : (b ra : Bool) (w : ℕ) (bk : Bool) (ses : Option ℕ)
     → stated (unwrap_or (cond b (Some 1) None) w) (not (b || ra) && bk) (cond (b || ra) None ses)
-    ≡ cond b (stated 1 false None) (cond ra (cleared (stated w bk ses)) (stated w bk ses))
+    ≡ cond b (stated 1 false None) (cond ra (cleared_slave (stated w bk ses)) (stated w bk ses))
 handled_split true ra w bk ses = refl
 handled_split false true w bk ses = refl
 handled_split false false w bk ses = refl
@@ -233,14 +233,14 @@ handled_split false false w bk ses = refl
 -- a booted slave is lost
 pub handled_slave : (net : Listing) (past : List Entry) (seat id : ℕ) (o : Orders) (i : ℕ) → ((id == i) ≡ true → is_listed net i ≡ true) → is_start_of o i ≡ false
     → slave_of net (record { seat = seat; call = call.Lost id; reply = reply.Handled; orders = o } ∷ past) i
-    ≡ ordered o i (cond (id == i) (stated 1 false None) (cond (is_reset_all o) (cleared (slave_of net past i)) (slave_of net past i)))
+    ≡ slave_after_orders o i (cond (id == i) (stated 1 false None) (cond (is_reset_all o) (cleared_slave (slave_of net past i)) (slave_of net past i)))
 handled_slave net past seat id o i here st =
     plain_slave net past (record { seat = seat; call = call.Lost id; reply = reply.Handled; orders = o }) i st (set_here (id == i) (is_listed net i) 1 here)
-    ∙ ap (ordered o i) (handled_split (id == i) (is_reset_all o) (state_of net past i) (is_booted past i) (session_of past i))
+    ∙ ap (slave_after_orders o i) (handled_split (id == i) (is_reset_all o) (state_of net past i) (is_booted past i) (session_of past i))
 
 -- time tells nothing of a slave but by its orders
 pub elapsed_slave : (net : Listing) (past : List Entry) (seat ms : ℕ) (r : Reply) (o : Orders) (i : ℕ) → is_start_of o i ≡ false
-    → slave_of net (record { seat = seat; call = call.Elapsed ms; reply = r; orders = o } ∷ past) i ≡ ordered o i (slave_of net past i)
+    → slave_of net (record { seat = seat; call = call.Elapsed ms; reply = r; orders = o } ∷ past) i ≡ slave_after_orders o i (slave_of net past i)
 elapsed_slave net past seat ms r o i st =
     plain_slave net past (record { seat = seat; call = call.Elapsed ms; reply = r; orders = o }) i st (λ e. cc)
 
@@ -290,7 +290,7 @@ direct_slave net past e i none h =
 
 one_split : (b z : Bool) (n w : ℕ) (bk : Bool) (ses : Option ℕ)
     → stated (unwrap_or (cond b (Some n) None) w) (not (z && (b || false)) && bk) (cond (z && (b || false)) None ses)
-    ≡ cond b (record (cond z (cleared (stated w bk ses)) (stated w bk ses)) { state = n }) (stated w bk ses)
+    ≡ cond b (record (cond z (cleared_slave (stated w bk ses)) (stated w bk ses)) { state = n }) (stated w bk ses)
 one_split true true n w bk ses = refl
 one_split true false n w bk ses = refl
 one_split false true n w bk ses = refl
@@ -305,18 +305,18 @@ one_request_slave net past seat t v c i all here =
     ∙ ap (λ x. stated (unwrap_or (cond (t == i) (Some (state_requested v)) None) (state_of net past i)) (not (is_reset_value v && (t == i || x)) && is_booted past i) (cond (is_reset_value v && (t == i || x)) None (session_of past i))) all
     ∙ one_split (t == i) (is_reset_value v) (state_requested v) (state_of net past i) (is_booted past i) (session_of past i)
 
-all_split : (z : Bool) (w : ℕ) (bk : Bool) (ses : Option ℕ) → stated w (not (z && true) && bk) (cond (z && true) None ses) ≡ cond z (cleared (stated w bk ses)) (stated w bk ses)
+all_split : (z : Bool) (w : ℕ) (bk : Bool) (ses : Option ℕ) → stated w (not (z && true) && bk) (cond (z && true) None ses) ≡ cond z (cleared_slave (stated w bk ses)) (stated w bk ses)
 all_split true w bk ses = refl
 all_split false w bk ses = refl
 
 -- a request to all
 pub all_request_slave : (net : Listing) (past : List Entry) (seat t v : ℕ) (c : Command) (i : ℕ) → (t == i) ≡ false → (t == 128) ≡ true
-    → slave_of net (record { seat = seat; call = call.Request t v; reply = reply.Done; orders = to_every c } ∷ past) i ≡ ordered (to_every c) i (requested_slave v (slave_of net past i))
+    → slave_of net (record { seat = seat; call = call.Request t v; reply = reply.Done; orders = to_every c } ∷ past) i ≡ slave_after_orders (to_every c) i (requested_slave v (slave_of net past i))
 all_request_slave net past seat t v c i other all =
     plain_slave net past (record { seat = seat; call = call.Request t v; reply = reply.Done; orders = to_every c }) i refl (set_here (t == i) (is_listed net i) (state_requested v) (λ e. absurd (false≢true (sym other ∙ e))))
-    ∙ ap (λ x. ordered (to_every c) i (stated (unwrap_or (cond x (Some (state_requested v)) None) (state_of net past i)) (not (is_reset_value v && (x || t == 128)) && is_booted past i) (cond (is_reset_value v && (x || t == 128)) None (session_of past i)))) other
-    ∙ ap (λ x. ordered (to_every c) i (stated (state_of net past i) (not (is_reset_value v && x) && is_booted past i) (cond (is_reset_value v && x) None (session_of past i)))) all
-    ∙ ap (ordered (to_every c) i) (all_split (is_reset_value v) (state_of net past i) (is_booted past i) (session_of past i))
+    ∙ ap (λ x. slave_after_orders (to_every c) i (stated (unwrap_or (cond x (Some (state_requested v)) None) (state_of net past i)) (not (is_reset_value v && (x || t == 128)) && is_booted past i) (cond (is_reset_value v && (x || t == 128)) None (session_of past i)))) other
+    ∙ ap (λ x. slave_after_orders (to_every c) i (stated (state_of net past i) (not (is_reset_value v && x) && is_booted past i) (cond (is_reset_value v && x) None (session_of past i)))) all
+    ∙ ap (slave_after_orders (to_every c) i) (all_split (is_reset_value v) (state_of net past i) (is_booted past i) (session_of past i))
 
 own_split : (b l : Bool) (n w : ℕ) → (b ≡ true → l ≡ false) → cond l w 0 ≡ w → cond l (unwrap_or (cond b (Some n) None) w) 0 ≡ w
 own_split true l n w h e = rw (h refl) (rw (h refl) at e)
