@@ -14,7 +14,8 @@ use Rattle.cm_answers.specs.declared.status.Status.{Status}
 use Rattle.cm_answers.specs.declared.status.Status.TheVariants as status
 use Rattle.cm_objects.specs.Listing.{Listing, is_mandatory}
 use Rattle.cm_history.specs.Orders.{is_start_all, is_start_of}
-use Rattle.cm_history.specs.History.{clears, open_of, own_of}
+use Rattle.cm_history.specs.History.{clears, is_granted, open_of, own_of, shown}
+use Rattle.cm_history.specs.Answering.{answer_of}
 use Rattle.cm_history.specs.declared.call.Call.TheVariants as call
 use Rattle.cm_history.specs.declared.call.Entry.{Entry}
 use Rattle.cm_history.specs.declared.call.Reply.TheVariants as reply
@@ -93,3 +94,11 @@ pub record GoesOperational (net : Listing) (e : Entry) (past : List Entry) : Typ
 -- where the manager becomes operational, and where the orders are a start of all, every mandatory slave is there
 abbrev pub BecomesOperationalRightly : Listing → Entry → List Entry → Type 0
 BecomesOperationalRightly net e past = GoesOperational net e past ⊎ IsTrue (is_start_all e.orders) → IsAllThere net (e ∷ past)
+
+-- ---- what a read shows
+
+-- a read of the node is refused, or answered with what the history shows of the node
+abbrev pub ReadsShow : Listing → List Entry → ℕ → Type 0
+ReadsShow net past t =
+    let r = (answer_of net past (call.Read t)).0 in
+    IsTrue (is_granted r) → r ≡ reply.State (shown net past t)
