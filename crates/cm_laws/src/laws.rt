@@ -9,7 +9,8 @@ ghost use Rattle.cm_laws.specs.Laws.{AtEach, BecomesOperationalRightly, ReadsSho
 /// value of 1F84h to 1F88h is the one that was answered, and the session was begun and the slave not
 /// cleared since.
 pub fn boots_start_rightly()
-    ensures law { (net : Listing) (past : List AnEntry) → IsLegal net past → AtEach (StartsRightly net) past }
+    ensures law { (net : Listing) (past : List AnEntry) → IsLegal net past
+        → AtEach (StartsRightly net) past }
 {}
 
 /// A law of legal histories, over the definitions alone: the network becomes operational only with
@@ -17,7 +18,8 @@ pub fn boots_start_rightly()
 /// are a start of all, no mandatory slave is open, and each one with 1F81h bit 2 has shown its set
 /// values of 1F84h to 1F88h since it was last cleared.
 pub fn network_becomes_operational_rightly()
-    ensures law { (net : Listing) (past : List AnEntry) → IsLegal net past → AtEach (BecomesOperationalRightly net) past }
+    ensures law { (net : Listing) (past : List AnEntry) → IsLegal net past
+        → AtEach (BecomesOperationalRightly net) past }
 {}
 
 /// A law of the definitions alone: a read of a node that isn't refused is answered with what the

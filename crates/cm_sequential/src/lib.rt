@@ -3,8 +3,8 @@
 //! that its orders send. It takes no memory.
 #![tactic(auto)]
 
-mod manager;
 mod listing_copy;
+mod manager;
 mod sending;
 mod slaves;
 

@@ -113,7 +113,8 @@ impl Manager {
 
     /// Which refusal a start of the network meets.
     fn start_refusal(&self) -> Option<u8>
-        ensures { result ≡ first_refusal (refusals (listing_in self.now) (seen_in self.now 0) Call.StartNetwork) }
+        ensures { result
+            ≡ first_refusal (refusals (listing_in self.now) (seen_in self.now 0) Call.StartNetwork) }
     {
         if !self.listing.is_master() {
             return Some(1);
@@ -126,7 +127,8 @@ impl Manager {
 
     /// Which refusal a begin of a boot meets.
     fn begin_refusal(&self, id: NodeId) -> Option<u8>
-        ensures { result ≡ first_refusal (refusals (listing_in self.now) (seen_in self.now id) (Call.Begin id)) }
+        ensures { result
+            ≡ first_refusal (refusals (listing_in self.now) (seen_in self.now id) (Call.Begin id)) }
     {
         if self.phase.is_idle() || self.phase.is_halted() {
             return Some(3);
@@ -168,7 +170,10 @@ impl Manager {
         found: Option<Status>,
     ) -> Option<u8>
         requires { found ≡ judged ((listing_in self.now).terms id) answers.now }
-        ensures { result ≡ first_refusal (refusals (listing_in self.now) (seen_in self.now id) (Call.Report id number answers.now)) }
+        ensures { result
+            ≡ first_refusal
+            (refusals (listing_in self.now) (seen_in self.now id)
+            (Call.Report id number answers.now)) }
     {
         if self.phase.is_idle() {
             return Some(3);
@@ -188,7 +193,9 @@ impl Manager {
 
     /// Which refusal an error control message meets.
     fn signal_refusal(&self, id: NodeId, byte: u8) -> Option<u8>
-        ensures { result ≡ first_refusal (refusals (listing_in self.now) (seen_in self.now id) (Call.Signal id byte)) }
+        ensures { result
+            ≡ first_refusal
+            (refusals (listing_in self.now) (seen_in self.now id) (Call.Signal id byte)) }
     {
         if self.phase.is_idle() {
             return Some(3);
@@ -204,7 +211,8 @@ impl Manager {
 
     /// Which refusal a loss meets.
     fn lost_refusal(&self, id: NodeId) -> Option<u8>
-        ensures { result ≡ first_refusal (refusals (listing_in self.now) (seen_in self.now id) (Call.Lost id)) }
+        ensures { result
+            ≡ first_refusal (refusals (listing_in self.now) (seen_in self.now id) (Call.Lost id)) }
     {
         if self.phase.is_idle() {
             return Some(3);
@@ -217,7 +225,9 @@ impl Manager {
 
     /// Which refusal a request meets.
     fn request_refusal(&self, target: u8, value: u8) -> Option<u8>
-        ensures { result ≡ first_refusal (refusals (listing_in self.now) (seen_in self.now target) (Call.Request target value)) }
+        ensures { result
+            ≡ first_refusal
+            (refusals (listing_in self.now) (seen_in self.now target) (Call.Request target value)) }
     {
         if self.phase.is_idle() {
             return Some(3);
@@ -243,7 +253,9 @@ impl Manager {
 
     /// Which refusal a read meets.
     fn read_refusal(&self, target: u8) -> Option<u8>
-        ensures { result ≡ first_refusal (refusals (listing_in self.now) (seen_in self.now target) (Call.Read target)) }
+        ensures { result
+            ≡ first_refusal
+            (refusals (listing_in self.now) (seen_in self.now target) (Call.Read target)) }
     {
         if self.phase.is_idle() {
             return Some(3);
@@ -256,7 +268,8 @@ impl Manager {
 
     /// Which refusal a passing of time meets.
     fn elapsed_refusal(&self, ms: u32) -> Option<u8>
-        ensures { result ≡ first_refusal (refusals (listing_in self.now) (seen_in self.now 0) (Call.Elapsed ms)) }
+        ensures { result
+            ≡ first_refusal (refusals (listing_in self.now) (seen_in self.now 0) (Call.Elapsed ms)) }
     {
         if self.phase.is_idle() { Some(3) } else { None }
     }
@@ -264,7 +277,9 @@ impl Manager {
     /// Which refusal a call meets.
     fn refusal(&self, call: &Call, found: Option<Status>) -> Option<u8>
         requires { found ≡ judged_in (listing_in self.now) call.now }
-        ensures { result ≡ first_refusal (refusals (listing_in self.now) (seen_in self.now (node_named call.now)) call.now) }
+        ensures { result
+            ≡ first_refusal
+            (refusals (listing_in self.now) (seen_in self.now (node_named call.now)) call.now) }
     {
         match call {
             Call::StartNetwork => self.start_refusal(),
@@ -282,8 +297,10 @@ impl Manager {
 
     /// The network is started.
     fn start(&mut self) -> (Reply, Orders)
-        ensures answer { (result.0, result.1) ≡ granted_answer (listing_in self.old) (seen_in self.old 0) Call.StartNetwork }
-        ensures keeps { Keeps self.new (listing_in self.old) Phase.Booting NmtState.PreOperational self.old.begun (λ i. blank_slave) }
+        ensures answer { (result.0, result.1)
+            ≡ granted_answer (listing_in self.old) (seen_in self.old 0) Call.StartNetwork }
+        ensures keeps { Keeps self.new (listing_in self.old) Phase.Booting NmtState.PreOperational
+            self.old.begun (λ i. blank_slave) }
     {
         self.phase = Phase::Booting;
         self.own = NmtState::PreOperational;
@@ -294,9 +311,13 @@ impl Manager {
     /// The boot of a slave begins.
     fn begin(&mut self, id: NodeId) -> (Reply, Orders)
         requires { self.old.begun < 2 ^ 64 - 1 }
-        ensures answer { (result.0, result.1) ≡ granted_answer (listing_in self.old) (seen_in self.old id) (Call.Begin id) }
-        ensures keeps { Keeps self.new (listing_in self.old) self.old.phase self.old.own (self.old.begun + 1)
-            (with_slave id (record (kept_at self.old.slaves id) { session = Some (self.old.begun + 1) }) self.old.slaves) }
+        ensures answer { (result.0, result.1)
+            ≡ granted_answer (listing_in self.old) (seen_in self.old id) (Call.Begin id) }
+        ensures keeps { Keeps self.new (listing_in self.old) self.old.phase self.old.own
+            (self.old.begun + 1)
+            (with_slave id
+            (record (kept_at self.old.slaves id) { session = Some (self.old.begun + 1) })
+            self.old.slaves) }
     {
         let node = id.get();
         let number = self.begun + 1;
@@ -315,7 +336,9 @@ impl Manager {
 
     /// Whether all slaves are to be started at once.
     fn starts_every(&self) -> bool
-        ensures { result ≡ starts_every (listing_in self.now) self.now.phase (open_in (listing_in self.now) self.now.slaves) }
+        ensures { result
+            ≡ starts_every (listing_in self.now) self.now.phase
+            (open_in (listing_in self.now) self.now.slaves) }
     {
         self.phase.is_booting()
             && self.none_open()
@@ -363,8 +386,10 @@ impl Manager {
 
     /// The readiness test, or a failure that ends the boot of the network.
     fn settle(&mut self, failed: bool)
-        ensures { let after = settled_phase self.old.phase failed (open_in (listing_in self.old) self.old.slaves) in
-            Keeps self.new (listing_in self.old) after (settled_own (listing_in self.old) self.old.phase after self.old.own)
+        ensures { let after = settled_phase self.old.phase failed
+            (open_in (listing_in self.old) self.old.slaves) in
+            Keeps self.new (listing_in self.old) after
+            (settled_own (listing_in self.old) self.old.phase after self.old.own)
             self.old.begun (kept_at self.old.slaves) }
     {
         if !self.phase.is_booting() {
@@ -403,9 +428,12 @@ impl Manager {
 
     /// Writes what a boot found of its slave.
     fn write_report(&mut self, id: NodeId, status: Status, left: u8)
-        ensures keeps { Keeps self.new (listing_in self.old) self.old.phase self.old.own self.old.begun
-            (with_slave id (reported_slave (kept_at self.old.slaves id) left status) self.old.slaves) }
-        ensures open { open_in (listing_in self.new) self.new.slaves ≡ open_less (open_in (listing_in self.old) self.old.slaves) id status }
+        ensures keeps { Keeps self.new (listing_in self.old) self.old.phase self.old.own
+            self.old.begun
+            (with_slave id (reported_slave (kept_at self.old.slaves id) left status)
+            self.old.slaves) }
+        ensures open { open_in (listing_in self.new) self.new.slaves
+            ≡ open_less (open_in (listing_in self.old) self.old.slaves) id status }
     {
         let node = id.get();
         let slave = slaves::reported(self.slaves[node as usize], left, status);
@@ -416,11 +444,18 @@ impl Manager {
     fn report(&mut self, id: NodeId, answers: &Answers, found: Option<Status>) -> (Reply, Orders)
         requires { found ≡ judged ((listing_in self.old).terms id) answers.now }
         ensures answer { (number : ℕ) → (result.0, result.1)
-            ≡ granted_answer (listing_in self.old) (seen_in self.old id) (Call.Report id number answers.now) }
-        ensures keeps { let s = unwrap_or (judged ((listing_in self.old).terms id) answers.now) Status.A in
-            let after = settled_phase self.old.phase (is_fatal (listing_in self.old) id s) (open_less (open_in (listing_in self.old) self.old.slaves) id s) in
-            Keeps self.new (listing_in self.old) after (settled_own (listing_in self.old) self.old.phase after self.old.own) self.old.begun
-            (λ i. slave_after_orders result.1 i (with_slave id (reported_slave (kept_at self.old.slaves id) (state_reported s answers.now) s) self.old.slaves i)) }
+            ≡ granted_answer (listing_in self.old) (seen_in self.old id)
+            (Call.Report id number answers.now) }
+        ensures keeps { let s = unwrap_or (judged ((listing_in self.old).terms id) answers.now)
+            Status.A in
+            let after = settled_phase self.old.phase (is_fatal (listing_in self.old) id s)
+            (open_less (open_in (listing_in self.old) self.old.slaves) id s) in
+            Keeps self.new (listing_in self.old) after
+            (settled_own (listing_in self.old) self.old.phase after self.old.own) self.old.begun
+            (λ i. slave_after_orders result.1 i
+            (with_slave id
+            (reported_slave (kept_at self.old.slaves id) (state_reported s answers.now) s)
+            self.old.slaves i)) }
     {
         let status = found.unwrap_or(Status::A);
         let left = state_reported(status, answers);
@@ -434,7 +469,8 @@ impl Manager {
 
     /// An error control message came.
     fn signal(&mut self, id: NodeId, byte: u8) -> (Reply, Orders)
-        ensures answer { (result.0, result.1) ≡ granted_answer (listing_in self.old) (seen_in self.old id) (Call.Signal id byte) }
+        ensures answer { (result.0, result.1)
+            ≡ granted_answer (listing_in self.old) (seen_in self.old id) (Call.Signal id byte) }
         ensures keeps { MatchOption (signal_of byte) (self.new ≡ self.old)
             (λ s. Keeps self.new (listing_in self.old) self.old.phase self.old.own self.old.begun
             (with_slave id (signalled_slave s (kept_at self.old.slaves id)) self.old.slaves)) }
@@ -477,7 +513,8 @@ impl Manager {
 
     /// A booted slave is lost.
     fn lost_booted(&mut self, id: NodeId, orders: &Orders)
-        ensures { Keeps self.new (listing_in self.old) self.old.phase (own_after_loss orders.now self.old.own) self.old.begun
+        ensures { Keeps self.new (listing_in self.old) self.old.phase
+            (own_after_loss orders.now self.old.own) self.old.begun
             (λ i. slave_after_orders orders.now i (lost_slave orders.now id self.old.slaves i)) }
     {
         if is_reset_all(orders) {
@@ -500,7 +537,8 @@ impl Manager {
         ensures answer { IsTrue (is_listed (listing_in self.old) id) → (result.0, result.1)
             ≡ granted_answer (listing_in self.old) (seen_in self.old id) (Call.Lost id) }
         ensures keeps { MatchBool (kept_at self.old.slaves id).booted
-            (Keeps self.new (listing_in self.old) self.old.phase (own_after_loss result.1 self.old.own) self.old.begun
+            (Keeps self.new (listing_in self.old) self.old.phase
+            (own_after_loss result.1 self.old.own) self.old.begun
             (λ i. slave_after_orders result.1 i (lost_slave result.1 id self.old.slaves i)))
             (Keeps self.new (listing_in self.old) self.old.phase self.old.own self.old.begun
             (with_slave id (record (kept_at self.old.slaves id) { state = 1 }) self.old.slaves)) }
@@ -519,7 +557,8 @@ impl Manager {
 
     /// A request to the manager itself; a reset leaves its state.
     fn request_own(&mut self, value: u8)
-        ensures { Keeps self.new (listing_in self.old) self.old.phase (own_after_request value self.old.own) self.old.begun (kept_at self.old.slaves) }
+        ensures { Keeps self.new (listing_in self.old) self.old.phase
+            (own_after_request value self.old.own) self.old.begun (kept_at self.old.slaves) }
     {
         if let Some(state) = NmtState::from_code(value) {
             self.own = state;
@@ -528,8 +567,10 @@ impl Manager {
 
     /// A request to all nodes.
     fn request_all(&mut self, value: u8, orders: &Orders)
-        ensures { Keeps self.new (listing_in self.old) self.old.phase (own_after_request value self.old.own) self.old.begun
-            (λ i. slave_after_orders orders.now i (requested_slave value (kept_at self.old.slaves i))) }
+        ensures { Keeps self.new (listing_in self.old) self.old.phase
+            (own_after_request value self.old.own) self.old.begun
+            (λ i. slave_after_orders orders.now i
+            (requested_slave value (kept_at self.old.slaves i))) }
     {
         if value == 6 || value == 7 {
             slaves::clear_all(&mut self.slaves);
@@ -541,7 +582,9 @@ impl Manager {
     /// A request to a slave.
     fn request_one(&mut self, id: NodeId, value: u8)
         ensures { Keeps self.new (listing_in self.old) self.old.phase self.old.own self.old.begun
-            (with_slave id (record (requested_slave value (kept_at self.old.slaves id)) { state = state_requested value }) self.old.slaves) }
+            (with_slave id
+            (record (requested_slave value (kept_at self.old.slaves id))
+            { state = state_requested value }) self.old.slaves) }
     {
         let node = id.get();
         let slave = slaves::requested(self.slaves[node as usize], value);
@@ -553,7 +596,9 @@ impl Manager {
         requires low { 1 ≤ target }
         requires high { target ≤ 128 }
         requires value { IsSome (command_of_request value) }
-        ensures answer { (result.0, result.1) ≡ granted_answer (listing_in self.old) (seen_in self.old target) (Call.Request target value) }
+        ensures answer { (result.0, result.1)
+            ≡ granted_answer (listing_in self.old) (seen_in self.old target)
+            (Call.Request target value) }
         ensures keeps { Effect self.old (Call.Request target value) result.0 result.1 self.new }
     {
         if target == self.listing.own_id() {
@@ -577,7 +622,8 @@ impl Manager {
 
     /// 1F82h is read.
     fn read(&self, target: u8) -> (Reply, Orders)
-        ensures { (result.0, result.1) ≡ granted_answer (listing_in self.now) (seen_in self.now target) (Call.Read target) }
+        ensures { (result.0, result.1)
+            ≡ granted_answer (listing_in self.now) (seen_in self.now target) (Call.Read target) }
     {
         if target == self.listing.own_id() {
             return (Reply::State(self.own.code()), Orders::None);
@@ -588,7 +634,9 @@ impl Manager {
 
     /// Whether the time for the mandatory slaves is up.
     fn is_late(&self, ms: u32) -> bool
-        ensures { result ≡ is_late (listing_in self.now) self.now.phase (open_in (listing_in self.now) self.now.slaves) ms }
+        ensures { result
+            ≡ is_late (listing_in self.now) self.now.phase
+            (open_in (listing_in self.now) self.now.slaves) ms }
     {
         let limit = self.listing.boot_time();
         let booting = self.phase.is_booting();
@@ -597,10 +645,13 @@ impl Manager {
 
     /// Time went by.
     fn elapsed(&mut self, ms: u32) -> (Reply, Orders)
-        ensures answer { (result.0, result.1) ≡ granted_answer (listing_in self.old) (seen_in self.old 0) (Call.Elapsed ms) }
+        ensures answer { (result.0, result.1)
+            ≡ granted_answer (listing_in self.old) (seen_in self.old 0) (Call.Elapsed ms) }
         ensures keeps { let open_slaves = open_in (listing_in self.old) self.old.slaves in
-            let after = settled_phase self.old.phase (is_late (listing_in self.old) self.old.phase open_slaves ms) open_slaves in
-            Keeps self.new (listing_in self.old) after (settled_own (listing_in self.old) self.old.phase after self.old.own) self.old.begun
+            let after = settled_phase self.old.phase
+            (is_late (listing_in self.old) self.old.phase open_slaves ms) open_slaves in
+            Keeps self.new (listing_in self.old) after
+            (settled_own (listing_in self.old) self.old.phase after self.old.own) self.old.begun
             (λ i. slave_after_orders result.1 i (kept_at self.old.slaves i)) }
     {
         if self.is_late(ms) {
@@ -621,8 +672,11 @@ impl Manager {
     fn grant(&mut self, call: &Call, found: Option<Status>) -> (Reply, Orders)
         requires begun { self.old.begun < 2 ^ 64 - 1 }
         requires judged { found ≡ judged_in (listing_in self.old) call.now }
-        requires granted { first_refusal (refusals (listing_in self.old) (seen_in self.old (node_named call.now)) call.now) ≡ None }
-        ensures answer { (result.0, result.1) ≡ granted_answer (listing_in self.old) (seen_in self.old (node_named call.now)) call.now }
+        requires granted { first_refusal
+            (refusals (listing_in self.old) (seen_in self.old (node_named call.now)) call.now)
+            ≡ None }
+        ensures answer { (result.0, result.1)
+            ≡ granted_answer (listing_in self.old) (seen_in self.old (node_named call.now)) call.now }
         ensures keeps { Effect self.old call.now result.0 result.1 self.new }
     {
         match call {
@@ -640,7 +694,8 @@ impl Manager {
     /// Serves a call.
     fn serve(&mut self, call: &Call) -> (Reply, Orders)
         requires { self.old.begun < 2 ^ 64 - 1 }
-        ensures answer { (result.0, result.1) ≡ answer_from (listing_in self.old) (seen_in self.old (node_named call.now)) call.now }
+        ensures answer { (result.0, result.1)
+            ≡ answer_from (listing_in self.old) (seen_in self.old (node_named call.now)) call.now }
         ensures after { After self.old call.now result.0 result.1 self.new }
     {
         let found = self.judged(call);
@@ -674,8 +729,10 @@ impl Manager {
         requires { sessions_begun self.old < 2 ^ 64 - 1 }
         ensures answer { (net : AnyNetwork) (past : List Entry) → Stands self.old net past
             → (result.0, result.1) ≡ answer_of (listing net) past call }
-        ensures stands { (net : AnyNetwork) (past : List Entry) (seat : ℕ) → Stands self.old net past
-            → Stands self.new net (record { seat = seat; call = call; reply = result.0; orders = result.1 } ∷ past) }
+        ensures stands { (net : AnyNetwork) (past : List Entry) (seat : ℕ)
+            → Stands self.old net past
+            → Stands self.new net
+            (record { seat = seat; call = call; reply = result.0; orders = result.1 } ∷ past) }
         ensures refused { (number : ℕ) → result.0 ≡ Reply.Refused number → self.new ≡ self.old }
         ensures begun { sessions_begun self.new ≤ sessions_begun self.old + 1 }
     {
@@ -685,7 +742,8 @@ impl Manager {
     /// The state of a slave as object 1F82h reads it: 0 unknown or not listed, 1 missing,
     /// 4 stopped, 5 operational, 127 pre-operational.
     pub fn state(&self, id: NodeId) -> u8
-        ensures { (net : AnyNetwork) (past : List Entry) → Stands self.now net past → result ≡ state_of (listing net) past id }
+        ensures { (net : AnyNetwork) (past : List Entry) → Stands self.now net past
+            → result ≡ state_of (listing net) past id }
     {
         let slave = self.slaves[id.get() as usize];
         slave.state
@@ -693,28 +751,32 @@ impl Manager {
 
     /// The manager's own NMT state.
     pub fn own(&self) -> NmtState
-        ensures { (net : AnyNetwork) (past : List Entry) → Stands self.now net past → result ≡ own_of (listing net) past }
+        ensures { (net : AnyNetwork) (past : List Entry) → Stands self.now net past
+            → result ≡ own_of (listing net) past }
     {
         self.own
     }
 
     /// How far the manager has come with its network.
     pub fn phase(&self) -> Phase
-        ensures { (net : AnyNetwork) (past : List Entry) → Stands self.now net past → result ≡ phase_of (listing net) past }
+        ensures { (net : AnyNetwork) (past : List Entry) → Stands self.now net past
+            → result ≡ phase_of (listing net) past }
     {
         self.phase
     }
 
     /// How many mandatory slaves aren't booted.
     pub fn open_mandatory(&self) -> u8
-        ensures { (net : AnyNetwork) (past : List Entry) → Stands self.now net past → result ≡ length (open_of (listing net) past) }
+        ensures { (net : AnyNetwork) (past : List Entry) → Stands self.now net past
+            → result ≡ length (open_of (listing net) past) }
     {
         self.count_open()
     }
 
     /// Whether the slave is booted.
     pub fn booted(&self, id: NodeId) -> bool
-        ensures { (net : AnyNetwork) (past : List Entry) → Stands self.now net past → result ≡ is_booted past id }
+        ensures { (net : AnyNetwork) (past : List Entry) → Stands self.now net past
+            → result ≡ is_booted past id }
     {
         let slave = self.slaves[id.get() as usize];
         slave.booted
@@ -722,7 +784,8 @@ impl Manager {
 
     /// The number of the slave's session, if one is open.
     pub fn session(&self, id: NodeId) -> Option<u64>
-        ensures { (net : AnyNetwork) (past : List Entry) → Stands self.now net past → result ≡ session_of past id }
+        ensures { (net : AnyNetwork) (past : List Entry) → Stands self.now net past
+            → result ≡ session_of past id }
     {
         let slave = self.slaves[id.get() as usize];
         slave.session
@@ -731,7 +794,8 @@ impl Manager {
     /// How many sessions were begun.
     pub fn begun(&self) -> u64
         ensures value { result ≡ sessions_begun self.now }
-        ensures stands { (net : AnyNetwork) (past : List Entry) → Stands self.now net past → result ≡ begun_in past }
+        ensures stands { (net : AnyNetwork) (past : List Entry) → Stands self.now net past
+            → result ≡ begun_in past }
     {
         self.begun
     }
