@@ -47,8 +47,12 @@ impl Write {
     }
 }
 
-/// A write of one byte 0, which stands in the unused places of lists of fixed size.
+/// A write of one byte 0 to object 0 sub 0, which stands in the unused places of lists of fixed size.
 impl Default for Write {
+    ghost use Rattle.cm_objects.specs.Write.{write_with};
+
+    ghost is_default = { λ w. w ≡ write_with 0 0 1 0 };
+
     fn default() -> Write {
         Write {
             index: 0,
