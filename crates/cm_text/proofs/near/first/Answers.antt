@@ -1,5 +1,5 @@
 use Rattle.cm_text.proofs.Ends.{is_first, too_short, goes_on}
-use Rattle.cm_text.proofs.fields.first.Goals as goal
+use Rattle.cm_text.proofs.near.first.Goals as goal
 
 pub returns-then-bytes-width : goal.returns-then-bytes-width
 returns-then-bytes-width c = too_short 32 c.args.width c.args.bytes.now c.if-bytes-width.true

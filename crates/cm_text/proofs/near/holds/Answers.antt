@@ -1,6 +1,6 @@
 use Rattle.std.proofs.Common.{refl, eqb, get_or}
 use Rattle.cm_text.proofs.Heads.{held_more}
-use Rattle.cm_text.proofs.fields.holds.Goals as goal
+use Rattle.cm_text.proofs.near.holds.Goals as goal
 
 pub loop-at-preserved : goal.loop-at-preserved
 loop-at-preserved c =

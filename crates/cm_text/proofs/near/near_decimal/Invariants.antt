@@ -1,6 +1,6 @@
 use Rattle.std.proofs.Common.{◌≡◌, get_or, take}
 use Rattle.std.specs.Str.Parse.{AllDigits, digits_value}
-use Rattle.cm_text.proofs.decimal.near_decimal.Given as goal
+use Rattle.cm_text.proofs.near.near_decimal.Given as goal
 
 abbrev pub invariant-loop-at : goal.invariant-loop-at
 invariant-loop-at l =

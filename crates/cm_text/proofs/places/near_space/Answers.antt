@@ -1,7 +1,7 @@
 use Rattle.std.proofs.Common.{eqb, Some, ap, ◌∙◌, arith}
 use Rattle.std.specs.Int.Count.{count_trailing_zeros}
 use Rattle.cm_text.proofs.Splits.{lowest_is_position}
-use Rattle.cm_text.proofs.fields.near_space.Goals as goal
+use Rattle.cm_text.proofs.places.near_space.Goals as goal
 
 pub returns-then-found-ne0 : goal.returns-then-found-ne0
 returns-then-found-ne0 c =

@@ -1,7 +1,7 @@
 use Rattle.std.proofs.Common.{sym, refl}
 use Rattle.cm_text.specs.Left.{parts}
 use Rattle.cm_text.proofs.Heads.{text_too_long, text_is_other, text_is_cut, text_behind}
-use Rattle.cm_text.proofs.fields.behind_text.Goals as goal
+use Rattle.cm_text.proofs.near.behind_text.Goals as goal
 
 pub returns-then-bytes-text : goal.returns-then-bytes-text
 returns-then-bytes-text c = text_too_long c.args.separator c.args.text.now c.args.bytes.now c.if-bytes-text.true

@@ -1,7 +1,7 @@
 use Rattle.std.proofs.Common.{◌+◌, ◌-◌, length, drop, arith, length-drop}
 use Rattle.std.proofs.lemmas.List.{take_all}
 use Rattle.cm_text.proofs.Decimals.{few_digits, number_ends, one_digit}
-use Rattle.cm_text.proofs.decimal.near_decimal.Goals as goal
+use Rattle.cm_text.proofs.near.near_decimal.Goals as goal
 
 pub returns-then-n-most : goal.returns-then-n-most
 returns-then-n-most c =
