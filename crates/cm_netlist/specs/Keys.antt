@@ -12,7 +12,8 @@ pub record IntegerKey : Type 0 where
   pub greatest : ℕ
   pub needed : Bool
 
-abbrev integer : List ℕ → ℕ → ℕ → Bool → IntegerKey
+-- a key of these four
+abbrev pub integer : List ℕ → ℕ → ℕ → Bool → IntegerKey
 integer name least greatest needed = record { name = name; least = least; greatest = greatest; needed = needed }
 
 -- the integers of the top table (own)

@@ -1,6 +1,6 @@
 //! The keys of a network list in TOML whose values are integers.
 ghost use Rattle.std.specs.Prelude.{◌≡◌, map};
-ghost use Rattle.cm_netlist.specs.Keys.{top_integers, slave_integers};
+ghost use Rattle.cm_netlist.specs.Keys.{integer, top_integers, slave_integers};
 ghost use Rattle.cm_netlist.specs.CodeKeys.{key_of};
 
 /// A key whose value is an integer: the least and the greatest that may stand there, and whether a
@@ -13,8 +13,9 @@ pub struct IntegerKey {
     pub needed: bool,
 }
 
+/// A key of these four.
 fn key(name: &'static str, least: u64, greatest: u64, needed: bool) -> IntegerKey
-    ensures { key_of result ≡ record { name = name.now; least = least; greatest = greatest; needed = needed } }
+    ensures { key_of result ≡ integer name.now least greatest needed }
 {
     IntegerKey {
         name,
