@@ -4,4 +4,3 @@ pub mod Listed
 pub mod Networks
 mod Items
 mod Build
-mod Plain

@@ -25,7 +25,9 @@ impl NmtState {
 
     /// The state that has this number; `None` exactly where no state has it.
     pub fn from_code(code: u8) -> Option<NmtState>
-        ensures exact { MatchOption result ((s : State) → state_code s ≢ code) (λ s. state_code s ≡ code) }
+        ensures exact { MatchOption result
+            ((s : State) → state_code s ≢ code)
+            (λ s. state_code s ≡ code) }
         ensures value { result ≡ state_of_code code }
     {
         match code {

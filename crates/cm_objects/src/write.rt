@@ -47,7 +47,7 @@ impl Write {
     }
 }
 
-/// A write of one byte 0 to object 0 sub 0, which stands in the unused places of lists of fixed size.
+/// A write of one byte 0 to object 0, which stands in the unused places of lists of fixed size.
 impl Default for Write {
     ghost use Rattle.cm_objects.specs.Write.{write_with};
 
