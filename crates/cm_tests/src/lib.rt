@@ -1,5 +1,5 @@
-//! What no journal and no network list can show: values that no text can spell, and each public
-//! function at its limits.
+//! What no contract says, and neither a journal nor a network list can show: values that no text can
+//! spell, readers and writers that fail, and each public function once. One file for each topic.
 #![tactic(auto)]
 
 #[cfg(test)]
