@@ -1,5 +1,7 @@
 //! What a journal can't show of the sequential manager and of the replay.
 
+ghost use Rattle.cm_replay.specs.Compact.{IsReplayOfSome};
+
 use arrayvec::ArrayVec;
 use cm_answers::{Answers, Got, Status};
 use cm_history::{Call, Entry, Orders, Reply, Slave, abort_code};
@@ -79,6 +81,17 @@ fn boot(rt: &impl Abort, session: u64, status: Status, started: Option<u8>) -> [
             start_of(rt, started),
         ),
     ]
+}
+
+/// Adds entries whose answers are the manager's.
+fn take(rt: &impl Abort, compact: &mut CompactReplay, entries: &[Entry])
+    requires { IsReplayOfSome compact.old }
+    ensures { IsReplayOfSome compact.new }
+{
+    match compact.take_all(entries) {
+        Ok(()) => {}
+        Err(untaken) => panic!(rt; "{untaken:?}"),
+    }
 }
 
 #[test]
@@ -183,9 +196,9 @@ fn entries_are_taken_in_parts(rt: HostRuntime) {
     let entries = boot(&rt, 1, Status::Ok, Some(2));
     let (first, others) = entries.split_at(1);
     let mut compact = CompactReplay::new(rt.alloc(), &net);
-    compact.take_all(first).expect(&rt, "the start");
+    take(&rt, &mut compact, first);
     assert_eq!(rt; (compact.count(), compact.statuses()[2]), (1, None));
-    compact.take_all(others).expect(&rt, "the boot");
+    take(&rt, &mut compact, others);
     assert_eq!(rt;
         (compact.count(), compact.statuses()[2]),
         (3, Some(Status::Ok))
