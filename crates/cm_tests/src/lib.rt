@@ -3,4 +3,6 @@
 #![tactic(auto)]
 
 #[cfg(test)]
+mod manager;
+#[cfg(test)]
 mod netlist;

@@ -1,0 +1,213 @@
+//! What a journal can't show of the sequential manager and of the replay.
+
+ghost use Rattle.cm_replay.specs.Compact.{IsReplayOfSome};
+
+use arrayvec::ArrayVec;
+use cm_answers::{Answers, Got, Status};
+use cm_history::{Call, Entry, Orders, Reply, Slave, abort_code};
+use cm_netlist::{Network, SlaveEntry};
+use cm_nmt::{Frame, NodeId};
+use cm_objects::{Assignment, Startup};
+use cm_replay::{Cause, CompactReplay, Untaken, replay, replay_to_fault};
+use cm_sequential::{Manager, frames};
+use std::alloc::Global;
+use std::process::Abort;
+
+fn node(rt: &impl Abort, number: u8) -> NodeId {
+    NodeId::new(number).expect(rt, "a node-ID")
+}
+
+/// The frame of these two bytes.
+fn frame(rt: &impl Abort, specifier: u8, number: u8) -> Frame {
+    Frame::read(&[specifier, number]).expect(rt, "a frame")
+}
+
+/// A slave of this assignment, of which nothing else is listed.
+fn slave(assignment: u32) -> SlaveEntry {
+    SlaveEntry {
+        assignment: Assignment(assignment),
+        device_type: 0,
+        vendor: 0,
+        product: 0,
+        revision: 0,
+        serial: 0,
+        heartbeat_ms: 0,
+        date: 0,
+        time: 0,
+        writes: ArrayVec::new(),
+    }
+}
+
+/// A network of the manager 1 with slaves of these nodes and assignments.
+fn network(rt: &impl Abort, alloc: Global, slaves: &[(u8, u32)]) -> Network {
+    let mut network = Network::new(alloc, node(rt, 1), Startup(1), 0);
+    for (number, assignment) in slaves {
+        assert_eq!(rt; network.add(node(rt, *number), slave(*assignment)), Ok(()));
+    }
+    network
+}
+
+/// A start of this node, of all where the number is 0, or nothing.
+fn start_of(rt: &impl Abort, started: Option<u8>) -> Orders {
+    match started {
+        Some(number) => Orders::One(frame(rt, 0x01, number)),
+        None => Orders::None,
+    }
+}
+
+fn entry(call: Call, reply: Reply, orders: Orders) -> Entry {
+    Entry {
+        call,
+        reply,
+        orders,
+        seat: 1,
+    }
+}
+
+/// A start, and the boot of the slave 2: the session that is begun, the status and the start of its
+/// report.
+fn boot(rt: &impl Abort, session: u64, status: Status, started: Option<u8>) -> [Entry; 3] {
+    let id = node(rt, 2);
+    let answers = Answers {
+        device: Got::Value(0x0002_0192),
+        ..Answers::new()
+    };
+    [
+        entry(Call::StartNetwork, Reply::Started, Orders::ResetUnkept),
+        entry(Call::Begin(id), Reply::Begun(session), Orders::None),
+        entry(
+            Call::Report(id, 1, answers),
+            Reply::Reported(status),
+            start_of(rt, started),
+        ),
+    ]
+}
+
+/// Adds entries whose answers are the manager's.
+fn take(rt: &impl Abort, compact: &mut CompactReplay, entries: &[Entry])
+    requires { IsReplayOfSome compact.old }
+    ensures { IsReplayOfSome compact.new }
+{
+    match compact.take_all(entries) {
+        Ok(()) => {}
+        Err(untaken) => panic!(rt; "{untaken:?}"),
+    }
+}
+
+#[test]
+fn two_refusals_have_an_abort_code(rt: HostRuntime) {
+    for (refusal, code) in [
+        (0, None),
+        (1, None),
+        (10, None),
+        (11, Some(0x0609_0030)),
+        (12, Some(0x0800_0022)),
+        (13, None),
+        (255, None),
+    ] {
+        assert_eq!(rt; abort_code(refusal), code, "{refusal}");
+    }
+}
+
+#[test]
+fn of_a_blank_slave_nothing_is_known(rt: HostRuntime) {
+    let blank = Slave {
+        state: 0,
+        booted: false,
+        session: None,
+    };
+    assert_eq!(rt; Slave::blank(), blank);
+}
+
+#[test]
+fn sessions_are_counted_over_every_start(rt: HostRuntime) {
+    let mut manager = Manager::new(&network(&rt, rt.alloc(), &[(2, 0x0D), (3, 0x05)]));
+    for (place, (call, begun)) in [
+        (Call::Begin(node(&rt, 2)), 0),
+        (Call::StartNetwork, 0),
+        (Call::Begin(node(&rt, 2)), 1),
+        // refused: a session is there
+        (Call::Begin(node(&rt, 2)), 1),
+        (Call::Begin(node(&rt, 3)), 2),
+        // the session is dropped, and stays counted
+        (Call::Signal(node(&rt, 2), 0), 2),
+        (Call::Begin(node(&rt, 2)), 3),
+        (Call::Request(128, 6), 3),
+        (Call::Begin(node(&rt, 2)), 4),
+    ]
+    .iter()
+    .enumerate()
+    {
+        assert!(rt; manager.begun() < 1000);
+        manager.apply(*call);
+        assert_eq!(rt; manager.begun(), *begun, "call {place}: {call:?}");
+    }
+}
+
+#[test]
+fn orders_send_their_frames(rt: HostRuntime) {
+    let to_all = [frame(&rt, 0x82, 0)];
+    let to_each = [frame(&rt, 0x82, 2), frame(&rt, 0x82, 4)];
+    let without = network(&rt, rt.alloc(), &[]);
+    let none_kept = network(&rt, rt.alloc(), &[(4, 0x05), (2, 0x0D)]);
+    let one_kept = network(&rt, rt.alloc(), &[(4, 0x05), (3, 0x15), (2, 0x05)]);
+    let all_kept = network(&rt, rt.alloc(), &[(2, 0x1D)]);
+    for (net, resets) in [
+        (&without, to_all.as_slice()),
+        (&none_kept, to_all.as_slice()),
+        (&one_kept, to_each.as_slice()),
+    ] {
+        assert_eq!(rt; frames(net, Orders::ResetUnkept).as_slice(), resets);
+    }
+    assert!(rt; frames(&all_kept, Orders::ResetUnkept).is_empty());
+    assert!(rt; frames(&one_kept, Orders::None).is_empty());
+    for number in [0, 3] {
+        let sent = frames(&one_kept, start_of(&rt, Some(number)));
+        assert_eq!(rt; sent.as_slice(), [frame(&rt, 0x01, number)].as_slice());
+    }
+}
+
+#[test]
+fn histories_are_replayed_to_the_first_wrong_answer(rt: HostRuntime) {
+    let net = network(&rt, rt.alloc(), &[(2, 0x0D)]);
+    for (session, status, started, fault) in [
+        (1, Status::Ok, Some(2), None),
+        (1, Status::J, Some(2), Some(2)),
+        (1, Status::Ok, None, Some(2)),
+        (1, Status::Ok, Some(0), Some(2)),
+        // the first of two
+        (2, Status::J, Some(2), Some(1)),
+    ] {
+        let entries = boot(&rt, session, status, started);
+        assert_eq!(rt; replay_to_fault(&net, &entries).err(), fault);
+        assert_eq!(rt; replay(&net, &entries).is_some(), fault.is_none());
+        let mut compact = CompactReplay::new(rt.alloc(), &net);
+        let taken = compact.take_all(&entries);
+        let cause = Cause::WrongReply;
+        let wrong = fault.map(|place| Untaken { place, cause });
+        assert_eq!(rt; taken.err(), wrong);
+    }
+    assert!(rt; replay(&net, &[]).is_some());
+}
+
+#[test]
+fn entries_are_taken_in_parts(rt: HostRuntime) {
+    let net = network(&rt, rt.alloc(), &[(2, 0x0D)]);
+    let entries = boot(&rt, 1, Status::Ok, Some(2));
+    let (first, others) = entries.split_at(1);
+    let mut compact = CompactReplay::new(rt.alloc(), &net);
+    take(&rt, &mut compact, first);
+    assert_eq!(rt; (compact.count(), compact.statuses()[2]), (1, None));
+    take(&rt, &mut compact, others);
+    assert_eq!(rt;
+        (compact.count(), compact.statuses()[2]),
+        (3, Some(Status::Ok))
+    );
+    assert_eq!(rt; compact.manager().begun(), 1);
+    let last = compact.orders().last().copied();
+    assert_eq!(rt; last, Some(start_of(&rt, Some(2))));
+    // a place is counted from the first of the entries that were to be taken
+    let again = compact.take_all(others);
+    let place = again.err().map(|untaken| untaken.place);
+    assert_eq!(rt; place, Some(0));
+}
