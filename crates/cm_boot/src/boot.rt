@@ -7,8 +7,8 @@ ghost use Rattle.cm_boot.specs.Procedure.{Reached};
 ghost use Rattle.cm_boot.specs.Questions.{question};
 ghost use Rattle.cm_boot.specs.Talk.{asked};
 
-use crate::{Answer, Answers, Got, Heard, Question, Step};
-use cm_answers::{Field, condition, fields, is_complete, status_of};
+use crate::{Answer, Question, Step};
+use cm_answers::{Answers, Field, Got, Heard, condition, fields, is_complete, status_of};
 use cm_netlist::{Network, SlaveEntry};
 use cm_nmt::NodeId;
 use cm_objects::Terms;
@@ -22,8 +22,9 @@ pub struct WrongAnswer;
 
 /// The boot of one slave, question by question (CiA 302-2, boot slave).
 ///
-/// [`next`](Boot::next) says what to ask, [`answer`](Boot::answer) takes what came, until `next` says
-/// with which status the boot has ended. Contracts see what is listed of the slave, and its answers.
+/// [`next`](Boot::next) says what to ask, [`answer`](Boot::answer) takes what came, until `next`
+/// says with which status the boot has ended. Contracts see what is listed of the slave, and its
+/// answers.
 #[derive(Drop)]
 pub struct Boot<'n> {
     entry: Option<&'n SlaveEntry>,
@@ -113,7 +114,9 @@ fn with_write(answers: &Answers, answer: Answer) -> Option<Answers>
 /// The answers with the answer to a read of 1018h sub `place + 1`.
 fn with_id(answers: &Answers, place: usize, answer: Answer) -> Option<Answers>
     requires { place < 4 }
-    ensures { result ≡ option_map (λ g. record answers.now { ids = slice_set answers.now.ids place g }) (got_of answer) }
+    ensures { result ≡ option_map
+        (λ g. record answers.now { ids = slice_set answers.now.ids place g })
+        (got_of answer) }
 {
     let mut after = *answers;
     after.ids[place] = got_of(answer)?;

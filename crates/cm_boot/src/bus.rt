@@ -5,7 +5,8 @@ ghost use Rattle.cm_boot.specs.Machine.{answered, question_due};
 ghost use Rattle.cm_boot.specs.Questions.{counted};
 ghost use Rattle.cm_boot.specs.Talk.{Talks, asked};
 
-use crate::{Answer, Answers, Boot, Question, Step};
+use crate::{Answer, Boot, Question, Step};
+use cm_answers::Answers;
 use cm_netlist::Network;
 use cm_nmt::NodeId;
 
@@ -26,7 +27,8 @@ pub trait Bus {
 /// Takes an answer, as silence where it doesn't fit the question that is due.
 fn take(boot: &mut Boot<'_>, answer: Answer)
     ensures entry { boot.new.entry ≡ boot.old.entry }
-    ensures taken { (q : _) → question_due boot.old ≡ Some q → answered boot.old (counted q answer) ≡ Some boot.new.answers }
+    ensures taken { (q : _) → question_due boot.old ≡ Some q
+        → answered boot.old (counted q answer) ≡ Some boot.new.answers }
 {
     match boot.answer(answer) {
         Ok(()) => {}
@@ -42,7 +44,8 @@ fn take(boot: &mut Boot<'_>, answer: Answer)
 /// over every bus whose `ask` returns.
 pub fn boot_slave<B: Bus>(bus: &mut B, network: &Network, id: NodeId) -> Answers
     ensures lawful { is_lawful (terms_in network.now id) result ≡ true }
-    ensures talk { Talks (λ b q x c. B.step b id q x c) bus.old (asked (entry_of network.now id) result) bus.new }
+    ensures talk { Talks (λ b q x c. B.step b id q x c) bus.old
+        (asked (entry_of network.now id) result) bus.new }
     ensures few { length (asked (entry_of network.now id) result) ≤ 41 }
 {
     let mut boot = Boot::new(network, id);

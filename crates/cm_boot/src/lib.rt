@@ -16,8 +16,6 @@
 mod boot;
 mod bus;
 mod question;
-#[cfg(test)]
-mod tests;
 mod verdict;
 
 pub use boot::{Boot, WrongAnswer};

@@ -1,4 +1,4 @@
-use crate::Status;
+use cm_answers::Status;
 use cm_nmt::NmtState;
 use cm_objects::Write;
 

@@ -3,8 +3,7 @@ ghost use Rattle.cm_netlist.specs.Network.{terms};
 ghost use Rattle.cm_boot.specs.Procedure.{IsEnd};
 ghost use Rattle.cm_answers.specs.Verdict.{judged};
 
-use crate::{Answers, Status};
-use cm_answers::{count_ids, judged_by_tables};
+use cm_answers::{Answers, Status, count_ids, judged_by_tables};
 use cm_netlist::Network;
 use cm_nmt::NodeId;
 use cm_objects::Terms;
@@ -12,7 +11,8 @@ use cm_objects::Terms;
 /// The status of a boot of the slave that ended with these answers; `None` exactly where no boot
 /// ends with them. `terms` is what is listed of the slave, `None` for one that isn't listed.
 ///
-/// The clause `value` says so by the tables, the clause `ends` by the procedure, question by question.
+/// The clause `value` says so by the tables, the clause `ends` by the procedure, question by
+/// question.
 pub fn judge_terms(terms: Option<Terms>, answers: &Answers) -> Option<Status>
     ensures value { result ≡ judged terms answers.now }
     ensures ends { (s : _) → result ≡ Some s ↔ IsEnd terms answers.now s }

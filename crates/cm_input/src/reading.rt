@@ -16,15 +16,16 @@ pub enum InputFault {
     Memory,
 }
 
-/// Puts the bytes of one read, at most `most`, behind others. The answer is their number, which is 0
-/// at the end of the input alone.
+/// Puts the bytes of one read, at most `most`, behind others. The answer is their number, which is
+/// 0 at the end of the input alone.
 pub fn read_more<R: Read>(
     reader: &mut R,
     block: &mut Block,
     bytes: &mut Vec<u8>,
     most: usize,
 ) -> Result<usize, InputFault>
-    ensures { IfOk result (λ n. ReadsMore most (R.remaining reader.old) (R.remaining reader.new) bytes.old.items bytes.new.items n) }
+    ensures { IfOk result (λ n. ReadsMore most (R.remaining reader.old) (R.remaining reader.new)
+        bytes.old.items bytes.new.items n) }
 {
     let Ok(count) = reader.read(block) else {
         return Err(InputFault::Read);
@@ -48,7 +49,8 @@ pub fn read_until<R: Read>(
     most: usize,
 ) -> Result<bool, InputFault>
     requires { length bytes.old.items ≤ most }
-    ensures read { IfOk result (λ ended. ReadsUntil most (R.remaining reader.old) (R.remaining reader.new) bytes.old.items bytes.new.items ended) }
+    ensures read { IfOk result (λ ended. ReadsUntil most
+        (R.remaining reader.old) (R.remaining reader.new) bytes.old.items bytes.new.items ended) }
     // Before the end it doesn't stop with fewer bytes than are enough.
     ensures enough { IfOk result (λ ended. ended ≡ false → enough ≤ length bytes.new.items) }
 {
@@ -70,7 +72,8 @@ pub fn read_input<R: Read>(
     reader: &mut R,
     most: usize,
 ) -> Result<Vec<u8>, InputFault>
-    ensures { IfOk result (λ v. ReadsAll most (R.remaining reader.old) (R.remaining reader.new) v.items) }
+    ensures { IfOk result (λ v.
+        ReadsAll most (R.remaining reader.old) (R.remaining reader.new) v.items) }
 {
     let mut bytes: Vec<u8> = Vec::new(alloc);
     let mut block: Block = [0u8; 65536];

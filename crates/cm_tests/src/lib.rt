@@ -3,6 +3,10 @@
 #![tactic(auto)]
 
 #[cfg(test)]
+mod boots;
+#[cfg(test)]
 mod manager;
 #[cfg(test)]
 mod netlist;
+#[cfg(test)]
+mod spelling;
