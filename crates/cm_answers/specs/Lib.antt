@@ -3,6 +3,6 @@ pub mod Heard
 pub mod Answers
 pub mod Fields
 pub mod Conditions
-pub mod Judging
 pub mod Status
 pub mod Verdict
+pub mod Judging

@@ -1,5 +1,5 @@
 ghost use Rattle.std.specs.Prelude.{◌≡◌, ◌<◌};
-ghost use Rattle.cm_answers.specs.Conditions.{asks_identity, comes_to_beat, condition, date_agrees, date_differs, device_agrees, has_no_answer, identity_agrees, is_complete, is_dated, is_used, matches, may_configure, must_write, product_agrees, revision_agrees, vendor_agrees, writes_are_counted};
+ghost use Rattle.cm_answers.specs.Conditions.{asks_identity, comes_to_beat, condition, date_agrees, date_differs, device_agrees, has_no_answer, identity_agrees, is_complete, is_dated, is_used, matches, may_configure, must_write, writes_are_counted};
 ghost use Rattle.cm_answers.specs.Judging.{reaches};
 
 use crate::Answers;
@@ -9,7 +9,7 @@ use cm_objects::Terms;
 /// Whether the identity at this place agrees with the expected value; 0 isn't compared.
 #[inline(always)]
 #[tactic(auto, unfolding(crate::specs::Conditions::matches))]
-fn matches(expected: u32, place: usize, answers: &Answers) -> bool
+pub(crate) fn matches(expected: u32, place: usize, answers: &Answers) -> bool
     requires { place < 4 }
     ensures { result ≡ matches expected place answers.now }
 {
@@ -33,46 +33,6 @@ pub(crate) fn asks_identity(terms: &Terms, answers: &Answers) -> bool
     ensures { result ≡ asks_identity terms.now answers.now }
 {
     terms.assignment.is_to_be_booted() && device_agrees(terms, answers)
-}
-
-/// Whether so far and the vendor-ID agree, where `asks` says whether the identity is asked for.
-#[inline(always)]
-#[tactic(auto, unfolding(crate::specs::Conditions::vendor_agrees))]
-pub(crate) fn vendor_agrees(terms: &Terms, answers: &Answers, asks: bool) -> bool
-    requires { asks ≡ asks_identity terms.now answers.now }
-    ensures { result ≡ vendor_agrees terms.now answers.now }
-{
-    asks && matches(terms.vendor, 0, answers)
-}
-
-/// Whether so far and the product code agree, where `vendor` says it of the vendor-ID.
-#[inline(always)]
-#[tactic(auto, unfolding(crate::specs::Conditions::product_agrees))]
-pub(crate) fn product_agrees(terms: &Terms, answers: &Answers, vendor: bool) -> bool
-    requires { vendor ≡ vendor_agrees terms.now answers.now }
-    ensures { result ≡ product_agrees terms.now answers.now }
-{
-    vendor && matches(terms.product, 1, answers)
-}
-
-/// Whether so far and the revision number agree, where `product` says it of the product code.
-#[inline(always)]
-#[tactic(auto, unfolding(crate::specs::Conditions::revision_agrees))]
-pub(crate) fn revision_agrees(terms: &Terms, answers: &Answers, product: bool) -> bool
-    requires { product ≡ product_agrees terms.now answers.now }
-    ensures { result ≡ revision_agrees terms.now answers.now }
-{
-    product && matches(terms.revision, 2, answers)
-}
-
-/// Whether the whole identity agrees, where `revision` says it up to the revision number.
-#[inline(always)]
-#[tactic(auto, unfolding(crate::specs::Conditions::identity_agrees))]
-pub(crate) fn identity_agrees(terms: &Terms, answers: &Answers, revision: bool) -> bool
-    requires { revision ≡ revision_agrees terms.now answers.now }
-    ensures { result ≡ identity_agrees terms.now answers.now }
-{
-    revision && matches(terms.serial, 3, answers)
 }
 
 /// Whether the slave may be configured, where `identity` says whether its identity agrees.
@@ -148,14 +108,15 @@ pub(crate) fn comes_to_beat(
 }
 
 /// Whether the boot comes to the field: all that its question comes after agrees.
+#[tactic(auto, unfolding(crate::specs::Conditions::vendor_agrees, crate::specs::Conditions::product_agrees, crate::specs::Conditions::revision_agrees, crate::specs::Conditions::identity_agrees))]
 fn reaches(terms: &Terms, answers: &Answers, field: Field) -> bool
     ensures { result ≡ reaches terms.now answers.now field }
 {
     let asks = asks_identity(terms, answers);
-    let vendor = vendor_agrees(terms, answers, asks);
-    let product = product_agrees(terms, answers, vendor);
-    let revision = revision_agrees(terms, answers, product);
-    let identity = identity_agrees(terms, answers, revision);
+    let vendor = asks && matches(terms.vendor, 0, answers);
+    let product = vendor && matches(terms.product, 1, answers);
+    let revision = product && matches(terms.revision, 2, answers);
+    let identity = revision && matches(terms.serial, 3, answers);
     let configures = may_configure(terms, answers, identity);
     let writes = must_write(terms, answers, configures);
     match field {
@@ -220,8 +181,8 @@ pub(crate) fn is_used(answers: &Answers, field: Field) -> bool
     }
 }
 
-/// Whether the field has all its answers: for the writes, each of `terms.writes` was acknowledged, or
-/// one failed; for another field, its question was asked (own).
+/// Whether the field has all its answers: for the writes, each of `terms.writes` was acknowledged,
+/// or one failed; for another field, its question was asked (own).
 #[inline(always)]
 #[tactic(auto, unfolding(crate::specs::Conditions::is_complete))]
 pub fn is_complete(terms: &Terms, answers: &Answers, field: Field) -> bool

@@ -39,8 +39,8 @@ static FIELDS: [Field; 10] = [
     Field::Beat,
 ];
 
-/// The ten fields, in the order of the questions (CiA 302-2, boot slave; the place of the state check
-/// is own).
+/// The ten fields, in the order of the questions (CiA 302-2, boot slave; the place of the state
+/// check is own).
 #[tactic(auto, unfolding(crate::specs::Fields::fields))]
 pub fn fields() -> &'static [Field]
     ensures { result.now ≡ fields }

@@ -1,20 +1,20 @@
 ghost use Rattle.std.specs.Prelude.{◌≡◌, [], ◌∷◌, true, false, Some, None, if◌then◌else◌, IfSome};
 ghost use Rattle.cm_answers.specs.Conditions.{identity_agrees, is_lawful, may_configure, must_write};
-ghost use Rattle.cm_answers.specs.Judging.{is_settled, reaches};
+ghost use Rattle.cm_answers.specs.Judging.{are_settled, is_settled, reaches};
 ghost use Rattle.cm_answers.specs.Fields.{fields};
 ghost use Rattle.cm_answers.specs.declared.field.Field.TheVariants.{Device, Vendor, Product, Revision, Serial, State, Date, Time, Writes, Beat};
-ghost use Rattle.std.specs.List.{list_all};
 
 use crate::Answers;
 use crate::conditions::{
-    asks_identity, comes_to_beat, identity_agrees, is_complete, is_due, is_used, may_configure,
-    must_write, product_agrees, revision_agrees, vendor_agrees, writes_are_counted,
+    asks_identity, comes_to_beat, is_complete, is_due, is_used, matches, may_configure, must_write,
+    writes_are_counted,
 };
 use crate::field::Field;
 use cm_objects::Terms;
 
-// Where an agreement fails, the functions go on with `false` in its place. Inlined, each later field
-// then costs one test: whether it has an answer.
+// Whether a boot can end with the answers: each agreement is judged once, from the one before it.
+// Where one fails, the functions go on with `false` in its place. Inlined, each later field then
+// costs one test: whether it has an answer.
 
 /// Whether the field has all its answers where its question is asked, and none where it isn't.
 #[inline(always)]
@@ -35,7 +35,7 @@ fn is_settled(terms: &Terms, answers: &Answers, field: Field, is_reached: bool) 
 fn configuration_skipped(terms: &Terms, answers: &Answers, identity: bool) -> bool
     requires identity { identity ≡ identity_agrees terms.now answers.now }
     requires closed { may_configure terms.now answers.now ≡ false }
-    ensures { result ≡ list_all (λ f. is_settled terms.now answers.now f) (Date ∷ Time ∷ Writes ∷ Beat ∷ []) }
+    ensures { result ≡ are_settled terms.now answers.now (Date ∷ Time ∷ Writes ∷ Beat ∷ []) }
 {
     let beats = comes_to_beat(terms, answers, identity, false, false);
     is_settled(terms, answers, Field::Date, false)
@@ -49,7 +49,7 @@ fn configuration_skipped(terms: &Terms, answers: &Answers, identity: bool) -> bo
 #[tactic(auto, unfolding(crate::specs::Conditions::may_configure))]
 fn configuration_settled(terms: &Terms, answers: &Answers) -> bool
     requires { may_configure terms.now answers.now ≡ true }
-    ensures { result ≡ list_all (λ f. is_settled terms.now answers.now f) (Date ∷ Time ∷ Writes ∷ Beat ∷ []) }
+    ensures { result ≡ are_settled terms.now answers.now (Date ∷ Time ∷ Writes ∷ Beat ∷ []) }
 {
     if !is_settled(terms, answers, Field::Date, true)
         || !is_settled(terms, answers, Field::Time, true)
@@ -66,7 +66,8 @@ fn configuration_settled(terms: &Terms, answers: &Answers) -> bool
 #[inline(always)]
 fn rest_settled(terms: &Terms, answers: &Answers) -> bool
     requires { identity_agrees terms.now answers.now ≡ true }
-    ensures { result ≡ list_all (λ f. is_settled terms.now answers.now f) (State ∷ Date ∷ Time ∷ Writes ∷ Beat ∷ []) }
+    ensures { result
+        ≡ are_settled terms.now answers.now (State ∷ Date ∷ Time ∷ Writes ∷ Beat ∷ []) }
 {
     if !is_settled(terms, answers, Field::State, true) {
         return false;
@@ -83,16 +84,19 @@ fn rest_settled(terms: &Terms, answers: &Answers) -> bool
 #[tactic(auto, unfolding(crate::specs::Conditions::may_configure))]
 fn rest_skipped(terms: &Terms, answers: &Answers) -> bool
     requires { identity_agrees terms.now answers.now ≡ false }
-    ensures { result ≡ list_all (λ f. is_settled terms.now answers.now f) (State ∷ Date ∷ Time ∷ Writes ∷ Beat ∷ []) }
+    ensures { result
+        ≡ are_settled terms.now answers.now (State ∷ Date ∷ Time ∷ Writes ∷ Beat ∷ []) }
 {
     is_settled(terms, answers, Field::State, false) && configuration_skipped(terms, answers, false)
 }
 
-/// Whether the identity agrees; `None` where a field up to the serial number isn't settled. Each
-/// agreement is judged once, from the one before it.
+/// Whether the identity agrees; `None` where a field up to the serial number isn't settled.
 #[inline(always)]
+#[tactic(auto, unfolding(crate::specs::Conditions::vendor_agrees, crate::specs::Conditions::product_agrees, crate::specs::Conditions::revision_agrees, crate::specs::Conditions::identity_agrees))]
 fn settled_identity(terms: &Terms, answers: &Answers) -> Option<bool>
-    ensures { result ≡ (if list_all (λ f. is_settled terms.now answers.now f) (Device ∷ Vendor ∷ Product ∷ Revision ∷ Serial ∷ []) then Some (identity_agrees terms.now answers.now) else None) }
+    ensures { result ≡
+        (if are_settled terms.now answers.now (Device ∷ Vendor ∷ Product ∷ Revision ∷ Serial ∷ [])
+        then Some (identity_agrees terms.now answers.now) else None) }
 {
     if !is_settled(terms, answers, Field::Device, true) {
         return None;
@@ -101,26 +105,27 @@ fn settled_identity(terms: &Terms, answers: &Answers) -> Option<bool>
     if !is_settled(terms, answers, Field::Vendor, asks) {
         return None;
     }
-    let vendor = vendor_agrees(terms, answers, asks);
+    let vendor = asks && matches(terms.vendor, 0, answers);
     if !is_settled(terms, answers, Field::Product, vendor) {
         return None;
     }
-    let product = product_agrees(terms, answers, vendor);
+    let product = vendor && matches(terms.product, 1, answers);
     if !is_settled(terms, answers, Field::Revision, product) {
         return None;
     }
-    let revision = revision_agrees(terms, answers, product);
+    let revision = product && matches(terms.revision, 2, answers);
     if !is_settled(terms, answers, Field::Serial, revision) {
         return None;
     }
-    Some(identity_agrees(terms, answers, revision))
+    Some(revision && matches(terms.serial, 3, answers))
 }
 
 /// Whether the identity agrees; `None` where a field isn't settled.
 #[inline(always)]
 #[tactic(auto, unfolding(crate::specs::Fields::fields))]
 fn identity_of_settled(terms: &Terms, answers: &Answers) -> Option<bool>
-    ensures { result ≡ (if list_all (λ f. is_settled terms.now answers.now f) fields then Some (identity_agrees terms.now answers.now) else None) }
+    ensures { result ≡ (if are_settled terms.now answers.now fields
+        then Some (identity_agrees terms.now answers.now) else None) }
 {
     match settled_identity(terms, answers) {
         Some(true) if rest_settled(terms, answers) => Some(true),
@@ -132,8 +137,9 @@ fn identity_of_settled(terms: &Terms, answers: &Answers) -> Option<bool>
 /// Whether the identity agrees, in answers with which a boot can end; `None` for others.
 #[inline(always)]
 pub(crate) fn lawful_identity(terms: &Terms, answers: &Answers) -> Option<bool>
-    ensures lawful { result ≡ (if is_lawful (Some terms.now) answers.now then Some (identity_agrees terms.now answers.now) else None) }
-    ensures settled { IfSome result (λ agrees. list_all (λ f. is_settled terms.now answers.now f) fields ≡ true) }
+    ensures lawful { result ≡ (if is_lawful (Some terms.now) answers.now
+        then Some (identity_agrees terms.now answers.now) else None) }
+    ensures settled { IfSome result (λ agrees. are_settled terms.now answers.now fields ≡ true) }
 {
     if !writes_are_counted(terms, answers) {
         return None;

@@ -18,8 +18,6 @@ mod got;
 mod heard;
 mod judging;
 mod status;
-#[cfg(test)]
-mod tests;
 mod verdict;
 
 pub use answers::{Answers, count_ids};

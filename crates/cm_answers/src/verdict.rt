@@ -1,11 +1,8 @@
-ghost use Rattle.std.specs.Prelude.{◌≡◌, ◌<◌, ◌&&◌, ◌==◌, not, true, false, Some};
+ghost use Rattle.std.specs.Prelude.{◌≡◌, ◌<◌, true, Some};
 ghost use Rattle.cm_answers.specs.Verdict.{is_wrong, judged, verdict};
-ghost use Rattle.cm_objects.specs.Bits.{has_bit};
-ghost use Rattle.cm_answers.specs.Got.{has_value, is_value};
 ghost use Rattle.cm_answers.specs.Conditions.{identity_agrees};
-ghost use Rattle.cm_answers.specs.Judging.{is_settled};
+ghost use Rattle.cm_answers.specs.Judging.{are_settled, IsIdentified};
 ghost use Rattle.cm_answers.specs.Fields.{fields};
-ghost use Rattle.std.specs.List.{list_all};
 
 use crate::conditions::has_no_answer;
 use crate::judging::lawful_identity;
@@ -25,12 +22,7 @@ fn is_wrong(answers: &Answers, place: usize, expected: u32) -> bool
 #[inline(always)]
 #[tactic(auto, unfolding(crate::specs::Verdict::verdict))]
 fn status_after_identity(terms: &Terms, answers: &Answers) -> Status
-    requires read { (has_bit terms.now.assignment.0 2 && not (has_value answers.now.device)) ≡ false }
-    requires typed { (has_value answers.now.device && not (terms.now.device_type == 0) && not (is_value answers.now.device terms.now.device_type)) ≡ false }
-    requires vendor { is_wrong answers.now 0 terms.now.vendor ≡ false }
-    requires product { is_wrong answers.now 1 terms.now.product ≡ false }
-    requires revision { is_wrong answers.now 2 terms.now.revision ≡ false }
-    requires serial { is_wrong answers.now 3 terms.now.serial ≡ false }
+    requires { IsIdentified terms.now answers.now }
     ensures { result ≡ verdict (Some terms.now) answers.now }
 {
     let boots = terms.assignment.is_to_be_booted();
@@ -54,19 +46,18 @@ fn status_after_identity(terms: &Terms, answers: &Answers) -> Status
 
 /// The status of answers with which a boot can end and whose identity agrees. None of its values is
 /// compared again: each was read where it is expected, and as expected.
-#[tactic(auto, unfolding(crate::specs::Conditions::identity_agrees, crate::specs::Conditions::revision_agrees, crate::specs::Conditions::product_agrees, crate::specs::Conditions::vendor_agrees, crate::specs::Conditions::asks_identity, crate::specs::Conditions::device_agrees))]
 fn status_of_agreeing(terms: &Terms, answers: &Answers) -> Status
     requires agrees { identity_agrees terms.now answers.now ≡ true }
-    requires settled { list_all (λ f. is_settled terms.now answers.now f) fields ≡ true }
+    requires settled { are_settled terms.now answers.now fields ≡ true }
     ensures { result ≡ verdict (Some terms.now) answers.now }
 {
     status_after_identity(terms, answers)
 }
 
-/// The status that the answers come to (CiA 302-2, boot slave, error statuses; where each applies is
-/// own): the first one whose row in the table applies. `terms` is what is listed of the slave, `None`
-/// for one that isn't listed, whose status is A. Whether a boot ends with these answers it doesn't look
-/// at; [`judged_by_tables`] does.
+/// The status that the answers come to (CiA 302-2, boot slave, error statuses; where each applies
+/// is own): the first one whose row in the table applies. `terms` is what is listed of the slave,
+/// `None` for one that isn't listed, whose status is A. Whether a boot ends with these answers it
+/// doesn't look at; [`judged_by_tables`] does.
 #[tactic(auto, unfolding(crate::specs::Verdict::verdict))]
 pub fn status_of(terms: Option<Terms>, answers: &Answers) -> Status
     ensures { result ≡ verdict terms answers.now }
@@ -109,8 +100,9 @@ fn judged_listed(terms: &Terms, answers: &Answers) -> Option<Status>
 }
 
 /// The status of a boot that ended with these answers; `None` exactly where no boot ends with them.
-/// `terms` is what is listed of the slave, `None` for one that isn't listed. It goes by the two tables
-/// (CiA 302-2, boot slave): which answers are those of a boot, and which status they come to.
+/// `terms` is what is listed of the slave, `None` for one that isn't listed. It goes by the two
+/// tables (CiA 302-2, boot slave): which answers are those of a boot, and which status they come
+/// to.
 #[tactic(auto, unfolding(crate::specs::Verdict::judged, crate::specs::Verdict::verdict))]
 pub fn judged_by_tables(terms: Option<Terms>, answers: &Answers) -> Option<Status>
     ensures { result ≡ judged terms answers.now }

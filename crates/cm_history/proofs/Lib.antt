@@ -1,1 +1,2 @@
 pub mod OpenSlaves
+pub mod PhaseSteps

@@ -41,7 +41,7 @@ pub record Seen : Type 0 where
   pub phase : Phase
   pub own : NmtState
   pub begun : ℕ
-  pub opened : List ℕ
+  pub open_slaves : List ℕ
   pub slave : Slave
 
 -- the node that a call names, 0 where it names none
@@ -60,7 +60,7 @@ seen_of net past i = record {
   phase = phase_of net past;
   own = own_of net past;
   begun = begun_in past;
-  opened = open_of net past;
+  open_slaves = open_of net past;
   slave = if is_listed net i then slave_of net past i else blank_slave;
 }
 
@@ -110,7 +110,7 @@ refusals net s (call.Request t v) =
     ∷ (10, t == 0 || nat_lt 128 t)
     ∷ (11, is_none (command_of_request v))
     ∷ (4, not (is_listed net t || (t == net.own || t == 128)))
-    ∷ (12, v == 5 && ((t == 128 || t == net.own) && not (is_empty s.opened)))
+    ∷ (12, v == 5 && ((t == 128 || t == net.own) && not (is_empty s.open_slaves)))
     ∷ (13, t == net.own && is_reset_value v)
     ∷ []
 refusals net s (call.Read t) = (3, is_idle s.phase) ∷ (10, t == 0 || nat_lt 127 t) ∷ []
@@ -137,12 +137,12 @@ is_operational _ = false
 
 -- the open slaves once a boot of i came to this status
 abbrev pub open_less : List ℕ → ℕ → Status → List ℕ
-open_less opened i s = if is_good s then filter (λ j. not (i == j)) opened else opened
+open_less open_slaves i s = if is_good s then filter (λ j. not (i == j)) open_slaves else open_slaves
 
 -- all slaves are started at once, as the last open one is booted and the manager may start slaves and itself
 abbrev pub starts_every : Listing → Phase → List ℕ → Bool
-starts_every net p opened =
-    is_booting p && (is_empty opened && (starts_all_at_once net && (not (leaves_operational_to_application net) && not (starts_no_slave net))))
+starts_every net p open_slaves =
+    is_booting p && (is_empty open_slaves && (starts_all_at_once net && (not (leaves_operational_to_application net) && not (starts_no_slave net))))
 
 -- slave i is started alone: its boot is Ok and bit 2 set, the manager may start slaves, and it starts them one by one
 -- or is operational already
@@ -185,7 +185,7 @@ shown_of net s t = if t == net.own then state_code s.own else s.slave.state
 -- the time for the mandatory slaves is up: they are being booted, one is open, and more ms went by than 1F89h allows,
 -- where 0 allows any
 abbrev pub is_late : Listing → Phase → List ℕ → ℕ → Bool
-is_late net p opened ms = is_booting p && (not (is_empty opened) && (not (net.boot_time == 0) && nat_lt net.boot_time ms))
+is_late net p open_slaves ms = is_booting p && (not (is_empty open_slaves) && (not (net.boot_time == 0) && nat_lt net.boot_time ms))
 
 -- the reply to an error control message
 abbrev pub signal_reply : Option Signal → Reply
@@ -200,14 +200,14 @@ granted_answer net s call.StartNetwork = (reply.Started, orders.ResetUnkept)
 granted_answer net s (call.Begin i) = (reply.Begun (s.begun + 1), orders.None)
 granted_answer net s (call.Report i n a) =
     let found = unwrap_or (judged (net.terms i) a) status.A in
-    (reply.Reported found, report_orders net s.phase s.own (open_less s.opened i found) i found)
+    (reply.Reported found, report_orders net s.phase s.own (open_less s.open_slaves i found) i found)
 granted_answer net s (call.Signal i b) = (signal_reply (signal_of b), orders.None)
 granted_answer net s (call.Lost i) = if s.slave.booted then (reply.Handled, lost_orders net i) else (reply.Noted, orders.None)
 granted_answer net s (call.Request t v) = (reply.Done, request_orders (t == net.own) (t == 128) t (command_of_request v))
 granted_answer net s (call.Read t) = (reply.State (shown_of net s t), orders.None)
 granted_answer net s (call.Elapsed ms) =
-    if is_late net s.phase s.opened ms then (reply.TimeUp, orders.None)
-    else (reply.InTime, if starts_every net s.phase s.opened then to_every command.Start else orders.None)
+    if is_late net s.phase s.open_slaves ms then (reply.TimeUp, orders.None)
+    else (reply.InTime, if starts_every net s.phase s.open_slaves then to_every command.Start else orders.None)
 
 -- a refused call has no orders
 abbrev pub refused_or : Option ℕ → Reply × Orders → Reply × Orders

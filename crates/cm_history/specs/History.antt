@@ -198,30 +198,31 @@ is_fatal net i s = is_mandatory net i && not (is_good s || is_retried s)
 --   Halted, a report whose status halts, or the time was up
 --   Ready, any other report, or the time wasn't up, where no slave is open
 abbrev pub decides_by : Listing → Call → Reply → List ℕ → Option Phase
-decides_by net (call.Report i n a) (reply.Reported s) opened =
-    if is_fatal net i s then Some phase.Halted else (if is_empty opened then Some phase.Ready else None)
-decides_by net c reply.TimeUp opened = Some phase.Halted
-decides_by net c reply.InTime opened = if is_empty opened then Some phase.Ready else None
-decides_by net c r opened = None
+decides_by net (call.Report i n a) (reply.Reported s) open_slaves =
+    if is_fatal net i s then Some phase.Halted else (if is_empty open_slaves then Some phase.Ready else None)
+decides_by net c reply.TimeUp open_slaves = Some phase.Halted
+decides_by net c reply.InTime open_slaves = if is_empty open_slaves then Some phase.Ready else None
+decides_by net c r open_slaves = None
 
 -- a granted start of the network
 abbrev pub is_start_by : Call → Reply → Bool
 is_start_by call.StartNetwork r = is_granted r
 is_start_by _ r = false
 
--- the first entry that decides after a start gives the phase; later ones don't change it
-abbrev pub phase_then : Phase → Option Phase → Phase
-phase_then phase.Booting (Some p) = p
-phase_then phase.Booting None = phase.Booting
-phase_then phase.Idle d = phase.Idle
-phase_then phase.Ready d = phase.Ready
-phase_then phase.Halted d = phase.Halted
+-- what the first entry since the last start of the network that decides gives; none where none does
+abbrev pub first_decided : Listing → List Entry → Option Phase
+first_decided net [] = None
+first_decided net (e ∷ past) =
+    if is_start_by e.call e.reply then None
+    else option_or (first_decided net past) (decides_by net e.call e.reply (open_of net (e ∷ past)))
 
--- Idle before any start; else what was decided first since the last start, and Booting where nothing was
+-- the network was started
+abbrev pub is_started : List Entry → Bool
+is_started past = list_any (λ e. is_start_by e.call e.reply) past
+
+-- Idle before any start; else what was decided first since the last one, and Booting where nothing was
 abbrev pub phase_of : Listing → List Entry → Phase
-phase_of net [] = phase.Idle
-phase_of net (e ∷ past) =
-    if is_start_by e.call e.reply then phase.Booting else phase_then (phase_of net past) (decides_by net e.call e.reply (open_of net (e ∷ past)))
+phase_of net past = if is_started past then unwrap_or (first_decided net past) phase.Booting else phase.Idle
 
 -- the state that the entry gives the manager itself:
 --   pre-operational at a granted start of the network
@@ -245,6 +246,11 @@ own_of net (e ∷ past) =
     unwrap_or
     (option_or (own_by net e.call e.reply e.orders) (becomes_operational net (phase_of net past) (phase_of net (e ∷ past))))
     (own_of net past)
+
+-- what a read of node t shows: of the manager itself its own state, of any other node the slave's state, 0 where it
+-- isn't listed (CiA 302-2, request NMT)
+abbrev pub shown : Listing → List Entry → ℕ → ℕ
+shown net past t = if t == net.own then state_code (own_of net past) else state_of net past t
 
 -- how many Begun replies there are
 abbrev pub begun_in : List Entry → ℕ

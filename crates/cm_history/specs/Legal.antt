@@ -2,11 +2,16 @@
 use Rattle.std.specs.Prelude.{◌≡◌, ℕ, ◌+◌, ◌<◌, List, [], ◌∷◌, length, take, reverse}
 use Rattle.cm_objects.specs.Listing.{Listing}
 use Rattle.cm_history.specs.Answering.{answer_of}
+use Rattle.cm_history.specs.declared.call.Call.{Call}
 use Rattle.cm_history.specs.declared.call.Entry.{Entry}
 
 -- the entry has the reply and the orders that answer its call after what was before it
 abbrev pub IsAnswered : Listing → Entry → List Entry → Type 0
 IsAnswered net e past = (e.reply, e.orders) ≡ answer_of net past e.call
+
+-- the entry of a call that is made after the history, with its answer
+abbrev pub answered : Listing → List Entry → ℕ → Call → Entry
+answered net past seat c = record { seat = seat; call = c; reply = (answer_of net past c).0; orders = (answer_of net past c).1 }
 
 -- every entry does
 abbrev pub IsLegal : Listing → List Entry → Type 0

@@ -9,4 +9,4 @@ mod slave;
 
 pub use call::{Call, Entry, Orders, Reply, abort_code};
 pub use phase::Phase;
-pub use slave::{BLANK, Slave, state_reported};
+pub use slave::{Slave, state_reported};

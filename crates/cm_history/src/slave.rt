@@ -1,6 +1,6 @@
 ghost use Rattle.std.specs.Prelude.{◌≡◌};
 ghost use Rattle.cm_history.specs.History.{state_reported};
-ghost use Rattle.cm_history.specs.Answering.{has_session};
+ghost use Rattle.cm_history.specs.Answering.{blank_slave, has_session};
 
 use cm_answers::{Answers, Got, Heard, Status};
 
@@ -14,14 +14,18 @@ pub struct Slave {
     pub session: Option<u64>,
 }
 
-/// State unknown, not booted, no session.
-pub const BLANK: Slave = Slave {
-    state: 0,
-    booted: false,
-    session: None,
-};
-
 impl Slave {
+    /// State unknown, not booted, no session.
+    pub const fn blank() -> Slave
+        ensures { result ≡ blank_slave }
+    {
+        Slave {
+            state: 0,
+            booted: false,
+            session: None,
+        }
+    }
+
     /// Whether the session of this number is open.
     pub fn has_session(self, number: u64) -> bool
         ensures { result ≡ has_session self.session number }

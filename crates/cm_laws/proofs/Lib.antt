@@ -1,3 +1,4 @@
 mod Identity
 pub mod Started
 pub mod Operational
+mod Shown

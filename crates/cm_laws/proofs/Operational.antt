@@ -18,7 +18,7 @@ use Rattle.cm_answers.specs.declared.status.Status.{Status}
 use Rattle.cm_answers.specs.declared.status.Status.TheVariants as status
 use Rattle.cm_history.specs.Orders.{is_start_all, is_stop_all, to_every, to_node}
 use Rattle.cm_history.specs.Phases.{is_booting, is_halted, is_ready}
-use Rattle.cm_history.specs.History.{phase_of, phase_then, own_of, own_by, open_of, is_booted, boots, boots_by, clears, is_empty, is_good_report, is_fatal, is_start_by, decides_by, becomes_operational}
+use Rattle.cm_history.specs.History.{phase_of, own_of, own_by, open_of, is_booted, boots, boots_by, clears, is_empty, is_good_report, is_fatal, is_start_by, decides_by, becomes_operational}
 use Rattle.cm_answers.specs.Status.{is_good}
 use Rattle.cm_history.specs.Answering.{answer_of, seen_of, refusals, first_refusal, refused_or, granted_answer, node_named, report_orders, request_orders, open_less, starts_every, starts_one, is_late}
 use Rattle.cm_history.specs.Legal.{IsAnswered, IsLegal}
@@ -32,9 +32,10 @@ use Rattle.cm_history.specs.declared.call.Entry.{Entry}
 use Rattle.cm_history.specs.declared.phase.Phase.{Phase}
 use Rattle.cm_history.specs.declared.phase.Phase.TheVariants as phase
 use Rattle.cm_history.proofs.OpenSlaves.{open_after_report}
-use Rattle.cm_laws.specs.Laws.{AtEach, StandsSince, IsProofOf, IsAllThere, BecomesOperationalRightly}
+use Rattle.cm_laws.specs.Laws.{AtEach, StandsSince, ShowsIdentity, IsAllThere, BecomesOperationalRightly}
 use Rattle.cm_laws.proofs.Identity.{judged_identity}
 use Rattle.cm_laws.proofs.Started.{report_cases}
+use Rattle.cm_history.proofs.PhaseSteps.{phase_then, phase_more}
 
 abbrev entry : ℕ → Call → Reply × Orders → Entry
 entry seat c p = record { seat = seat; call = c; reply = p.0; orders = p.1 }
@@ -90,7 +91,7 @@ refused_not : {s : Status} {k : ℕ} → reply.Reported s ≡ reply.Refused k �
 refused_not e = cc
 
 -- an answered report that boots its slave shows the identity
-proof_of : (net : Listing) (past : List Entry) (e : Entry) (i : ℕ) (t : Terms) → IsAnswered net e past → net.terms i ≡ Some t → has_bit t.assignment.0 2 ≡ true → IsBootOf e i → IsProofOf t i e
+proof_of : (net : Listing) (past : List Entry) (e : Entry) (i : ℕ) (t : Terms) → IsAnswered net e past → net.terms i ≡ Some t → has_bit t.assignment.0 2 ≡ true → IsBootOf e i → ShowsIdentity t i e
 proof_of net past e i t h at booted b =
     elim (report_cases net past i b.number b.answers e.reply e.orders (h ∙ ap (answer_of net past) b.call)) [
       | inl refused ↦ absurd (refused_not (sym b.reply ∙ refused.1.1))
@@ -106,7 +107,7 @@ proof_of net past e i t h at booted b =
     ]
 
 -- a booted slave that is to be booted showed its identity since it was last cleared
-booted_shown : (net : Listing) (h : List Entry) (i : ℕ) (t : Terms) → IsLegal net h → net.terms i ≡ Some t → has_bit t.assignment.0 2 ≡ true → is_booted h i ≡ true → StandsSince (IsProofOf t i) i h
+booted_shown : (net : Listing) (h : List Entry) (i : ℕ) (t : Terms) → IsLegal net h → net.terms i ≡ Some t → has_bit t.assignment.0 2 ≡ true → is_booted h i ≡ true → StandsSince (ShowsIdentity t i) i h
 booted_shown net [] i t legal at booted b = absurd (false≢true b)
 booted_shown net (e ∷ past) i t legal at booted b =
     elim (or_cases (boots e i) (not (clears e i) && is_booted past i) b) [
@@ -155,18 +156,18 @@ all_there net h legal empty =
 -- ---- as the network becomes ready, none is open
 
 -- Ready is decided only where no slave is open
-decides_ready : (net : Listing) (c : Call) (r : Reply) (opened : List ℕ) → decides_by net c r opened ≡ Some phase.Ready → is_empty opened ≡ true
-decides_ready net (call.Report i n a) (reply.Reported s) opened e = go (is_fatal net i s) (is_empty opened) e
+decides_ready : (net : Listing) (c : Call) (r : Reply) (open_slaves : List ℕ) → decides_by net c r open_slaves ≡ Some phase.Ready → is_empty open_slaves ≡ true
+decides_ready net (call.Report i n a) (reply.Reported s) open_slaves e = go (is_fatal net i s) (is_empty open_slaves) e
   where
     go : (f m : Bool) → cond f (Some phase.Halted) (cond m (Some phase.Ready) None) ≡ Some phase.Ready → m ≡ true
     go false true e = refl
     go f m e = cc
-decides_ready net c reply.InTime opened e = go (is_empty opened) e
+decides_ready net c reply.InTime open_slaves e = go (is_empty open_slaves) e
   where
     go : (m : Bool) → cond m (Some phase.Ready) None ≡ Some phase.Ready → m ≡ true
     go true e = refl
     go false e = cc
-decides_ready net c r opened e = cc
+decides_ready net c r open_slaves e = cc
 
 -- a manager that was booting is ready only by the decision of the entry
 ready_decided : (p : Phase) (start : Bool) (d : Option Phase) → is_booting p ≡ true → is_ready (cond start phase.Booting (phase_then p d)) ≡ true → d ≡ Some phase.Ready
@@ -184,7 +185,7 @@ becomes_open : (net : Listing) (past : List Entry) (e : Entry) (s : NmtState) �
 becomes_open net past e s h =
     let parts = becomes_parts (is_booting (phase_of net past)) (is_ready (phase_of net (e ∷ past))) (not (leaves_operational_to_application net)) s h in
     decides_ready net e.call e.reply (open_of net (e ∷ past))
-    (ready_decided (phase_of net past) (is_start_by e.call e.reply) (decides_by net e.call e.reply (open_of net (e ∷ past))) parts.0 parts.1)
+    (ready_decided (phase_of net past) (is_start_by e.call e.reply) (decides_by net e.call e.reply (open_of net (e ∷ past))) parts.0 (ap is_ready (sym (phase_more net past e)) ∙ parts.1))
 
 -- ---- a request that starts the manager or all slaves finds none open
 

@@ -14,7 +14,8 @@ use Rattle.cm_answers.specs.declared.status.Status.{Status}
 use Rattle.cm_answers.specs.declared.status.Status.TheVariants as status
 use Rattle.cm_objects.specs.Listing.{Listing, is_mandatory}
 use Rattle.cm_history.specs.Orders.{is_start_all, is_start_of}
-use Rattle.cm_history.specs.History.{clears, open_of, own_of}
+use Rattle.cm_history.specs.History.{clears, is_granted, open_of, own_of, shown}
+use Rattle.cm_history.specs.Answering.{answer_of}
 use Rattle.cm_history.specs.declared.call.Call.TheVariants as call
 use Rattle.cm_history.specs.declared.call.Entry.{Entry}
 use Rattle.cm_history.specs.declared.call.Reply.TheVariants as reply
@@ -70,7 +71,7 @@ StartsRightly net e past =
 -- ---- the network becomes operational with every mandatory slave booted
 
 -- the entry is a report of slave i that was granted, and shows the identity that is expected
-pub record IsProofOf (t : Terms) (i : ℕ) (e : Entry) : Type 0 where
+pub record ShowsIdentity (t : Terms) (i : ℕ) (e : Entry) : Type 0 where
   pub number : ℕ
   pub answers : Answers
   pub status : Status
@@ -83,7 +84,7 @@ pub record IsProofOf (t : Terms) (i : ℕ) (e : Entry) : Type 0 where
 pub record IsAllThere (net : Listing) (past : List Entry) : Type 0 where
   pub none_open : open_of net past ≡ []
   pub shown : (i : ℕ) (t : Terms) → IsNodeId i → net.terms i ≡ Some t → IsTrue (is_mandatory net i) → has_bit t.assignment.0 2 ≡ true
-      → StandsSince (IsProofOf t i) i past
+      → StandsSince (ShowsIdentity t i) i past
 
 -- the manager itself becomes operational with the entry
 pub record GoesOperational (net : Listing) (e : Entry) (past : List Entry) : Type 0 where
@@ -93,3 +94,11 @@ pub record GoesOperational (net : Listing) (e : Entry) (past : List Entry) : Typ
 -- where the manager becomes operational, and where the orders are a start of all, every mandatory slave is there
 abbrev pub BecomesOperationalRightly : Listing → Entry → List Entry → Type 0
 BecomesOperationalRightly net e past = GoesOperational net e past ⊎ IsTrue (is_start_all e.orders) → IsAllThere net (e ∷ past)
+
+-- ---- what a read shows
+
+-- a read of the node is refused, or answered with what the history shows of the node
+abbrev pub ReadsShow : Listing → List Entry → ℕ → Type 0
+ReadsShow net past t =
+    let r = (answer_of net past (call.Read t)).0 in
+    IsTrue (is_granted r) → r ≡ reply.State (shown net past t)

@@ -1,5 +1,5 @@
-pub use Rattle.cm_history.specs.Phases
 pub use Rattle.cm_objects.specs.Listing
+pub use Rattle.cm_history.specs.Phases
 pub use Rattle.cm_history.specs.Orders
 pub use Rattle.cm_history.specs.History
 pub use Rattle.cm_history.specs.Answering
@@ -7,9 +7,9 @@ pub use Rattle.cm_history.specs.Legal
 pub use Rattle.cm_history.specs.Frames
 pub use Rattle.cm_sequential.specs.Standing
 pub use Rattle.cm_laws.specs.Laws
+pub use Rattle.cm_replay.specs.Compact
 pub use Rattle.cm_format.specs.Text
 pub use Rattle.cm_format.specs.Fits
 pub use Rattle.cm_format.specs.Journals
-pub use Rattle.cm_journal.specs.Inputs
 pub use Rattle.cm_format.specs.Report
-pub use Rattle.cm_replay.specs.Compact
+pub use Rattle.cm_journal.specs.Inputs

@@ -1,19 +1,13 @@
 //! The sequential NMT manager and its journal, whole, under one name: what the crates cm_history
-//! (calls, phases, frames), cm_sequential (the manager), cm_replay (legal histories and their laws),
-//! cm_writer (journal and report as text) and cm_journal (reading a journal) offer. Its tests are those
-//! that need them all.
+//! (calls, phases), cm_sequential (the manager, the frames of its orders), cm_laws (the laws of legal
+//! histories), cm_replay (legal histories replayed), cm_format (what a journal's text is), cm_writer
+//! (journal and report written) and cm_journal (a journal read) offer.
 #![tactic(auto)]
 
-#[cfg(test)]
-mod tests;
-
-pub use cm_history::{Call, Entry, Orders, Phase, Reply, abort_code, frames};
-pub use cm_journal::{
-    FaultKind, Journal, JournalFault, ReadFault, Replayed, journal_read, journal_replay,
-    no_text_goes_on, one_text,
-};
-pub use cm_replay::{
-    boots_start_rightly, network_becomes_operational_rightly, replay, replay_to_fault,
-};
-pub use cm_sequential::Manager;
-pub use cm_writer::{Cause, CompactReplay, Head, Untaken, journal_write, report};
+pub use cm_format::{FaultKind, Head, JournalFault, no_text_goes_on, one_text};
+pub use cm_history::{Call, Entry, Orders, Phase, Reply, abort_code};
+pub use cm_journal::{Journal, ReadFault, Replayed, journal_read, journal_replay};
+pub use cm_laws::{boots_start_rightly, network_becomes_operational_rightly, reads_show};
+pub use cm_replay::{Cause, CompactReplay, Untaken, follows, replay, replay_to_fault};
+pub use cm_sequential::{Manager, frames};
+pub use cm_writer::{journal_write, replay_report, report};

@@ -1,39 +1,70 @@
-use thiserror::Error;
+ghost use Rattle.std.specs.Prelude.{◌≡◌, Some};
+ghost use Rattle.cm_netlist.specs.Faults.{number_of, words_of};
+
+use std::error::Error;
+use std::fmt;
 
 /// Why a network list or a slave is refused.
-#[derive(Clone, Copy, Debug, PartialEq, Eq, Error)]
+#[derive(Clone, Copy, Debug, Drop, PartialEq, Eq)]
 pub enum NetFault {
     /// The text isn't TOML.
-    #[error("not TOML")]
     NotToml = 1,
     /// The list or a slave has a key that no list has.
-    #[error("unknown key")]
     UnknownKey,
     /// The list or a slave lacks a needed key.
-    #[error("missing key")]
     MissingKey,
     /// A value isn't of its key's kind.
-    #[error("wrong kind")]
     WrongKind,
     /// An integer lies outside its range.
-    #[error("out of range")]
     OutOfRange,
     /// The node is listed already.
-    #[error("double slave")]
     DoubleSlave,
     /// The node-ID is the manager's own.
-    #[error("own id listed")]
     OwnListed,
     /// 1F81h bit 0 is clear.
-    #[error("bit 0 clear")]
     NotListedBit,
     /// A slave has more than 32 writes.
-    #[error("too many writes")]
     TooManyWrites,
     /// A write's value doesn't fit its size.
-    #[error("value too wide")]
     ValueTooWide,
     /// Memory was refused.
-    #[error("out of memory")]
     OutOfMemory,
 }
+
+impl NetFault {
+    /// The number of the fault; of several the least is given.
+    pub fn number(self) -> u8
+        ensures number { result ≡ number_of self }
+    {
+        self as u8
+    }
+
+    /// The words of the fault.
+    pub fn words(self) -> &'static str
+        ensures words { result.now ≡ words_of self }
+    {
+        match self {
+            NetFault::NotToml => "not TOML",
+            NetFault::UnknownKey => "unknown key",
+            NetFault::MissingKey => "missing key",
+            NetFault::WrongKind => "wrong kind",
+            NetFault::OutOfRange => "out of range",
+            NetFault::DoubleSlave => "double slave",
+            NetFault::OwnListed => "own id listed",
+            NetFault::NotListedBit => "bit 0 clear",
+            NetFault::TooManyWrites => "too many writes",
+            NetFault::ValueTooWide => "value too wide",
+            NetFault::OutOfMemory => "out of memory",
+        }
+    }
+}
+
+impl fmt::Display for NetFault {
+    ghost output = { λ f. Some (words_of f) };
+
+    fn fmt<W: fmt::Write>(&self, f: &mut fmt::Formatter<W>) -> fmt::Result {
+        f.write_str(self.words())
+    }
+}
+
+impl Error for NetFault {}

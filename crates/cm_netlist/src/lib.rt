@@ -10,8 +10,6 @@ mod document;
 mod entry;
 mod fault;
 mod network;
-#[cfg(test)]
-mod tests;
 
 pub use cm_objects::{Assignment, Startup, Terms, Write};
 pub use entry::SlaveEntry;

@@ -10,8 +10,6 @@ mod frame;
 mod node_id;
 mod signal;
 mod state;
-#[cfg(test)]
-mod tests;
 
 pub use command::Command;
 pub use frame::{Frame, Target};

@@ -47,6 +47,8 @@ impl NodeId {
 
 /// Node 1, which stands in the unused places of lists of fixed size.
 impl Default for NodeId {
+    ghost is_default = { λ id. id ≡ 1 };
+
     fn default() -> NodeId {
         NodeId { number: 1 }
     }

@@ -12,7 +12,20 @@ pub struct Write {
 }
 
 impl Write {
-    ghost use Rattle.cm_objects.specs.Write.{fits};
+    ghost use Rattle.cm_objects.specs.Write.{fits, write_with};
+
+    /// The write of a value of this size, 1, 2 or 4 bytes.
+    pub fn new(index: u16, sub: u8, size: u8, value: u32) -> Write
+        requires { IsTrue (is_size size) }
+        ensures { result ≡ write_with index sub size value }
+    {
+        Write {
+            index,
+            sub,
+            size,
+            value,
+        }
+    }
 
     /// Whether a write may have this size.
     pub fn is_size(size: u8) -> bool
@@ -34,8 +47,12 @@ impl Write {
     }
 }
 
-/// A write of one byte 0, which stands in the unused places of lists of fixed size.
+/// A write of one byte 0 to object 0 sub 0, which stands in the unused places of lists of fixed size.
 impl Default for Write {
+    ghost use Rattle.cm_objects.specs.Write.{write_with};
+
+    ghost is_default = { λ w. w ≡ write_with 0 0 1 0 };
+
     fn default() -> Write {
         Write {
             index: 0,

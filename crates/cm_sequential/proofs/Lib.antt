@@ -1,7 +1,8 @@
 mod Opened
-mod Slaves
+mod SlaveSteps
 pub mod Phases
 mod Signals
 mod Serving
 mod Listings
 mod Resets
+pub mod Stepped

@@ -11,8 +11,8 @@ use Rattle.cm_netlist.specs.declared.entry.SlaveEntry.{SlaveEntry}
 use Rattle.cm_objects.specs.declared.terms.Terms.{Terms}
 use Rattle.cm_netlist.proofs.Networks.{terms_above}
 use Rattle.cm_objects.specs.Listing.{Listing, is_listed}
-use Rattle.cm_sequential.specs.Plan.{kept_listing}
-use Rattle.cm_sequential.specs.declared.plan.Plan.{Plan}
+use Rattle.cm_sequential.specs.Standing.{kept_listing}
+use Rattle.cm_sequential.specs.declared.listing_copy.ListingCopy.{ListingCopy}
 
 -- two lists that say the same of every node are one
 same_parts : (own startup boot_time : ℕ) (f g : ℕ → Option Terms) → ((i : ℕ) → f i ≡ g i)
@@ -23,7 +23,7 @@ past_end : (xs : List (Option Terms)) (i : ℕ) → length xs ≤ i → slice_in
 past_end xs i h = get_or_past xs i None h
 
 -- a copy whose terms are those of each node-ID
-pub copied : (plan : Plan) (net : Network) → IsNetwork net → plan.own ≡ net.own → plan.startup.0 ≡ net.startup → plan.boot_time ≡ net.boot_time → length plan.terms ≡ 128
+pub copied : (plan : ListingCopy) (net : Network) → IsNetwork net → plan.own ≡ net.own → plan.startup.0 ≡ net.startup → plan.boot_time ≡ net.boot_time → length plan.terms ≡ 128
     → ((i : ℕ) → i < 128 → slice_index_or plan.terms i None ≡ network.terms net i) → kept_listing plan ≡ listing net
 unfolding kept_listing
 copied plan net ok own startup boot_time sized each =

@@ -13,11 +13,12 @@ use Rattle.cm_history.specs.declared.call.Reply.TheVariants as reply
 use Rattle.cm_history.specs.declared.call.Orders.{Orders}
 use Rattle.cm_history.specs.declared.phase.Phase.{Phase}
 use Rattle.cm_history.specs.declared.phase.Phase.TheVariants as phase
-use Rattle.cm_history.specs.History.{is_booted, open_of, phase_then, becomes_operational, is_empty}
+use Rattle.cm_history.specs.History.{is_booted, open_of, becomes_operational, is_empty}
 use Rattle.cm_answers.specs.Status.{is_good}
 use Rattle.cm_history.specs.Answering.{open_less}
 use Rattle.cm_sequential.specs.Steps.{settled_phase}
 use Rattle.cm_history.proofs.OpenSlaves.{filter_twice}
+use Rattle.cm_history.proofs.PhaseSteps.{phase_then}
 
 -- an entry that decides nothing leaves the phase
 pub phase_same : (p : Phase) → phase_then p None ≡ p

@@ -30,17 +30,19 @@ use Rattle.cm_history.specs.declared.slave.Slave.{Slave}
 use Rattle.cm_objects.specs.Listing.{Listing, is_listed, is_mandatory, resets_all_on_error, stops_all_on_error}
 use Rattle.cm_history.specs.Orders.{is_reset_all, is_start_of, is_stop_all, to_every, to_node}
 use Rattle.cm_history.specs.Phases.{is_booting, is_halted}
-use Rattle.cm_history.specs.History.{is_granted, is_booted, is_reset_value, begun_in, open_of, phase_of, phase_then, own_of, own_by, is_fatal, state_reported, state_requested}
-use Rattle.cm_history.specs.Answering.{slave_of, blank_slave, Seen, seen_of, node_named, granted_answer, refused_or, answer_from, answer_of, open_less, report_orders, starts_every, starts_one, first_refusal, is_late, lost_orders, request_orders, signal_reply}
-use Rattle.cm_sequential.specs.Kept.{cleared, kept_at, is_open_in, open_in, with_slave, reported_slave, requested_slave, signalled_slave}
-use Rattle.cm_sequential.specs.Steps.{Keeps, listing_in, slave_in, seen_in, sessions_begun, settled_phase, settled_own, ordered, lost_slave, own_after_loss, own_after_request, refusal_in, Effect, After}
-use Rattle.cm_sequential.specs.Standing.{Stands, Agrees}
+use Rattle.cm_history.specs.History.{is_granted, is_booted, is_reset_value, begun_in, open_of, own_by, is_fatal, state_reported, state_requested}
+use Rattle.cm_history.specs.Answering.{slave_of, blank_slave, Seen, node_named, granted_answer, refused_or, answer_from, answer_of, open_less, report_orders, starts_every, starts_one, first_refusal, is_late, lost_orders, request_orders, signal_reply}
+use Rattle.cm_sequential.specs.Kept.{cleared_slave, kept_at, is_open_in, open_in, with_slave, reported_slave, requested_slave, signalled_slave}
+use Rattle.cm_sequential.specs.Steps.{Keeps, listing_in, slave_in, seen_in, settled_phase, settled_own, slave_after_orders, lost_slave, own_after_loss, own_after_request, refusal_in, Effect, After}
+use Rattle.cm_sequential.specs.Standing.{Stands, sessions_begun}
 use Rattle.cm_objects.proofs.Ids.{agree_on_ids}
-use Rattle.cm_sequential.proofs.Slaves.{refused_slave, started_slave, begun_slave, report_slave, again_slave, told_slave, noted_slave, handled_slave, read_slave, elapsed_slave, own_request_slave, all_request_slave, one_request_slave}
+use Rattle.cm_sequential.proofs.SlaveSteps.{refused_slave, started_slave, begun_slave, report_slave, again_slave, told_slave, noted_slave, handled_slave, read_slave, elapsed_slave, own_request_slave, all_request_slave, one_request_slave}
 use Rattle.cm_sequential.proofs.Signals.{code_of_signal}
 use Rattle.cm_sequential.proofs.Listings.{own_unlisted}
 use Rattle.cm_sequential.proofs.Phases.{phase_same, own_same, phase_settled}
 use Rattle.cm_history.proofs.OpenSlaves.{open_after_report}
+use Rattle.cm_history.proofs.PhaseSteps.{phase_then}
+use Rattle.cm_sequential.proofs.Stepped.{Agrees, agrees_from, answer_is, own_stepped, phase_stepped, seen_stepped, stands_from}
 
 entry : ℕ → Call → Reply → Orders → Entry
 entry seat c r o = record { seat = seat; call = c; reply = r; orders = o }
@@ -57,11 +59,11 @@ same_where true x y z h = h refl
 same_where false x y z h = refl
 
 seen_parts : {p p' : Phase} {own own' : NmtState} {b b' : ℕ} {l l' : List ℕ} {r r' : Slave} → p ≡ p' → own ≡ own' → b ≡ b' → l ≡ l' → r ≡ r'
-    → ◌≡◌ {A = Seen} (record { phase = p; own = own; begun = b; opened = l; slave = r }) (record { phase = p'; own = own'; begun = b'; opened = l'; slave = r' })
+    → ◌≡◌ {A = Seen} (record { phase = p; own = own; begun = b; open_slaves = l; slave = r }) (record { phase = p'; own = own'; begun = b'; open_slaves = l'; slave = r' })
 seen_parts e f g h k = cc
 
 -- what the manager keeps of the node is what the history says
-pub seen_same : (m : Manager) (net : Listing) (past : List Entry) (i : ℕ) → Agrees m net past → (is_listed net i ≡ true → i < 128) → seen_in m i ≡ seen_of net past i
+pub seen_same : (m : Manager) (net : Listing) (past : List Entry) (i : ℕ) → Agrees m net past → (is_listed net i ≡ true → i < 128) → seen_in m i ≡ seen_stepped net past i
 seen_same m net past i st small =
     let slave : slave_in m i ≡ cond (is_listed net i) (slave_of net past i) blank_slave =
     ap (λ pl. cond (is_listed pl i) (kept_at m.slaves i) blank_slave) st.same_listing
@@ -91,8 +93,8 @@ begin_stands : (m m' : Manager) (net : Listing) (past : List Entry) (seat id : �
 unfolding entry
 begin_stands m m' net past seat id st k = record {
   same_listing = k.same_listing ∙ st.same_listing;
-  same_phase = k.same_phase ∙ st.same_phase ∙ sym (phase_same (phase_of net past));
-  same_own = k.same_own ∙ st.same_own ∙ sym (own_same net (phase_of net past) (own_of net past) None);
+  same_phase = k.same_phase ∙ st.same_phase ∙ sym (phase_same (phase_stepped net past));
+  same_own = k.same_own ∙ st.same_own ∙ sym (own_same net (phase_stepped net past) (own_stepped net past) None);
   same_begun = k.same_begun ∙ ap (λ n. n + 1) st.same_begun;
   slaves = λ i h. k.slaves i h
       ∙ with_kept (λ r. record r { session = Some (m.begun + 1) }) m.slaves id i (slave_of net past i) (st.slaves i h)
@@ -113,19 +115,19 @@ report_stands : (m m' : Manager) (net : Listing) (past : List Entry) (seat id nu
 unfolding entry
 report_stands m m' net past seat id number a s o st listed there is k =
     let e : Entry = record { seat = seat; call = call.Report id number a; reply = reply.Reported s; orders = o } in
-    let opened : open_of net (e ∷ past) ≡ open_less (open_of net past) id s = open_after_report net past seat id number a s o in
-    let after : m'.phase ≡ phase_of net (e ∷ past) =
+    let open_slaves : open_of net (e ∷ past) ≡ open_less (open_of net past) id s = open_after_report net past seat id number a s o in
+    let after : m'.phase ≡ phase_stepped net (e ∷ past) =
     k.same_phase ∙ settled_parts id st.same_listing st.same_phase (open_same m net past st) (sym is)
-    ∙ ap (settled_phase (phase_of net past) (is_fatal net id s)) (sym opened)
-    ∙ sym (phase_settled (phase_of net past) (is_fatal net id s) (open_of net (e ∷ past))) in
+    ∙ ap (settled_phase (phase_stepped net past) (is_fatal net id s)) (sym open_slaves)
+    ∙ sym (phase_settled (phase_stepped net past) (is_fatal net id s) (open_of net (e ∷ past))) in
     record {
       same_listing = k.same_listing ∙ st.same_listing;
       same_phase = after;
       same_own = k.same_own ∙ own_parts st.same_listing st.same_phase (sym k.same_phase ∙ after) st.same_own;
       same_begun = k.same_begun ∙ st.same_begun;
       slaves = λ i h. k.slaves i h
-          ∙ ap (λ t. ordered o i (with_slave id (reported_slave (kept_at m.slaves id) (state_reported t a) t) m.slaves i)) (sym is)
-          ∙ ap (ordered o i) (with_kept (λ r. reported_slave r (state_reported s a) s) m.slaves id i (slave_of net past i) (st.slaves i h))
+          ∙ ap (λ t. slave_after_orders o i (with_slave id (reported_slave (kept_at m.slaves id) (state_reported t a) t) m.slaves i)) (sym is)
+          ∙ ap (slave_after_orders o i) (with_kept (λ r. reported_slave r (state_reported s a) s) m.slaves id i (slave_of net past i) (st.slaves i h))
           ∙ sym (report_slave net past seat id number a s o i (λ e. subst (λ j. is_listed net j ≡ true) (eqb-true id i e) listed) (there i));
     }
 
@@ -134,8 +136,8 @@ noted_stands : (m m' : Manager) (net : Listing) (past : List Entry) (seat id : �
 unfolding entry
 noted_stands m m' net past seat id st listed k = record {
   same_listing = k.same_listing ∙ st.same_listing;
-  same_phase = k.same_phase ∙ st.same_phase ∙ sym (phase_same (phase_of net past));
-  same_own = k.same_own ∙ st.same_own ∙ sym (own_same net (phase_of net past) (own_of net past) None);
+  same_phase = k.same_phase ∙ st.same_phase ∙ sym (phase_same (phase_stepped net past));
+  same_own = k.same_own ∙ st.same_own ∙ sym (own_same net (phase_stepped net past) (own_stepped net past) None);
   same_begun = k.same_begun ∙ st.same_begun;
   slaves = λ i h. k.slaves i h
       ∙ with_kept (λ r. record r { state = 1 }) m.slaves id i (slave_of net past i) (st.slaves i h)
@@ -148,50 +150,50 @@ stop_own false own = refl
 
 handled_stands : (m m' : Manager) (net : Listing) (past : List Entry) (seat id : ℕ) (o : Orders) → Agrees m net past → is_listed net id ≡ true
     → ((i : ℕ) → is_start_of o i ≡ false)
-    → Keeps m' (listing_in m) m.phase (own_after_loss o m.own) m.begun (λ i. ordered o i (lost_slave o id m.slaves i)) → Agrees m' net (entry seat (call.Lost id) reply.Handled o ∷ past)
+    → Keeps m' (listing_in m) m.phase (own_after_loss o m.own) m.begun (λ i. slave_after_orders o i (lost_slave o id m.slaves i)) → Agrees m' net (entry seat (call.Lost id) reply.Handled o ∷ past)
 unfolding entry
 handled_stands m m' net past seat id o st listed starts k = record {
   same_listing = k.same_listing ∙ st.same_listing;
-  same_phase = k.same_phase ∙ st.same_phase ∙ sym (phase_same (phase_of net past));
+  same_phase = k.same_phase ∙ st.same_phase ∙ sym (phase_same (phase_stepped net past));
   same_own = k.same_own ∙ ap (own_after_loss o) st.same_own
-      ∙ sym (own_same net (phase_of net past) (own_of net past) (cond (is_stop_all o) (Some state.Stopped) None) ∙ stop_own (is_stop_all o) (own_of net past));
+      ∙ sym (own_same net (phase_stepped net past) (own_stepped net past) (cond (is_stop_all o) (Some state.Stopped) None) ∙ stop_own (is_stop_all o) (own_stepped net past));
   same_begun = k.same_begun ∙ st.same_begun;
   slaves = λ i h. k.slaves i h
-      ∙ ap (λ (r : Slave). ordered o i (cond (id == i) (record { state = 1; booted = false; session = None }) (cond (is_reset_all o) (cleared r) r))) (st.slaves i h)
+      ∙ ap (λ (r : Slave). slave_after_orders o i (cond (id == i) (record { state = 1; booted = false; session = None }) (cond (is_reset_all o) (cleared_slave r) r))) (st.slaves i h)
       ∙ sym (handled_slave net past seat id o i (λ e. subst (λ j. is_listed net j ≡ true) (eqb-true id i e) listed) (starts i));
 }
 
 time_up_stands : (m m' : Manager) (net : Listing) (past : List Entry) (seat ms : ℕ) → Agrees m net past
-    → Keeps m' (listing_in m) (settled_phase m.phase true (open_in (listing_in m) m.slaves)) (settled_own (listing_in m) m.phase (settled_phase m.phase true (open_in (listing_in m) m.slaves)) m.own) m.begun (λ i. ordered orders.None i (kept_at m.slaves i))
+    → Keeps m' (listing_in m) (settled_phase m.phase true (open_in (listing_in m) m.slaves)) (settled_own (listing_in m) m.phase (settled_phase m.phase true (open_in (listing_in m) m.slaves)) m.own) m.begun (λ i. slave_after_orders orders.None i (kept_at m.slaves i))
     → Agrees m' net (entry seat (call.Elapsed ms) reply.TimeUp orders.None ∷ past)
 unfolding entry
 time_up_stands m m' net past seat ms st k =
-    let after : settled_phase m.phase true (open_in (listing_in m) m.slaves) ≡ phase_of net (entry seat (call.Elapsed ms) reply.TimeUp orders.None ∷ past) =
-    ap (λ p. settled_phase p true (open_in (listing_in m) m.slaves)) st.same_phase ∙ sym (phase_settled (phase_of net past) true (open_in (listing_in m) m.slaves)) in
+    let after : settled_phase m.phase true (open_in (listing_in m) m.slaves) ≡ phase_stepped net (entry seat (call.Elapsed ms) reply.TimeUp orders.None ∷ past) =
+    ap (λ p. settled_phase p true (open_in (listing_in m) m.slaves)) st.same_phase ∙ sym (phase_settled (phase_stepped net past) true (open_in (listing_in m) m.slaves)) in
     record {
       same_listing = k.same_listing ∙ st.same_listing;
       same_phase = k.same_phase ∙ after;
       same_own = k.same_own ∙ own_parts st.same_listing st.same_phase after st.same_own;
       same_begun = k.same_begun ∙ st.same_begun;
-      slaves = λ i h. k.slaves i h ∙ ap (ordered orders.None i) (st.slaves i h) ∙ sym (elapsed_slave net past seat ms reply.TimeUp orders.None i refl);
+      slaves = λ i h. k.slaves i h ∙ ap (slave_after_orders orders.None i) (st.slaves i h) ∙ sym (elapsed_slave net past seat ms reply.TimeUp orders.None i refl);
     }
 
 in_time_stands : (m m' : Manager) (net : Listing) (past : List Entry) (seat ms : ℕ) (o : Orders) → Agrees m net past → ((i : ℕ) → is_start_of o i ≡ false)
-    → Keeps m' (listing_in m) (settled_phase m.phase false (open_in (listing_in m) m.slaves)) (settled_own (listing_in m) m.phase (settled_phase m.phase false (open_in (listing_in m) m.slaves)) m.own) m.begun (λ i. ordered o i (kept_at m.slaves i))
+    → Keeps m' (listing_in m) (settled_phase m.phase false (open_in (listing_in m) m.slaves)) (settled_own (listing_in m) m.phase (settled_phase m.phase false (open_in (listing_in m) m.slaves)) m.own) m.begun (λ i. slave_after_orders o i (kept_at m.slaves i))
     → Agrees m' net (entry seat (call.Elapsed ms) reply.InTime o ∷ past)
 unfolding entry
 in_time_stands m m' net past seat ms o st starts k =
-    let after : settled_phase m.phase false (open_in (listing_in m) m.slaves) ≡ phase_of net (entry seat (call.Elapsed ms) reply.InTime o ∷ past) =
-    rw (open_same m net past st, st.same_phase) (sym (phase_settled (phase_of net past) false (open_of net past))) in
+    let after : settled_phase m.phase false (open_in (listing_in m) m.slaves) ≡ phase_stepped net (entry seat (call.Elapsed ms) reply.InTime o ∷ past) =
+    rw (open_same m net past st, st.same_phase) (sym (phase_settled (phase_stepped net past) false (open_of net past))) in
     record {
       same_listing = k.same_listing ∙ st.same_listing;
       same_phase = k.same_phase ∙ after;
       same_own = k.same_own ∙ own_parts st.same_listing st.same_phase after st.same_own;
       same_begun = k.same_begun ∙ st.same_begun;
-      slaves = λ i h. k.slaves i h ∙ ap (ordered o i) (st.slaves i h) ∙ sym (elapsed_slave net past seat ms reply.InTime o i (starts i));
+      slaves = λ i h. k.slaves i h ∙ ap (slave_after_orders o i) (st.slaves i h) ∙ sym (elapsed_slave net past seat ms reply.InTime o i (starts i));
     }
 
-refused_phase : (net : Listing) (past : List Entry) (seat r : ℕ) (c : Call) → phase_of net (entry seat c (reply.Refused r) orders.None ∷ past) ≡ phase_then (phase_of net past) None
+refused_phase : (net : Listing) (past : List Entry) (seat r : ℕ) (c : Call) → phase_stepped net (entry seat c (reply.Refused r) orders.None ∷ past) ≡ phase_then (phase_stepped net past) None
 unfolding entry
 refused_phase net past seat r call.StartNetwork = refl
 refused_phase net past seat r (call.Begin j) = refl
@@ -212,16 +214,16 @@ refused_own net r (call.Request t v) = refl
 refused_own net r (call.Read t) = refl
 refused_own net r (call.Elapsed ms) = refl
 
-own_unmoved : (net : Listing) (past : List Entry) (e : Entry) → phase_of net (e ∷ past) ≡ phase_then (phase_of net past) None → own_by net e.call e.reply e.orders ≡ None
-    → own_of net (e ∷ past) ≡ own_of net past
-own_unmoved net past e p o = rw (p, o) (own_same net (phase_of net past) (own_of net past) None)
+own_unmoved : (net : Listing) (past : List Entry) (e : Entry) → phase_stepped net (e ∷ past) ≡ phase_then (phase_stepped net past) None → own_by net e.call e.reply e.orders ≡ None
+    → own_stepped net (e ∷ past) ≡ own_stepped net past
+own_unmoved net past e p o = rw (p, o) (own_same net (phase_stepped net past) (own_stepped net past) None)
 
 refused_stands : (m : Manager) (net : Listing) (past : List Entry) (seat r : ℕ) (c : Call) → Agrees m net past
     → Agrees m net (entry seat c (reply.Refused r) orders.None ∷ past)
 unfolding entry
 refused_stands m net past seat r c st = record {
   same_listing = st.same_listing;
-  same_phase = st.same_phase ∙ sym (refused_phase net past seat r c ∙ phase_same (phase_of net past));
+  same_phase = st.same_phase ∙ sym (refused_phase net past seat r c ∙ phase_same (phase_stepped net past));
   same_own = st.same_own ∙ sym (own_unmoved net past (entry seat c (reply.Refused r) orders.None) (refused_phase net past seat r c) (refused_own net r c));
   same_begun = st.same_begun;
   slaves = λ i h. st.slaves i h ∙ sym (refused_slave net past seat r c i);
@@ -272,7 +274,7 @@ third_fails false true false x y z e = refl
 along : (m : Manager) (net : Listing) (past : List Entry) (id : ℕ) → Agrees m net past → is_listed (listing_in m) id ≡ true → is_listed net id ≡ true
 along m net past id st listed = ap (λ l. is_listed l id) (sym st.same_listing) ∙ listed
 
-read_stands : (m m' : Manager) (net : Listing) (past : List Entry) (seat t : ℕ) (r : Reply) → Agrees m net past → (p : phase_of net (entry seat (call.Read t) r orders.None ∷ past) ≡ phase_then (phase_of net past) None)
+read_stands : (m m' : Manager) (net : Listing) (past : List Entry) (seat t : ℕ) (r : Reply) → Agrees m net past → (p : phase_stepped net (entry seat (call.Read t) r orders.None ∷ past) ≡ phase_then (phase_stepped net past) None)
     → begun_in (entry seat (call.Read t) r orders.None ∷ past) ≡ begun_in past → m' ≡ m
     → Agrees m' net (entry seat (call.Read t) r orders.None ∷ past)
 unfolding entry
@@ -280,7 +282,7 @@ read_stands m m' net past seat t r st p b same =
     let S : Manager → Type 0 = λ x. Agrees x net (entry seat (call.Read t) r orders.None ∷ past) in
     subst S (sym same) (record {
       same_listing = st.same_listing;
-      same_phase = st.same_phase ∙ sym (p ∙ phase_same (phase_of net past));
+      same_phase = st.same_phase ∙ sym (p ∙ phase_same (phase_stepped net past));
       same_own = st.same_own ∙ sym (own_unmoved net past (entry seat (call.Read t) r orders.None) p refl);
       same_begun = st.same_begun ∙ sym b;
       slaves = λ i h. st.slaves i h ∙ sym (read_slave net past seat t r i);
@@ -289,7 +291,7 @@ read_stands m m' net past seat t r st p b same =
 lost_core : (m m' : Manager) (net : Listing) (past : List Entry) (seat id : ℕ) → Agrees m net past → is_listed net id ≡ true → (b b' : Bool) → b ≡ b'
     → MatchBool b'
     (Keeps m' (listing_in m) m.phase (own_after_loss (cond {A = Reply × Orders} b (reply.Handled, lost_orders (listing_in m) id) (reply.Noted, orders.None)).1 m.own) m.begun
-    (λ i. ordered (cond {A = Reply × Orders} b (reply.Handled, lost_orders (listing_in m) id) (reply.Noted, orders.None)).1 i (lost_slave (cond {A = Reply × Orders} b (reply.Handled, lost_orders (listing_in m) id) (reply.Noted, orders.None)).1 id m.slaves i)))
+    (λ i. slave_after_orders (cond {A = Reply × Orders} b (reply.Handled, lost_orders (listing_in m) id) (reply.Noted, orders.None)).1 i (lost_slave (cond {A = Reply × Orders} b (reply.Handled, lost_orders (listing_in m) id) (reply.Noted, orders.None)).1 id m.slaves i)))
     (Keeps m' (listing_in m) m.phase m.own m.begun (with_slave id (record (kept_at m.slaves id) { state = 1 }) m.slaves))
     → Agrees m' net (entry seat (call.Lost id) (cond {A = Reply × Orders} b (reply.Handled, lost_orders (listing_in m) id) (reply.Noted, orders.None)).0 (cond {A = Reply × Orders} b (reply.Handled, lost_orders (listing_in m) id) (reply.Noted, orders.None)).1 ∷ past)
 lost_core m m' net past seat id st listed true true e k = handled_stands m m' net past seat id (lost_orders (listing_in m) id) st listed (lost_starts_none (listing_in m) id) k
@@ -299,7 +301,7 @@ lost_core m m' net past seat id st listed false false e k = noted_stands m m' ne
 
 elapsed_core : (m m' : Manager) (net : Listing) (past : List Entry) (seat ms : ℕ) (o : Orders) → Agrees m net past → ((i : ℕ) → is_start_of o i ≡ false) → (late : Bool)
     → Keeps m' (listing_in m) (settled_phase m.phase late (open_in (listing_in m) m.slaves)) (settled_own (listing_in m) m.phase (settled_phase m.phase late (open_in (listing_in m) m.slaves)) m.own) m.begun
-    (λ i. ordered (cond {A = Reply × Orders} late (reply.TimeUp, orders.None) (reply.InTime, o)).1 i (kept_at m.slaves i))
+    (λ i. slave_after_orders (cond {A = Reply × Orders} late (reply.TimeUp, orders.None) (reply.InTime, o)).1 i (kept_at m.slaves i))
     → Agrees m' net (entry seat (call.Elapsed ms) (cond {A = Reply × Orders} late (reply.TimeUp, orders.None) (reply.InTime, o)).0 (cond {A = Reply × Orders} late (reply.TimeUp, orders.None) (reply.InTime, o)).1 ∷ past)
 elapsed_core m m' net past seat ms o st starts true k = time_up_stands m m' net past seat ms st k
 elapsed_core m m' net past seat ms o st starts false k = in_time_stands m m' net past seat ms o st starts k
@@ -311,8 +313,8 @@ again_stands : (m m' : Manager) (net : Listing) (past : List Entry) (seat id byt
 unfolding entry
 again_stands m m' net past seat id byte st listed k = record {
   same_listing = k.same_listing ∙ st.same_listing;
-  same_phase = k.same_phase ∙ st.same_phase ∙ sym (phase_same (phase_of net past));
-  same_own = k.same_own ∙ st.same_own ∙ sym (own_same net (phase_of net past) (own_of net past) None);
+  same_phase = k.same_phase ∙ st.same_phase ∙ sym (phase_same (phase_stepped net past));
+  same_own = k.same_own ∙ st.same_own ∙ sym (own_same net (phase_stepped net past) (own_stepped net past) None);
   same_begun = k.same_begun ∙ st.same_begun;
   slaves = λ i h. k.slaves i h
       ∙ with_kept (λ r. record { state = 127; booted = false; session = None }) m.slaves id i (slave_of net past i) (st.slaves i h)
@@ -326,8 +328,8 @@ told_stands : (m m' : Manager) (net : Listing) (past : List Entry) (seat id byte
 unfolding entry
 told_stands m m' net past seat id byte s st listed code k = record {
   same_listing = k.same_listing ∙ st.same_listing;
-  same_phase = k.same_phase ∙ st.same_phase ∙ sym (phase_same (phase_of net past));
-  same_own = k.same_own ∙ st.same_own ∙ sym (own_same net (phase_of net past) (own_of net past) None);
+  same_phase = k.same_phase ∙ st.same_phase ∙ sym (phase_same (phase_stepped net past));
+  same_own = k.same_own ∙ st.same_own ∙ sym (own_same net (phase_stepped net past) (own_stepped net past) None);
   same_begun = k.same_begun ∙ st.same_begun;
   slaves = λ i h. k.slaves i h
       ∙ with_kept (λ r. record r { state = state_code s }) m.slaves id i (slave_of net past i) (st.slaves i h)
@@ -352,26 +354,26 @@ own_request_stands : (m m' : Manager) (net : Listing) (past : List Entry) (seat 
 unfolding entry
 own_request_stands m m' net past seat t v apart st own kept k = record {
   same_listing = k.same_listing ∙ st.same_listing;
-  same_phase = k.same_phase ∙ st.same_phase ∙ sym (phase_same (phase_of net past));
+  same_phase = k.same_phase ∙ st.same_phase ∙ sym (phase_same (phase_stepped net past));
   same_own = k.same_own ∙ ap (own_after_request v) st.same_own
-      ∙ sym (own_same net (phase_of net past) (own_of net past) (cond (t == net.own || t == 128) (state_of_code v) None)
-      ∙ ap (λ b. unwrap_or (cond (b || t == 128) (state_of_code v) None) (own_of net past)) own);
+      ∙ sym (own_same net (phase_stepped net past) (own_stepped net past) (cond (t == net.own || t == 128) (state_of_code v) None)
+      ∙ ap (λ b. unwrap_or (cond (b || t == 128) (state_of_code v) None) (own_stepped net past)) own);
   same_begun = k.same_begun ∙ st.same_begun;
   slaves = λ i h. k.slaves i h ∙ st.slaves i h ∙ sym (own_request_slave net past seat t v i
       (λ e. rw (← eqb-true t i e, eqb-true t net.own own) apart) kept);
 }
 
 all_request_stands : (m m' : Manager) (net : Listing) (past : List Entry) (seat t v : ℕ) (c : Command) → Agrees m net past → (t == 128) ≡ true
-    → Keeps m' (listing_in m) m.phase (own_after_request v m.own) m.begun (λ i. ordered (to_every c) i (requested_slave v (kept_at m.slaves i))) → Agrees m' net (entry seat (call.Request t v) reply.Done (to_every c) ∷ past)
+    → Keeps m' (listing_in m) m.phase (own_after_request v m.own) m.begun (λ i. slave_after_orders (to_every c) i (requested_slave v (kept_at m.slaves i))) → Agrees m' net (entry seat (call.Request t v) reply.Done (to_every c) ∷ past)
 unfolding entry
 all_request_stands m m' net past seat t v c st all k = record {
   same_listing = k.same_listing ∙ st.same_listing;
-  same_phase = k.same_phase ∙ st.same_phase ∙ sym (phase_same (phase_of net past));
+  same_phase = k.same_phase ∙ st.same_phase ∙ sym (phase_same (phase_stepped net past));
   same_own = k.same_own ∙ ap (own_after_request v) st.same_own
-      ∙ sym (own_same net (phase_of net past) (own_of net past) (cond (t == net.own || t == 128) (state_of_code v) None)
-      ∙ ap (λ b. unwrap_or (cond b (state_of_code v) None) (own_of net past)) (or_right (t == net.own) (t == 128) all));
+      ∙ sym (own_same net (phase_stepped net past) (own_stepped net past) (cond (t == net.own || t == 128) (state_of_code v) None)
+      ∙ ap (λ b. unwrap_or (cond b (state_of_code v) None) (own_stepped net past)) (or_right (t == net.own) (t == 128) all));
   same_begun = k.same_begun ∙ st.same_begun;
-  slaves = λ i h. k.slaves i h ∙ ap (λ r. ordered (to_every c) i (requested_slave v r)) (st.slaves i h) ∙ sym (all_request_slave net past seat t v c i
+  slaves = λ i h. k.slaves i h ∙ ap (λ r. slave_after_orders (to_every c) i (requested_slave v r)) (st.slaves i h) ∙ sym (all_request_slave net past seat t v c i
       (ne_eqb t i (λ e. let at : t ≡ 128 = eqb-true t 128 all in absurd (omega arith))) all);
 }
 
@@ -381,10 +383,10 @@ one_request_stands : (m m' : Manager) (net : Listing) (past : List Entry) (seat 
 unfolding entry
 one_request_stands m m' net past seat t v c st own all listed k = record {
   same_listing = k.same_listing ∙ st.same_listing;
-  same_phase = k.same_phase ∙ st.same_phase ∙ sym (phase_same (phase_of net past));
+  same_phase = k.same_phase ∙ st.same_phase ∙ sym (phase_same (phase_stepped net past));
   same_own = k.same_own ∙ st.same_own
-      ∙ sym (own_same net (phase_of net past) (own_of net past) (cond (t == net.own || t == 128) (state_of_code v) None)
-      ∙ ap (λ b. unwrap_or (cond b (state_of_code v) None) (own_of net past)) (or_from (t == net.own) (t == 128) own all));
+      ∙ sym (own_same net (phase_stepped net past) (own_stepped net past) (cond (t == net.own || t == 128) (state_of_code v) None)
+      ∙ ap (λ b. unwrap_or (cond b (state_of_code v) None) (own_stepped net past)) (or_from (t == net.own) (t == 128) own all));
   same_begun = k.same_begun ∙ st.same_begun;
   slaves = λ i h. k.slaves i h
       ∙ with_kept (λ r. record (requested_slave v r) { state = state_requested v }) m.slaves t i (slave_of net past i) (st.slaves i h)
@@ -415,7 +417,7 @@ request_core : (m m' : Manager) (net : Listing) (past : List Entry) (seat t v : 
     → MatchBool own
     (Keeps m' (listing_in m) m.phase (own_after_request v m.own) m.begun (kept_at m.slaves))
     (MatchBool all
-    (Keeps m' (listing_in m) m.phase (own_after_request v m.own) m.begun (λ i. ordered (request_orders own all t command) i (requested_slave v (kept_at m.slaves i))))
+    (Keeps m' (listing_in m) m.phase (own_after_request v m.own) m.begun (λ i. slave_after_orders (request_orders own all t command) i (requested_slave v (kept_at m.slaves i))))
     (Keeps m' (listing_in m) m.phase m.own m.begun (with_slave t (record (requested_slave v (kept_at m.slaves t)) { state = state_requested v }) m.slaves)))
     → Agrees m' net (entry seat (call.Request t v) reply.Done (request_orders own all t command) ∷ past)
 request_core m m' net past seat t v apart st None own all eo ea asks known kept k = cc
@@ -465,7 +467,9 @@ serve_cases m m' net past seat c r o apart st (Some n) q e k =
 pub serve_stands : (m m' : Manager) (net : Network) (past : List Entry) (seat : ℕ) (c : Call) (r : Reply) (o : Orders) → Stands m net past
     → (r, o) ≡ answer_from (listing_in m) (seen_in m (node_named c)) c → After m c r o m' → Stands m' net (record { seat = seat; call = c; reply = r; orders = o } ∷ past)
 unfolding entry
-serve_stands m m' net past seat c r o st e k = record { network = st.network; agrees = serve_cases m m' (listing net) past seat c r o (own_unlisted net st.network) st.agrees (refusal_in m c) refl e k }
+serve_stands m m' net past seat c r o st e k =
+    stands_from m' net (entry seat c r o ∷ past) st.network
+    (serve_cases m m' (listing net) past seat c r o (own_unlisted net st.network) (agrees_from m net past st) (refusal_in m c) refl e k)
 
 -- a listed node is a node-ID
 listed_small : (net : Network) (i : ℕ) → IsNetwork net → is_listed (listing net) i ≡ true → i < 128
@@ -478,8 +482,9 @@ listed_small net i ok listed = elim (cases_lt i 128) [
 pub serve_answers : (m : Manager) (net : Network) (past : List Entry) (c : Call) → Stands m net past
     → answer_from (listing_in m) (seen_in m (node_named c)) c ≡ answer_of (listing net) past c
 serve_answers m net past c st =
-    ap (λ l. answer_from l (seen_in m (node_named c)) c) st.agrees.same_listing
-    ∙ ap (λ x. answer_from (listing net) x c) (seen_same m (listing net) past (node_named c) st.agrees (listed_small net (node_named c) st.network))
+    ap (λ l. answer_from l (seen_in m (node_named c)) c) st.same_listing
+    ∙ ap (λ x. answer_from (listing net) x c) (seen_same m (listing net) past (node_named c) (agrees_from m net past st) (listed_small net (node_named c) st.network))
+    ∙ answer_is (listing net) past c
 
 signal_granted : (q : Option Signal) → is_granted (signal_reply q) ≡ true
 signal_granted None = refl
@@ -502,7 +507,7 @@ granted_reply net s (call.Signal id b) = signal_granted (signal_of b)
 granted_reply net s (call.Lost id) = lost_granted s.slave.booted (lost_orders net id)
 granted_reply net s (call.Request t v) = refl
 granted_reply net s (call.Read t) = refl
-granted_reply net s (call.Elapsed ms) = elapsed_granted (is_late net s.phase s.opened ms) _
+granted_reply net s (call.Elapsed ms) = elapsed_granted (is_late net s.phase s.open_slaves ms) _
 
 refused_after : (m m' : Manager) (c : Call) (r : Reply) (o : Orders) (n : ℕ) (q : Option ℕ) → (r, o) ≡ refused_or q (granted_answer (listing_in m) (seen_in m (node_named c)) c)
     → MatchOption q (Effect m c r o m') (λ k. m' ≡ m) → r ≡ reply.Refused n → m' ≡ m

@@ -28,8 +28,8 @@ abbrev pub put : ℕ → Slave → Slave
 put left slave = record slave { state = if slave.state == 0 || slave.state == 1 then slave.state else left }
 
 -- a slave that isn't booted and has no session, in the state that it had
-abbrev pub cleared : Slave → Slave
-cleared slave = record slave { booted = false; session = None }
+abbrev pub cleared_slave : Slave → Slave
+cleared_slave slave = record slave { booted = false; session = None }
 
 -- the slaves with another at place i
 abbrev pub with_slave : ℕ → Slave → List Slave → ℕ → Slave
@@ -46,4 +46,4 @@ signalled_slave (signal.State s) slave = record slave { state = state_code s }
 
 -- a slave after a request that resets it, or one that doesn't, before its state is set
 abbrev pub requested_slave : ℕ → Slave → Slave
-requested_slave v slave = if is_reset_value v then cleared slave else slave
+requested_slave v slave = if is_reset_value v then cleared_slave slave else slave

@@ -1,4 +1,3 @@
-pub mod Plan
+pub mod Standing
 pub mod Kept
 pub mod Steps
-pub mod Standing

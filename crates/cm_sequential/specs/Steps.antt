@@ -13,7 +13,7 @@ use Rattle.cm_history.specs.Orders.{to_all, is_start_of, is_reset_all, is_stop_a
 use Rattle.cm_history.specs.Phases.{is_booting}
 use Rattle.cm_history.specs.History.{is_empty, is_fatal, state_reported, state_requested, becomes_operational}
 use Rattle.cm_history.specs.Answering.{Seen, blank_slave, node_named, refusals, first_refusal, is_late, open_less}
-use Rattle.cm_sequential.specs.Plan.{kept_listing}
+use Rattle.cm_sequential.specs.Standing.{kept_listing}
 use Rattle.cm_history.specs.declared.call.Call.{Call}
 use Rattle.cm_history.specs.declared.call.Call.TheVariants as call
 use Rattle.cm_history.specs.declared.call.Reply.{Reply}
@@ -22,22 +22,18 @@ use Rattle.cm_sequential.specs.declared.manager.Manager.{Manager}
 use Rattle.cm_history.specs.declared.phase.Phase.{Phase}
 use Rattle.cm_history.specs.declared.phase.Phase.TheVariants as phase
 use Rattle.cm_history.specs.declared.slave.Slave.{Slave}
-pub use Rattle.cm_sequential.specs.Kept.{kept_at, is_open_in, open_in, put, cleared, with_slave, reported_slave, signalled_slave, requested_slave}
+pub use Rattle.cm_sequential.specs.Kept.{kept_at, is_open_in, open_in, put, cleared_slave, with_slave, reported_slave, signalled_slave, requested_slave}
 
 -- the network list that the manager keeps
 abbrev pub listing_in : Manager → Listing
-listing_in m = kept_listing m.plan
-
--- how many sessions the manager has begun
-abbrev pub sessions_begun : Manager → ℕ
-sessions_begun m = m.begun
+listing_in m = kept_listing m.listing
 
 -- what the manager keeps of slave i
 abbrev pub slave_in : Manager → ℕ → Slave
 slave_in m i = if is_listed (listing_in m) i then kept_at m.slaves i else blank_slave
 
 abbrev pub seen_in : Manager → ℕ → Seen
-seen_in m i = record { phase = m.phase; own = m.own; begun = m.begun; opened = open_in (listing_in m) m.slaves; slave = slave_in m i }
+seen_in m i = record { phase = m.phase; own = m.own; begun = m.begun; open_slaves = open_in (listing_in m) m.slaves; slave = slave_in m i }
 
 -- the manager keeps these, and of each node this slave
 pub record Keeps (m : Manager) (net : Listing) (phase : Phase) (own : NmtState) (begun : ℕ) (slave : ℕ → Slave) : Type 0 where
@@ -60,14 +56,14 @@ put_by None slave = slave
 put_by (Some c) slave = put (state_left c) slave
 
 -- slave i after an order to all or to itself
-abbrev pub ordered : Orders → ℕ → Slave → Slave
-ordered o i slave = put_by (to_all o) (if is_start_of o i then record slave { state = 5 } else slave)
+abbrev pub slave_after_orders : Orders → ℕ → Slave → Slave
+slave_after_orders o i slave = put_by (to_all o) (if is_start_of o i then record slave { state = 5 } else slave)
 
 -- slave j after the loss of slave i, booted, before the orders
 abbrev pub lost_slave : Orders → ℕ → List Slave → ℕ → Slave
 lost_slave o i slaves j =
     if i == j then record { state = 1; booted = false; session = None }
-    else if is_reset_all o then cleared (kept_at slaves j)
+    else if is_reset_all o then cleared_slave (kept_at slaves j)
     else kept_at slaves j
 
 -- the manager's own state after a request to itself or to all
@@ -87,25 +83,25 @@ Effect m (call.Report id n a) r o m' =
     let s = unwrap_or (judged ((listing_in m).terms id) a) status.A in
     let after = settled_phase m.phase (is_fatal (listing_in m) id s) (open_less (open_in (listing_in m) m.slaves) id s) in
     Keeps m' (listing_in m) after (settled_own (listing_in m) m.phase after m.own) m.begun
-    (λ i. ordered o i (with_slave id (reported_slave (kept_at m.slaves id) (state_reported s a) s) m.slaves i))
+    (λ i. slave_after_orders o i (with_slave id (reported_slave (kept_at m.slaves id) (state_reported s a) s) m.slaves i))
 Effect m (call.Signal id b) r o m' =
     MatchOption (signal_of b) (m' ≡ m)
     (λ s. Keeps m' (listing_in m) m.phase m.own m.begun (with_slave id (signalled_slave s (kept_at m.slaves id)) m.slaves))
 Effect m (call.Lost id) r o m' =
     MatchBool (kept_at m.slaves id).booted
-    (Keeps m' (listing_in m) m.phase (own_after_loss o m.own) m.begun (λ i. ordered o i (lost_slave o id m.slaves i)))
+    (Keeps m' (listing_in m) m.phase (own_after_loss o m.own) m.begun (λ i. slave_after_orders o i (lost_slave o id m.slaves i)))
     (Keeps m' (listing_in m) m.phase m.own m.begun (with_slave id (record (kept_at m.slaves id) { state = 1 }) m.slaves))
 Effect m (call.Request t v) r o m' =
     MatchBool (t == (listing_in m).own)
     (Keeps m' (listing_in m) m.phase (own_after_request v m.own) m.begun (kept_at m.slaves))
     (MatchBool (t == 128)
-    (Keeps m' (listing_in m) m.phase (own_after_request v m.own) m.begun (λ i. ordered o i (requested_slave v (kept_at m.slaves i))))
+    (Keeps m' (listing_in m) m.phase (own_after_request v m.own) m.begun (λ i. slave_after_orders o i (requested_slave v (kept_at m.slaves i))))
     (Keeps m' (listing_in m) m.phase m.own m.begun (with_slave t (record (requested_slave v (kept_at m.slaves t)) { state = state_requested v }) m.slaves)))
 Effect m (call.Read t) r o m' = m' ≡ m
 Effect m (call.Elapsed ms) r o m' =
-    let opened = open_in (listing_in m) m.slaves in
-    let after = settled_phase m.phase (is_late (listing_in m) m.phase opened ms) opened in
-    Keeps m' (listing_in m) after (settled_own (listing_in m) m.phase after m.own) m.begun (λ i. ordered o i (kept_at m.slaves i))
+    let open_slaves = open_in (listing_in m) m.slaves in
+    let after = settled_phase m.phase (is_late (listing_in m) m.phase open_slaves ms) open_slaves in
+    Keeps m' (listing_in m) after (settled_own (listing_in m) m.phase after m.own) m.begun (λ i. slave_after_orders o i (kept_at m.slaves i))
 
 -- the status that a report's answers come to; none for any other call
 abbrev pub judged_in : Listing → Call → Option Status

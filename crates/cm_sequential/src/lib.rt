@@ -3,10 +3,10 @@
 //! that its orders send. It takes no memory.
 #![tactic(auto)]
 
+mod listing_copy;
 mod manager;
-mod plan;
 mod sending;
-mod table;
+mod slaves;
 
 pub use manager::Manager;
 pub use sending::frames;

@@ -8,21 +8,21 @@ ghost use Rattle.cm_history.specs.History.{is_empty, begun_in, state_of, state_r
 ghost use Rattle.cm_history.specs.Answering.{answer_of, answer_from, node_named, open_less, starts_every, starts_one, report_orders, lost_orders, is_late, first_refusal, refusals, granted_answer, blank_slave};
 ghost use Rattle.cm_history.specs.declared.call.Entry.{Entry};
 
-use crate::plan::Plan;
-use crate::table::{self, Table};
+use crate::listing_copy::ListingCopy;
+use crate::slaves::{self, Slaves};
 use cm_answers::{Answers, Status, judged_by_tables};
-use cm_history::{BLANK, Call, Orders, Phase, Reply, Slave, state_reported};
+use cm_history::{Call, Orders, Phase, Reply, Slave, state_reported};
 use cm_netlist::Network;
 use cm_nmt::{Command, Frame, NmtState, NodeId, Signal, Target};
 
 /// The manager of one network.
 #[derive(Clone, Copy)]
 pub struct Manager {
-    plan: Plan,
+    listing: ListingCopy,
     phase: Phase,
     own: NmtState,
     begun: u64,
-    slaves: Table,
+    slaves: Slaves,
 }
 
 /// A command to all nodes.
@@ -60,19 +60,19 @@ fn is_stop_all(orders: &Orders) -> bool
 }
 
 impl Manager {
-    ghost use Rattle.cm_sequential.specs.Kept.{kept_at, is_open_in, open_in, cleared, with_slave, reported_slave, signalled_slave, requested_slave};
-    ghost use Rattle.cm_sequential.specs.Steps.{listing_in, slave_in, seen_in, sessions_begun, Keeps, settled_phase, settled_own, ordered, lost_slave, own_after_request, own_after_loss, judged_in, Effect, After};
-    ghost use Rattle.cm_sequential.specs.Standing.{Stands};
+    ghost use Rattle.cm_sequential.specs.Kept.{kept_at, is_open_in, open_in, cleared_slave, with_slave, reported_slave, signalled_slave, requested_slave};
+    ghost use Rattle.cm_sequential.specs.Steps.{listing_in, slave_in, seen_in, Keeps, settled_phase, settled_own, slave_after_orders, lost_slave, own_after_request, own_after_loss, judged_in, Effect, After};
+    ghost use Rattle.cm_sequential.specs.Standing.{Stands, sessions_begun};
 
     // ---- what is kept
 
     fn slave(&self, node: u8) -> Slave
         ensures { result ≡ slave_in self.now node }
     {
-        if self.plan.is_listed(node) {
+        if self.listing.is_listed(node) {
             self.slaves[node as usize]
         } else {
-            BLANK
+            Slave::blank()
         }
     }
 
@@ -81,7 +81,7 @@ impl Manager {
         requires { node < 128 }
         ensures { result ≡ is_open_in (listing_in self.now) self.now.slaves node }
     {
-        self.plan.is_mandatory(node) && !self.slaves[node as usize].booted
+        self.listing.is_mandatory(node) && !self.slaves[node as usize].booted
     }
 
     /// How many mandatory slaves aren't booted.
@@ -113,9 +113,10 @@ impl Manager {
 
     /// Which refusal a start of the network meets.
     fn start_refusal(&self) -> Option<u8>
-        ensures { result ≡ first_refusal (refusals (listing_in self.now) (seen_in self.now 0) Call.StartNetwork) }
+        ensures { result
+            ≡ first_refusal (refusals (listing_in self.now) (seen_in self.now 0) Call.StartNetwork) }
     {
-        if !self.plan.is_master() {
+        if !self.listing.is_master() {
             return Some(1);
         }
         if self.phase.is_booting() || self.phase.is_ready() {
@@ -126,13 +127,14 @@ impl Manager {
 
     /// Which refusal a begin of a boot meets.
     fn begin_refusal(&self, id: NodeId) -> Option<u8>
-        ensures { result ≡ first_refusal (refusals (listing_in self.now) (seen_in self.now id) (Call.Begin id)) }
+        ensures { result
+            ≡ first_refusal (refusals (listing_in self.now) (seen_in self.now id) (Call.Begin id)) }
     {
         if self.phase.is_idle() || self.phase.is_halted() {
             return Some(3);
         }
         let node = id.get();
-        if !self.plan.is_listed(node) {
+        if !self.listing.is_listed(node) {
             return Some(4);
         }
         let slave = self.slave(node);
@@ -152,7 +154,7 @@ impl Manager {
     {
         match call {
             Call::Report(id, _number, answers) => judged_by_tables(
-                self.plan.terms(id.get()),
+                self.listing.terms(id.get()),
                 answers,
             ),
             _ => None,
@@ -168,13 +170,16 @@ impl Manager {
         found: Option<Status>,
     ) -> Option<u8>
         requires { found ≡ judged ((listing_in self.now).terms id) answers.now }
-        ensures { result ≡ first_refusal (refusals (listing_in self.now) (seen_in self.now id) (Call.Report id number answers.now)) }
+        ensures { result
+            ≡ first_refusal
+            (refusals (listing_in self.now) (seen_in self.now id)
+            (Call.Report id number answers.now)) }
     {
         if self.phase.is_idle() {
             return Some(3);
         }
         let node = id.get();
-        if !self.plan.is_listed(node) {
+        if !self.listing.is_listed(node) {
             return Some(4);
         }
         if !self.slave(node).has_session(number) {
@@ -188,12 +193,14 @@ impl Manager {
 
     /// Which refusal an error control message meets.
     fn signal_refusal(&self, id: NodeId, byte: u8) -> Option<u8>
-        ensures { result ≡ first_refusal (refusals (listing_in self.now) (seen_in self.now id) (Call.Signal id byte)) }
+        ensures { result
+            ≡ first_refusal
+            (refusals (listing_in self.now) (seen_in self.now id) (Call.Signal id byte)) }
     {
         if self.phase.is_idle() {
             return Some(3);
         }
-        if !self.plan.is_listed(id.get()) {
+        if !self.listing.is_listed(id.get()) {
             return Some(4);
         }
         if Signal::read(byte).is_none() {
@@ -204,12 +211,13 @@ impl Manager {
 
     /// Which refusal a loss meets.
     fn lost_refusal(&self, id: NodeId) -> Option<u8>
-        ensures { result ≡ first_refusal (refusals (listing_in self.now) (seen_in self.now id) (Call.Lost id)) }
+        ensures { result
+            ≡ first_refusal (refusals (listing_in self.now) (seen_in self.now id) (Call.Lost id)) }
     {
         if self.phase.is_idle() {
             return Some(3);
         }
-        if !self.plan.is_listed(id.get()) {
+        if !self.listing.is_listed(id.get()) {
             return Some(4);
         }
         None
@@ -217,7 +225,9 @@ impl Manager {
 
     /// Which refusal a request meets.
     fn request_refusal(&self, target: u8, value: u8) -> Option<u8>
-        ensures { result ≡ first_refusal (refusals (listing_in self.now) (seen_in self.now target) (Call.Request target value)) }
+        ensures { result
+            ≡ first_refusal
+            (refusals (listing_in self.now) (seen_in self.now target) (Call.Request target value)) }
     {
         if self.phase.is_idle() {
             return Some(3);
@@ -228,8 +238,8 @@ impl Manager {
         if Command::of_request(value).is_none() {
             return Some(11);
         }
-        let to_own = target == self.plan.own();
-        if !self.plan.is_listed(target) && !to_own && target != 128 {
+        let to_own = target == self.listing.own_id();
+        if !self.listing.is_listed(target) && !to_own && target != 128 {
             return Some(4);
         }
         if value == 5 && (target == 128 || to_own) && !self.none_open() {
@@ -243,7 +253,9 @@ impl Manager {
 
     /// Which refusal a read meets.
     fn read_refusal(&self, target: u8) -> Option<u8>
-        ensures { result ≡ first_refusal (refusals (listing_in self.now) (seen_in self.now target) (Call.Read target)) }
+        ensures { result
+            ≡ first_refusal
+            (refusals (listing_in self.now) (seen_in self.now target) (Call.Read target)) }
     {
         if self.phase.is_idle() {
             return Some(3);
@@ -256,7 +268,8 @@ impl Manager {
 
     /// Which refusal a passing of time meets.
     fn elapsed_refusal(&self, ms: u32) -> Option<u8>
-        ensures { result ≡ first_refusal (refusals (listing_in self.now) (seen_in self.now 0) (Call.Elapsed ms)) }
+        ensures { result
+            ≡ first_refusal (refusals (listing_in self.now) (seen_in self.now 0) (Call.Elapsed ms)) }
     {
         if self.phase.is_idle() { Some(3) } else { None }
     }
@@ -264,7 +277,9 @@ impl Manager {
     /// Which refusal a call meets.
     fn refusal(&self, call: &Call, found: Option<Status>) -> Option<u8>
         requires { found ≡ judged_in (listing_in self.now) call.now }
-        ensures { result ≡ first_refusal (refusals (listing_in self.now) (seen_in self.now (node_named call.now)) call.now) }
+        ensures { result
+            ≡ first_refusal
+            (refusals (listing_in self.now) (seen_in self.now (node_named call.now)) call.now) }
     {
         match call {
             Call::StartNetwork => self.start_refusal(),
@@ -282,27 +297,33 @@ impl Manager {
 
     /// The network is started.
     fn start(&mut self) -> (Reply, Orders)
-        ensures answer { (result.0, result.1) ≡ granted_answer (listing_in self.old) (seen_in self.old 0) Call.StartNetwork }
-        ensures keeps { Keeps self.new (listing_in self.old) Phase.Booting NmtState.PreOperational self.old.begun (λ i. blank_slave) }
+        ensures answer { (result.0, result.1)
+            ≡ granted_answer (listing_in self.old) (seen_in self.old 0) Call.StartNetwork }
+        ensures keeps { Keeps self.new (listing_in self.old) Phase.Booting NmtState.PreOperational
+            self.old.begun (λ i. blank_slave) }
     {
         self.phase = Phase::Booting;
         self.own = NmtState::PreOperational;
-        table::blank_all(&mut self.slaves);
+        slaves::blank_all(&mut self.slaves);
         (Reply::Started, Orders::ResetUnkept)
     }
 
     /// The boot of a slave begins.
     fn begin(&mut self, id: NodeId) -> (Reply, Orders)
         requires { self.old.begun < 2 ^ 64 - 1 }
-        ensures answer { (result.0, result.1) ≡ granted_answer (listing_in self.old) (seen_in self.old id) (Call.Begin id) }
-        ensures keeps { Keeps self.new (listing_in self.old) self.old.phase self.old.own (self.old.begun + 1)
-            (with_slave id (record (kept_at self.old.slaves id) { session = Some (self.old.begun + 1) }) self.old.slaves) }
+        ensures answer { (result.0, result.1)
+            ≡ granted_answer (listing_in self.old) (seen_in self.old id) (Call.Begin id) }
+        ensures keeps { Keeps self.new (listing_in self.old) self.old.phase self.old.own
+            (self.old.begun + 1)
+            (with_slave id
+            (record (kept_at self.old.slaves id) { session = Some (self.old.begun + 1) })
+            self.old.slaves) }
     {
         let node = id.get();
         let number = self.begun + 1;
         let slave = self.slaves[node as usize];
         self.begun = number;
-        table::set_at(
+        slaves::set_at(
             &mut self.slaves,
             node,
             Slave {
@@ -315,13 +336,15 @@ impl Manager {
 
     /// Whether all slaves are to be started at once.
     fn starts_every(&self) -> bool
-        ensures { result ≡ starts_every (listing_in self.now) self.now.phase (open_in (listing_in self.now) self.now.slaves) }
+        ensures { result
+            ≡ starts_every (listing_in self.now) self.now.phase
+            (open_in (listing_in self.now) self.now.slaves) }
     {
         self.phase.is_booting()
             && self.none_open()
-            && self.plan.starts_all_at_once()
-            && !self.plan.leaves_operational_to_application()
-            && !self.plan.starts_no_slave()
+            && self.listing.starts_all_at_once()
+            && !self.listing.leaves_operational_to_application()
+            && !self.listing.starts_no_slave()
     }
 
     /// Whether the slave is to be started alone.
@@ -329,16 +352,16 @@ impl Manager {
         ensures { result ≡ starts_one (listing_in self.now) self.now.own id status }
     {
         status.is_ok()
-            && self.plan.is_to_be_booted(id.get())
-            && !self.plan.starts_no_slave()
-            && (!self.plan.starts_all_at_once() || self.own == NmtState::Operational)
+            && self.listing.is_to_be_booted(id.get())
+            && !self.listing.starts_no_slave()
+            && (!self.listing.starts_all_at_once() || self.own == NmtState::Operational)
     }
 
     /// Whether the status halts the boot of the network.
     fn is_fatal(&self, id: NodeId, status: Status) -> bool
         ensures { result ≡ is_fatal (listing_in self.now) id status }
     {
-        self.plan.is_mandatory(id.get()) && !(status.is_good() || status.is_retried())
+        self.listing.is_mandatory(id.get()) && !(status.is_good() || status.is_retried())
     }
 
     /// The orders of a report, once its slave is written.
@@ -363,8 +386,10 @@ impl Manager {
 
     /// The readiness test, or a failure that ends the boot of the network.
     fn settle(&mut self, failed: bool)
-        ensures { let after = settled_phase self.old.phase failed (open_in (listing_in self.old) self.old.slaves) in
-            Keeps self.new (listing_in self.old) after (settled_own (listing_in self.old) self.old.phase after self.old.own)
+        ensures { let after = settled_phase self.old.phase failed
+            (open_in (listing_in self.old) self.old.slaves) in
+            Keeps self.new (listing_in self.old) after
+            (settled_own (listing_in self.old) self.old.phase after self.old.own)
             self.old.begun (kept_at self.old.slaves) }
     {
         if !self.phase.is_booting() {
@@ -376,7 +401,7 @@ impl Manager {
         }
         if self.none_open() {
             self.phase = Phase::Ready;
-            if !self.plan.leaves_operational_to_application() {
+            if !self.listing.leaves_operational_to_application() {
                 self.own = NmtState::Operational;
             }
         }
@@ -385,16 +410,16 @@ impl Manager {
     /// What the orders make of the slaves' states.
     fn obey(&mut self, orders: &Orders)
         ensures { Keeps self.new (listing_in self.old) self.old.phase self.old.own self.old.begun
-            (λ i. ordered orders.now i (kept_at self.old.slaves i)) }
+            (λ i. slave_after_orders orders.now i (kept_at self.old.slaves i)) }
     {
         if let Orders::One(frame) = orders {
             match &frame.target {
-                Target::All => table::put_all(&mut self.slaves, frame.command.state_left()),
+                Target::All => slaves::put_all(&mut self.slaves, frame.command.state_left()),
                 Target::Node(id) => {
                     let node = id.get();
                     if frame.command == Command::Start {
                         let slave = self.slaves[node as usize];
-                        table::set_at(&mut self.slaves, node, Slave { state: 5, ..slave });
+                        slaves::set_at(&mut self.slaves, node, Slave { state: 5, ..slave });
                     }
                 }
             }
@@ -403,24 +428,34 @@ impl Manager {
 
     /// Writes what a boot found of its slave.
     fn write_report(&mut self, id: NodeId, status: Status, left: u8)
-        ensures keeps { Keeps self.new (listing_in self.old) self.old.phase self.old.own self.old.begun
-            (with_slave id (reported_slave (kept_at self.old.slaves id) left status) self.old.slaves) }
-        ensures open { open_in (listing_in self.new) self.new.slaves ≡ open_less (open_in (listing_in self.old) self.old.slaves) id status }
+        ensures keeps { Keeps self.new (listing_in self.old) self.old.phase self.old.own
+            self.old.begun
+            (with_slave id (reported_slave (kept_at self.old.slaves id) left status)
+            self.old.slaves) }
+        ensures open { open_in (listing_in self.new) self.new.slaves
+            ≡ open_less (open_in (listing_in self.old) self.old.slaves) id status }
     {
         let node = id.get();
-        let slave = table::reported(self.slaves[node as usize], left, status);
-        table::set_at(&mut self.slaves, node, slave);
+        let slave = slaves::reported(self.slaves[node as usize], left, status);
+        slaves::set_at(&mut self.slaves, node, slave);
     }
 
     /// A boot has ended with this status.
     fn report(&mut self, id: NodeId, answers: &Answers, found: Option<Status>) -> (Reply, Orders)
         requires { found ≡ judged ((listing_in self.old).terms id) answers.now }
         ensures answer { (number : ℕ) → (result.0, result.1)
-            ≡ granted_answer (listing_in self.old) (seen_in self.old id) (Call.Report id number answers.now) }
-        ensures keeps { let s = unwrap_or (judged ((listing_in self.old).terms id) answers.now) Status.A in
-            let after = settled_phase self.old.phase (is_fatal (listing_in self.old) id s) (open_less (open_in (listing_in self.old) self.old.slaves) id s) in
-            Keeps self.new (listing_in self.old) after (settled_own (listing_in self.old) self.old.phase after self.old.own) self.old.begun
-            (λ i. ordered result.1 i (with_slave id (reported_slave (kept_at self.old.slaves id) (state_reported s answers.now) s) self.old.slaves i)) }
+            ≡ granted_answer (listing_in self.old) (seen_in self.old id)
+            (Call.Report id number answers.now) }
+        ensures keeps { let s = unwrap_or (judged ((listing_in self.old).terms id) answers.now)
+            Status.A in
+            let after = settled_phase self.old.phase (is_fatal (listing_in self.old) id s)
+            (open_less (open_in (listing_in self.old) self.old.slaves) id s) in
+            Keeps self.new (listing_in self.old) after
+            (settled_own (listing_in self.old) self.old.phase after self.old.own) self.old.begun
+            (λ i. slave_after_orders result.1 i
+            (with_slave id
+            (reported_slave (kept_at self.old.slaves id) (state_reported s answers.now) s)
+            self.old.slaves i)) }
     {
         let status = found.unwrap_or(Status::A);
         let left = state_reported(status, answers);
@@ -434,7 +469,8 @@ impl Manager {
 
     /// An error control message came.
     fn signal(&mut self, id: NodeId, byte: u8) -> (Reply, Orders)
-        ensures answer { (result.0, result.1) ≡ granted_answer (listing_in self.old) (seen_in self.old id) (Call.Signal id byte) }
+        ensures answer { (result.0, result.1)
+            ≡ granted_answer (listing_in self.old) (seen_in self.old id) (Call.Signal id byte) }
         ensures keeps { MatchOption (signal_of byte) (self.new ≡ self.old)
             (λ s. Keeps self.new (listing_in self.old) self.old.phase self.old.own self.old.begun
             (with_slave id (signalled_slave s (kept_at self.old.slaves id)) self.old.slaves)) }
@@ -443,8 +479,8 @@ impl Manager {
             return (Reply::Noted, Orders::None);
         };
         let node = id.get();
-        let slave = table::signalled(self.slaves[node as usize], signal);
-        table::set_at(&mut self.slaves, node, slave);
+        let slave = slaves::signalled(self.slaves[node as usize], signal);
+        slaves::set_at(&mut self.slaves, node, slave);
         match signal {
             Signal::BootUp => (Reply::BootAgain, Orders::None),
             Signal::State(_) => (Reply::Noted, Orders::None),
@@ -455,11 +491,11 @@ impl Manager {
     fn lost_orders(&self, id: NodeId) -> Orders
         ensures { result ≡ lost_orders (listing_in self.now) id }
     {
-        let mandatory = self.plan.is_mandatory(id.get());
-        if mandatory && self.plan.stops_all_on_error() {
+        let mandatory = self.listing.is_mandatory(id.get());
+        if mandatory && self.listing.stops_all_on_error() {
             return to_every(Command::Stop);
         }
-        if mandatory && self.plan.resets_all_on_error() {
+        if mandatory && self.listing.resets_all_on_error() {
             return to_every(Command::ResetNode);
         }
         to_node(Command::ResetNode, id)
@@ -472,23 +508,24 @@ impl Manager {
     {
         let node = id.get();
         let slave = self.slaves[node as usize];
-        table::set_at(&mut self.slaves, node, Slave { state: 1, ..slave });
+        slaves::set_at(&mut self.slaves, node, Slave { state: 1, ..slave });
     }
 
     /// A booted slave is lost.
     fn lost_booted(&mut self, id: NodeId, orders: &Orders)
-        ensures { Keeps self.new (listing_in self.old) self.old.phase (own_after_loss orders.now self.old.own) self.old.begun
-            (λ i. ordered orders.now i (lost_slave orders.now id self.old.slaves i)) }
+        ensures { Keeps self.new (listing_in self.old) self.old.phase
+            (own_after_loss orders.now self.old.own) self.old.begun
+            (λ i. slave_after_orders orders.now i (lost_slave orders.now id self.old.slaves i)) }
     {
         if is_reset_all(orders) {
-            table::clear_all(&mut self.slaves);
+            slaves::clear_all(&mut self.slaves);
         }
         let lost = Slave {
             state: 1,
             booted: false,
             session: None,
         };
-        table::set_at(&mut self.slaves, id.get(), lost);
+        slaves::set_at(&mut self.slaves, id.get(), lost);
         if is_stop_all(orders) {
             self.own = NmtState::Stopped;
         }
@@ -500,8 +537,9 @@ impl Manager {
         ensures answer { IsTrue (is_listed (listing_in self.old) id) → (result.0, result.1)
             ≡ granted_answer (listing_in self.old) (seen_in self.old id) (Call.Lost id) }
         ensures keeps { MatchBool (kept_at self.old.slaves id).booted
-            (Keeps self.new (listing_in self.old) self.old.phase (own_after_loss result.1 self.old.own) self.old.begun
-            (λ i. ordered result.1 i (lost_slave result.1 id self.old.slaves i)))
+            (Keeps self.new (listing_in self.old) self.old.phase
+            (own_after_loss result.1 self.old.own) self.old.begun
+            (λ i. slave_after_orders result.1 i (lost_slave result.1 id self.old.slaves i)))
             (Keeps self.new (listing_in self.old) self.old.phase self.old.own self.old.begun
             (with_slave id (record (kept_at self.old.slaves id) { state = 1 }) self.old.slaves)) }
     {
@@ -519,7 +557,8 @@ impl Manager {
 
     /// A request to the manager itself; a reset leaves its state.
     fn request_own(&mut self, value: u8)
-        ensures { Keeps self.new (listing_in self.old) self.old.phase (own_after_request value self.old.own) self.old.begun (kept_at self.old.slaves) }
+        ensures { Keeps self.new (listing_in self.old) self.old.phase
+            (own_after_request value self.old.own) self.old.begun (kept_at self.old.slaves) }
     {
         if let Some(state) = NmtState::from_code(value) {
             self.own = state;
@@ -528,11 +567,13 @@ impl Manager {
 
     /// A request to all nodes.
     fn request_all(&mut self, value: u8, orders: &Orders)
-        ensures { Keeps self.new (listing_in self.old) self.old.phase (own_after_request value self.old.own) self.old.begun
-            (λ i. ordered orders.now i (requested_slave value (kept_at self.old.slaves i))) }
+        ensures { Keeps self.new (listing_in self.old) self.old.phase
+            (own_after_request value self.old.own) self.old.begun
+            (λ i. slave_after_orders orders.now i
+            (requested_slave value (kept_at self.old.slaves i))) }
     {
         if value == 6 || value == 7 {
-            table::clear_all(&mut self.slaves);
+            slaves::clear_all(&mut self.slaves);
         }
         self.request_own(value);
         self.obey(orders);
@@ -541,11 +582,13 @@ impl Manager {
     /// A request to a slave.
     fn request_one(&mut self, id: NodeId, value: u8)
         ensures { Keeps self.new (listing_in self.old) self.old.phase self.old.own self.old.begun
-            (with_slave id (record (requested_slave value (kept_at self.old.slaves id)) { state = state_requested value }) self.old.slaves) }
+            (with_slave id
+            (record (requested_slave value (kept_at self.old.slaves id))
+            { state = state_requested value }) self.old.slaves) }
     {
         let node = id.get();
-        let slave = table::requested(self.slaves[node as usize], value);
-        table::set_at(&mut self.slaves, node, slave);
+        let slave = slaves::requested(self.slaves[node as usize], value);
+        slaves::set_at(&mut self.slaves, node, slave);
     }
 
     /// A value is written to 1F82h.
@@ -553,10 +596,12 @@ impl Manager {
         requires low { 1 ≤ target }
         requires high { target ≤ 128 }
         requires value { IsSome (command_of_request value) }
-        ensures answer { (result.0, result.1) ≡ granted_answer (listing_in self.old) (seen_in self.old target) (Call.Request target value) }
+        ensures answer { (result.0, result.1)
+            ≡ granted_answer (listing_in self.old) (seen_in self.old target)
+            (Call.Request target value) }
         ensures keeps { Effect self.old (Call.Request target value) result.0 result.1 self.new }
     {
-        if target == self.plan.own() {
+        if target == self.listing.own_id() {
             self.request_own(value);
             return (Reply::Done, Orders::None);
         }
@@ -577,9 +622,10 @@ impl Manager {
 
     /// 1F82h is read.
     fn read(&self, target: u8) -> (Reply, Orders)
-        ensures { (result.0, result.1) ≡ granted_answer (listing_in self.now) (seen_in self.now target) (Call.Read target) }
+        ensures { (result.0, result.1)
+            ≡ granted_answer (listing_in self.now) (seen_in self.now target) (Call.Read target) }
     {
-        if target == self.plan.own() {
+        if target == self.listing.own_id() {
             return (Reply::State(self.own.code()), Orders::None);
         }
         let slave = self.slave(target);
@@ -588,20 +634,25 @@ impl Manager {
 
     /// Whether the time for the mandatory slaves is up.
     fn is_late(&self, ms: u32) -> bool
-        ensures { result ≡ is_late (listing_in self.now) self.now.phase (open_in (listing_in self.now) self.now.slaves) ms }
+        ensures { result
+            ≡ is_late (listing_in self.now) self.now.phase
+            (open_in (listing_in self.now) self.now.slaves) ms }
     {
-        let limit = self.plan.boot_time();
+        let limit = self.listing.boot_time();
         let booting = self.phase.is_booting();
         booting && limit != 0 && limit < ms && !self.none_open()
     }
 
     /// Time went by.
     fn elapsed(&mut self, ms: u32) -> (Reply, Orders)
-        ensures answer { (result.0, result.1) ≡ granted_answer (listing_in self.old) (seen_in self.old 0) (Call.Elapsed ms) }
-        ensures keeps { let opened = open_in (listing_in self.old) self.old.slaves in
-            let after = settled_phase self.old.phase (is_late (listing_in self.old) self.old.phase opened ms) opened in
-            Keeps self.new (listing_in self.old) after (settled_own (listing_in self.old) self.old.phase after self.old.own) self.old.begun
-            (λ i. ordered result.1 i (kept_at self.old.slaves i)) }
+        ensures answer { (result.0, result.1)
+            ≡ granted_answer (listing_in self.old) (seen_in self.old 0) (Call.Elapsed ms) }
+        ensures keeps { let open_slaves = open_in (listing_in self.old) self.old.slaves in
+            let after = settled_phase self.old.phase
+            (is_late (listing_in self.old) self.old.phase open_slaves ms) open_slaves in
+            Keeps self.new (listing_in self.old) after
+            (settled_own (listing_in self.old) self.old.phase after self.old.own) self.old.begun
+            (λ i. slave_after_orders result.1 i (kept_at self.old.slaves i)) }
     {
         if self.is_late(ms) {
             self.settle(true);
@@ -621,8 +672,11 @@ impl Manager {
     fn grant(&mut self, call: &Call, found: Option<Status>) -> (Reply, Orders)
         requires begun { self.old.begun < 2 ^ 64 - 1 }
         requires judged { found ≡ judged_in (listing_in self.old) call.now }
-        requires granted { first_refusal (refusals (listing_in self.old) (seen_in self.old (node_named call.now)) call.now) ≡ None }
-        ensures answer { (result.0, result.1) ≡ granted_answer (listing_in self.old) (seen_in self.old (node_named call.now)) call.now }
+        requires granted { first_refusal
+            (refusals (listing_in self.old) (seen_in self.old (node_named call.now)) call.now)
+            ≡ None }
+        ensures answer { (result.0, result.1)
+            ≡ granted_answer (listing_in self.old) (seen_in self.old (node_named call.now)) call.now }
         ensures keeps { Effect self.old call.now result.0 result.1 self.new }
     {
         match call {
@@ -640,7 +694,8 @@ impl Manager {
     /// Serves a call.
     fn serve(&mut self, call: &Call) -> (Reply, Orders)
         requires { self.old.begun < 2 ^ 64 - 1 }
-        ensures answer { (result.0, result.1) ≡ answer_from (listing_in self.old) (seen_in self.old (node_named call.now)) call.now }
+        ensures answer { (result.0, result.1)
+            ≡ answer_from (listing_in self.old) (seen_in self.old (node_named call.now)) call.now }
         ensures after { After self.old call.now result.0 result.1 self.new }
     {
         let found = self.judged(call);
@@ -659,11 +714,11 @@ impl Manager {
         ensures begun { sessions_begun result ≡ 0 }
     {
         Manager {
-            plan: Plan::of(net),
+            listing: ListingCopy::of(net),
             phase: Phase::Idle,
             own: NmtState::PreOperational,
             begun: 0,
-            slaves: [BLANK; 128],
+            slaves: [Slave::blank(); 128],
         }
     }
 
@@ -674,8 +729,10 @@ impl Manager {
         requires { sessions_begun self.old < 2 ^ 64 - 1 }
         ensures answer { (net : AnyNetwork) (past : List Entry) → Stands self.old net past
             → (result.0, result.1) ≡ answer_of (listing net) past call }
-        ensures stands { (net : AnyNetwork) (past : List Entry) (seat : ℕ) → Stands self.old net past
-            → Stands self.new net (record { seat = seat; call = call; reply = result.0; orders = result.1 } ∷ past) }
+        ensures stands { (net : AnyNetwork) (past : List Entry) (seat : ℕ)
+            → Stands self.old net past
+            → Stands self.new net
+            (record { seat = seat; call = call; reply = result.0; orders = result.1 } ∷ past) }
         ensures refused { (number : ℕ) → result.0 ≡ Reply.Refused number → self.new ≡ self.old }
         ensures begun { sessions_begun self.new ≤ sessions_begun self.old + 1 }
     {
@@ -685,7 +742,8 @@ impl Manager {
     /// The state of a slave as object 1F82h reads it: 0 unknown or not listed, 1 missing,
     /// 4 stopped, 5 operational, 127 pre-operational.
     pub fn state(&self, id: NodeId) -> u8
-        ensures { (net : AnyNetwork) (past : List Entry) → Stands self.now net past → result ≡ state_of (listing net) past id }
+        ensures { (net : AnyNetwork) (past : List Entry) → Stands self.now net past
+            → result ≡ state_of (listing net) past id }
     {
         let slave = self.slaves[id.get() as usize];
         slave.state
@@ -693,28 +751,32 @@ impl Manager {
 
     /// The manager's own NMT state.
     pub fn own(&self) -> NmtState
-        ensures { (net : AnyNetwork) (past : List Entry) → Stands self.now net past → result ≡ own_of (listing net) past }
+        ensures { (net : AnyNetwork) (past : List Entry) → Stands self.now net past
+            → result ≡ own_of (listing net) past }
     {
         self.own
     }
 
     /// How far the manager has come with its network.
     pub fn phase(&self) -> Phase
-        ensures { (net : AnyNetwork) (past : List Entry) → Stands self.now net past → result ≡ phase_of (listing net) past }
+        ensures { (net : AnyNetwork) (past : List Entry) → Stands self.now net past
+            → result ≡ phase_of (listing net) past }
     {
         self.phase
     }
 
     /// How many mandatory slaves aren't booted.
     pub fn open_mandatory(&self) -> u8
-        ensures { (net : AnyNetwork) (past : List Entry) → Stands self.now net past → result ≡ length (open_of (listing net) past) }
+        ensures { (net : AnyNetwork) (past : List Entry) → Stands self.now net past
+            → result ≡ length (open_of (listing net) past) }
     {
         self.count_open()
     }
 
     /// Whether the slave is booted.
     pub fn booted(&self, id: NodeId) -> bool
-        ensures { (net : AnyNetwork) (past : List Entry) → Stands self.now net past → result ≡ is_booted past id }
+        ensures { (net : AnyNetwork) (past : List Entry) → Stands self.now net past
+            → result ≡ is_booted past id }
     {
         let slave = self.slaves[id.get() as usize];
         slave.booted
@@ -722,7 +784,8 @@ impl Manager {
 
     /// The number of the slave's session, if one is open.
     pub fn session(&self, id: NodeId) -> Option<u64>
-        ensures { (net : AnyNetwork) (past : List Entry) → Stands self.now net past → result ≡ session_of past id }
+        ensures { (net : AnyNetwork) (past : List Entry) → Stands self.now net past
+            → result ≡ session_of past id }
     {
         let slave = self.slaves[id.get() as usize];
         slave.session
@@ -731,7 +794,8 @@ impl Manager {
     /// How many sessions were begun.
     pub fn begun(&self) -> u64
         ensures value { result ≡ sessions_begun self.now }
-        ensures stands { (net : AnyNetwork) (past : List Entry) → Stands self.now net past → result ≡ begun_in past }
+        ensures stands { (net : AnyNetwork) (past : List Entry) → Stands self.now net past
+            → result ≡ begun_in past }
     {
         self.begun
     }

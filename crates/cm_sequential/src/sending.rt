@@ -51,7 +51,9 @@ fn push_reset(sent: &mut ArrayVec<Frame, 127>, net: &Network, node: u8)
     requires low { 1 ≤ node }
     requires high { node < 128 }
     requires room { length sent.old.items < 127 }
-    ensures { sent.new.items ≡ sent.old.items ++ map reset_of (if is_unkept (listing net.now) node then node ∷ [] else []) }
+    ensures { sent.new.items
+        ≡ sent.old.items ++ map reset_of
+        (if is_unkept (listing net.now) node then node ∷ [] else []) }
 {
     if is_unkept(net, node) {
         if let Some(id) = NodeId::new(node) {

@@ -2,19 +2,20 @@
 //!
 //! A text is lines of ASCII, each ended by a line feed (10). A line is fields, one space (32)
 //! between two of them. A number is decimal digits with no leading zero, `0` for zero; or exactly
-//! 2, 4 or 8 digits of `0` to `9` and `A` to `F`. So each value has one spelling, and bytes that are
-//! the spelling of none are refused.
+//! 2, 4 or 8 digits of `0` to `9` and `A` to `F`. So each value has one spelling, and bytes that
+//! are the spelling of none are refused.
 //!
 //! Nothing here takes memory. `read_decimal`, `read_hex2`, `read_hex4` and `read_hex8` read one
 //! whole field, and `is_word` compares one with a text; `Fields` goes over the fields of a line, or
-//! the lines of a text, and reads them.
+//! the lines of a text, and reads them. Most fields it reads where they stand (`near.rt`), with no
+//! look for their end.
 #![tactic(auto)]
 
 mod decimal;
 mod fields;
 mod hex;
-#[cfg(test)]
-mod tests;
+mod near;
+mod places;
 mod words;
 
 pub use decimal::read_decimal;

@@ -1,0 +1,154 @@
+ghost use Rattle.std.specs.Prelude.{◌≡◌, ◌<◌, ℕ, None, IsSome, IsTrue, length};
+ghost use Rattle.std.specs.List.{slice_index_or};
+ghost use Rattle.cm_netlist.specs.Network.{listing};
+ghost use Rattle.cm_objects.specs.Listing.{is_listed, is_mandatory, is_to_be_booted, is_master, starts_all_at_once, leaves_operational_to_application, starts_no_slave, resets_all_on_error, stops_all_on_error};
+ghost use Rattle.cm_netlist.specs.Network as network;
+
+use cm_netlist::Network;
+use cm_nmt::NodeId;
+use cm_objects::{Startup, Terms};
+
+/// The manager's own copy of its network list. The terms of node i stand at place i.
+#[derive(Clone, Copy)]
+pub struct ListingCopy {
+    own: NodeId,
+    startup: Startup,
+    boot_time: u32,
+    terms: [Option<Terms>; 128],
+}
+
+/// What is listed of the node, nothing for a number that is no node-ID.
+fn terms_of_node(net: &Network, node: u8) -> Option<Terms>
+    ensures { result ≡ network.terms net.now node }
+{
+    let _own = net.own_id();
+    match NodeId::new(node) {
+        Some(id) => net.terms(id),
+        None => None,
+    }
+}
+
+/// The terms of every node, that of node i at place i.
+fn terms_by_node(net: &Network) -> [Option<Terms>; 128]
+    ensures each { (i : ℕ) → i < 128 → slice_index_or result i None ≡ network.terms net.now i }
+    ensures sized { length result ≡ 128 }
+{
+    let mut terms = [None; 128];
+    for node in 0..128u8 {
+        terms[node as usize] = terms_of_node(net, node);
+    }
+    terms
+}
+
+impl ListingCopy {
+    ghost use Rattle.cm_sequential.specs.Standing.{kept_listing};
+
+    /// The copy of a network list.
+    pub fn of(net: &Network) -> ListingCopy
+        ensures value { kept_listing result ≡ listing net.now }
+        ensures kept { network.IsNetwork net.now }
+    {
+        ListingCopy {
+            own: net.own_id(),
+            startup: net.startup(),
+            boot_time: net.boot_time(),
+            terms: terms_by_node(net),
+        }
+    }
+
+    /// The manager's own node-ID.
+    #[tactic(auto, unfolding(crate::specs::Standing::kept_listing))]
+    pub fn own_id(&self) -> u8
+        ensures { result ≡ (kept_listing self.now).own }
+    {
+        self.own.get()
+    }
+
+    /// 1F89h, in ms.
+    #[tactic(auto, unfolding(crate::specs::Standing::kept_listing))]
+    pub fn boot_time(&self) -> u32
+        ensures { result ≡ (kept_listing self.now).boot_time }
+    {
+        self.boot_time
+    }
+
+    /// What is listed of the node; nothing for a number that is no node-ID.
+    #[tactic(auto, unfolding(crate::specs::Standing::kept_listing))]
+    pub fn terms(&self, node: u8) -> Option<Terms>
+        ensures value { result ≡ (kept_listing self.now).terms node }
+        ensures small { IsSome result → node < 128 }
+    {
+        if node < 128 {
+            self.terms[node as usize]
+        } else {
+            None
+        }
+    }
+
+    pub fn is_listed(&self, node: u8) -> bool
+        ensures value { result ≡ is_listed (kept_listing self.now) node }
+        ensures small { IsTrue result → node < 128 }
+    {
+        self.terms(node).is_some()
+    }
+
+    pub fn is_mandatory(&self, node: u8) -> bool
+        ensures { result ≡ is_mandatory (kept_listing self.now) node }
+    {
+        match self.terms(node) {
+            Some(terms) => terms.assignment.is_mandatory(),
+            None => false,
+        }
+    }
+
+    pub fn is_to_be_booted(&self, node: u8) -> bool
+        ensures { result ≡ is_to_be_booted (kept_listing self.now) node }
+    {
+        match self.terms(node) {
+            Some(terms) => terms.assignment.is_to_be_booted(),
+            None => false,
+        }
+    }
+
+    #[tactic(auto, unfolding(crate::specs::Standing::kept_listing))]
+    pub fn is_master(&self) -> bool
+        ensures { result ≡ is_master (kept_listing self.now) }
+    {
+        self.startup.is_master()
+    }
+
+    #[tactic(auto, unfolding(crate::specs::Standing::kept_listing))]
+    pub fn starts_all_at_once(&self) -> bool
+        ensures { result ≡ starts_all_at_once (kept_listing self.now) }
+    {
+        self.startup.starts_all_at_once()
+    }
+
+    #[tactic(auto, unfolding(crate::specs::Standing::kept_listing))]
+    pub fn leaves_operational_to_application(&self) -> bool
+        ensures { result ≡ leaves_operational_to_application (kept_listing self.now) }
+    {
+        self.startup.leaves_operational_to_application()
+    }
+
+    #[tactic(auto, unfolding(crate::specs::Standing::kept_listing))]
+    pub fn starts_no_slave(&self) -> bool
+        ensures { result ≡ starts_no_slave (kept_listing self.now) }
+    {
+        self.startup.starts_no_slave()
+    }
+
+    #[tactic(auto, unfolding(crate::specs::Standing::kept_listing))]
+    pub fn resets_all_on_error(&self) -> bool
+        ensures { result ≡ resets_all_on_error (kept_listing self.now) }
+    {
+        self.startup.resets_all_on_error()
+    }
+
+    #[tactic(auto, unfolding(crate::specs::Standing::kept_listing))]
+    pub fn stops_all_on_error(&self) -> bool
+        ensures { result ≡ stops_all_on_error (kept_listing self.now) }
+    {
+        self.startup.stops_all_on_error()
+    }
+}
