@@ -166,13 +166,16 @@ fn an_added_slave_is_read_back(rt: HostRuntime) -> Result<(), Fail> {
     listed.vendor = 0x123;
     assert_eq!(rt; network.add(node(4)?, listed), Ok(()));
     // each of these has a later fault too
-    for (id, entry, fault) in [
-        (4, writing(12, 65_536), NetFault::DoubleSlave),
-        (1, writing(12, 65_536), NetFault::OwnListed),
-        (3, writing(12, 65_536), NetFault::NotListedBit),
-        (3, writing(13, 65_536), NetFault::ValueTooWide),
+    for (id, assignment, fault) in [
+        (4, 12, NetFault::DoubleSlave),
+        (1, 12, NetFault::OwnListed),
+        (3, 12, NetFault::NotListedBit),
+        (3, 13, NetFault::ValueTooWide),
     ] {
-        assert_eq!(rt; network.add(node(id)?, entry), Err(fault));
+        assert_eq!(rt;
+            network.add(node(id)?, writing(assignment, 65_536)),
+            Err(fault)
+        );
     }
     assert_eq!(rt; network.add(node(2)?, writing(0x15, 0)), Ok(()));
     let mut expected = terms(0x0D);
