@@ -1,5 +1,5 @@
 //! What no contract says, and neither a journal nor a network list can show: values that no text can
-//! spell, readers and writers that fail, and each public function once. One file for each topic.
+//! spell, and each public function once. One file for each topic.
 #![tactic(auto)]
 
 #[cfg(test)]
