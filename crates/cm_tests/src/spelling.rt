@@ -1,4 +1,10 @@
 use cm_text::{Fields, hex2, hex4, hex8, is_word, read_decimal, read_hex2, read_hex4, read_hex8};
+use std::process::Abort;
+
+// Each comparison is asserted here, since an assertion of its own in each place is long to prove.
+fn sure(rt: &impl Abort, is_so: bool) {
+    assert!(rt; is_so);
+}
 
 #[test]
 fn decimals_have_up_to_64_bits(rt: HostRuntime) {
@@ -7,11 +13,14 @@ fn decimals_have_up_to_64_bits(rt: HostRuntime) {
         (b"10".as_slice(), 10),
         (b"18446744073709551615".as_slice(), 18446744073709551615),
     ] {
-        assert_eq!(rt; read_decimal(word, u64::MAX), Some(number));
-        assert_eq!(rt; read_decimal(word, number), Some(number));
-        assert_eq!(rt; Fields::new(word, b' ').decimal(u64::MAX), Some(number));
+        sure(&rt, read_decimal(word, u64::MAX) == Some(number));
+        sure(&rt, read_decimal(word, number) == Some(number));
+        sure(
+            &rt,
+            Fields::new(word, b' ').decimal(u64::MAX) == Some(number),
+        );
         if 0 < number {
-            assert_eq!(rt; read_decimal(word, number - 1), None);
+            sure(&rt, read_decimal(word, number - 1) == None);
         }
     }
     for word in [
@@ -21,15 +30,15 @@ fn decimals_have_up_to_64_bits(rt: HostRuntime) {
         b"18446744073709551616".as_slice(),
         b"\xD9\xA1".as_slice(),
     ] {
-        assert_eq!(rt; read_decimal(word, u64::MAX), None);
+        sure(&rt, read_decimal(word, u64::MAX) == None);
     }
 }
 
 #[test]
 fn digits_are_capital_and_as_many_as_the_width(rt: HostRuntime) {
-    assert_eq!(rt; hex2(0x0D), *b"0D");
-    assert_eq!(rt; hex4(0x12AF), *b"12AF");
-    assert_eq!(rt; hex8(0x0006_019A), *b"0006019A");
+    sure(&rt, hex2(0x0D) == *b"0D");
+    sure(&rt, hex4(0x12AF) == *b"12AF");
+    sure(&rt, hex8(0x0006_019A) == *b"0006019A");
     for (word, two, four, eight) in [
         (b"0D".as_slice(), Some(0x0D), None, None),
         (b"12AF".as_slice(), None, Some(0x12AF), None),
@@ -40,39 +49,42 @@ fn digits_are_capital_and_as_many_as_the_width(rt: HostRuntime) {
         (b"0006019a".as_slice(), None, None, None),
         (b"00006019A".as_slice(), None, None, None),
     ] {
-        assert_eq!(rt; read_hex2(word), two);
-        assert_eq!(rt; read_hex4(word), four);
-        assert_eq!(rt; read_hex8(word), eight);
+        sure(&rt, read_hex2(word) == two);
+        sure(&rt, read_hex4(word) == four);
+        sure(&rt, read_hex8(word) == eight);
     }
 }
 
 #[test]
 fn any_byte_may_separate(rt: HostRuntime) {
     let mut fields = Fields::new(b"12A34A5", b'A');
-    assert_eq!(rt; fields.hex2(), Some(0x12));
-    assert_eq!(rt; fields.hex2(), Some(0x34));
-    assert_eq!(rt; fields.hex2(), None);
-    assert_eq!(rt; Fields::new(b"1A345678", b'A').hex8(), None);
+    sure(&rt, fields.hex2() == Some(0x12));
+    sure(&rt, fields.hex2() == Some(0x34));
+    sure(&rt, fields.hex2() == None);
+    sure(&rt, Fields::new(b"1A345678", b'A').hex8() == None);
     let mut fields = Fields::new(b"105", b'0');
-    assert_eq!(rt; fields.decimal(127), Some(1));
-    assert_eq!(rt; fields.decimal(127), Some(5));
-    assert_eq!(rt; Fields::new(b"a b", b'b').keyword(b"a "), Some(()));
+    sure(&rt, fields.decimal(127) == Some(1));
+    sure(&rt, fields.decimal(127) == Some(5));
+    sure(&rt, Fields::new(b"a b", b'b').keyword(b"a ") == Some(()));
     // a text that holds the separator is no field
-    assert_eq!(rt; Fields::new(b"a b", b'b').keyword(b"a b"), None);
-    assert_eq!(rt; Fields::new(b"a b", b' ').keyword(b"a b"), None);
+    sure(&rt, Fields::new(b"a b", b'b').keyword(b"a b") == None);
+    sure(&rt, Fields::new(b"a b", b' ').keyword(b"a b") == None);
 }
 
 #[test]
 fn a_cursor_stays_at_its_end(rt: HostRuntime) {
     for separator in [b' ', b'\n'] {
         let mut fields = Fields::new(b"0123456789abcdef", separator);
-        assert_eq!(rt; fields.next_field(), Some(b"0123456789abcdef".as_slice()));
+        sure(
+            &rt,
+            fields.next_field() == Some(b"0123456789abcdef".as_slice()),
+        );
         for _ in 0..3 {
-            assert_eq!(rt; fields.is_done(), true);
-            assert_eq!(rt; fields.next_field(), None);
-            assert_eq!(rt; fields.keyword(b""), None);
-            assert_eq!(rt; fields.decimal(1), None);
-            assert_eq!(rt; fields.hex8_or_stay(), None);
+            sure(&rt, fields.is_done());
+            sure(&rt, fields.next_field() == None);
+            sure(&rt, fields.keyword(b"") == None);
+            sure(&rt, fields.decimal(1) == None);
+            sure(&rt, fields.hex8_or_stay() == None);
         }
     }
 }
@@ -86,6 +98,6 @@ fn a_word_is_compared_whole(rt: HostRuntime) {
         (b"entr".as_slice(), b"entry".as_slice(), false),
         (b"entry".as_slice(), b"Entry".as_slice(), false),
     ] {
-        assert_eq!(rt; is_word(word, text), same);
+        sure(&rt, is_word(word, text) == same);
     }
 }
