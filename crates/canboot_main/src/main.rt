@@ -4,18 +4,8 @@
 //! a journal on standard input, makes sure that it is a legal history, and prints its status report.
 #![tactic(auto)]
 
-mod check;
-mod command_line;
-#[cfg(test)]
-mod fakes;
-mod program;
-mod replay;
-#[cfg(test)]
-mod tests;
-
 use std::process::ExitCode;
 
 fn main(rt: HostRuntime) -> ExitCode {
-    let mut err = rt.stderr();
-    program::run(&rt, &mut err)
+    canboot::run(&rt, &mut rt.stderr())
 }

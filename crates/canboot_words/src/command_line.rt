@@ -1,3 +1,6 @@
+ghost use Rattle.std.specs.Prelude.{◌≡◌, ◌⊎◌, IfErr};
+
+use clap::error::ErrorKind;
 use clap::{Arg, ArgMatches, Command, Error};
 use std::alloc::{AllocError, Global};
 
@@ -9,6 +12,19 @@ pub enum Order<'a> {
     /// Read a journal, and print its report.
     Replay,
 }
+
+/// Why a command line asks for no run.
+#[derive(Debug, Drop)]
+pub enum NoOrder {
+    /// It asks for this text: help, or the version.
+    Shown(String),
+    /// It is wrong, as this text says.
+    Wrong(String),
+    /// Memory was refused.
+    OutOfMemory,
+}
+
+const VERSION: &str = "0.1.0";
 
 const ABOUT: &str = "The NMT master of a CANopen network (CiA 301, CiA 302-2)";
 
@@ -31,8 +47,10 @@ heartbeat MS date 1F26h time 1F27h writes N      for each slave, in rising node-
   end N                                          with the number of entries
 
 CALL is start, begin ID, report ID SESSION ANSWERS, signal ID BYTE, lost ID, request TARGET VALUE, \
-read TARGET or elapsed MS. Objects and bytes are in hexadecimal, all other numbers in decimal; \
-docs/FORMATS.md has every range, the answers, replies and orders.
+read TARGET or elapsed MS. MS of elapsed is the time in ms since the network was started, and not \
+since the last such call. The objects but boottime, the answers' values and the bytes are in \
+hexadecimal, all other numbers in decimal; docs/FORMATS.md has every range, the answers, replies and \
+orders.
 
 Exit statuses:
   0  the report is printed
@@ -59,6 +77,15 @@ Keys of the list, each with its range, and 'needed' or the value where it isn't 
   boot_time    1F89h, boot time of the mandatory slaves in ms, 0 to 4,294,967,295; 0, no limit
   slave        an array of tables, one for each slave, in any order; no slave
 
+Bits of startup, 1F80h; others are carried:
+
+  0  this device is the NMT master; without it every call is refused
+  1  0: each booted slave is started by itself; 1: all at once, when every mandatory slave is booted
+  2  0: the manager becomes operational by itself; 1: the application decides
+  3  0: the manager starts slaves; 1: it doesn't
+  4  on an error control event of a mandatory slave that is booted, all nodes are reset
+  6  on that event all nodes are stopped, in place of the reset
+
 Keys of each slave:
 
   id           its node-ID, 1 to 127, neither own nor another slave's; needed
@@ -76,6 +103,15 @@ Keys of each slave:
   writes       in the place of 1F22h, the writes that configure the slave in their order, an array \
 of at most 32 arrays [index, sub-index, size, value]: index 0 to 65,535, sub-index 0 to 255, size \
 1, 2 or 4 bytes, value 0 to 4,294,967,295 that fits the size; none
+
+Bits of assignment, 1F81h; others are carried:
+
+  0  the node is a slave of the list; needed
+  2  it is configured and started; without it, only its heartbeat is waited for
+  3  it is mandatory: the network isn't ready before it is booted
+  4  it is kept alive: found operational, it isn't reset or configured
+  5  its software version is to be verified, which this master can't do: its boot fails with status \
+G, unless it is found operational
 
 Where faults apply, standard error names the first of these that applies anywhere in the list:
 
@@ -129,6 +165,7 @@ fn command<'a>(alloc: Global) -> Result<Command<'a>, AllocError> {
         .about(ABOUT_REPLAY)
         .long_about(HELP_REPLAY);
     Command::new(alloc, "canboot")
+        .version(VERSION)
         .about(ABOUT)
         .after_help(AFTER)
         .subcommand_required(true)
@@ -136,7 +173,7 @@ fn command<'a>(alloc: Global) -> Result<Command<'a>, AllocError> {
         .subcommand(replay)
 }
 
-fn read_order<'a>(matches: &ArgMatches<'a>) -> Order<'a> {
+fn order_of<'a>(matches: &ArgMatches<'a>) -> Order<'a> {
     match matches.subcommand() {
         Some(("check", given)) => Order::Check {
             network: given.get_str("network").unwrap_or(""),
@@ -145,8 +182,31 @@ fn read_order<'a>(matches: &ArgMatches<'a>) -> Order<'a> {
     }
 }
 
+/// What `clap` says where it gives no matches.
+fn no_order_of(alloc: Global, error: &Error) -> NoOrder {
+    if error.kind() == ErrorKind::OutOfMemory {
+        return NoOrder::OutOfMemory;
+    }
+    match format!(in alloc; "{error}") {
+        Ok(text) => {
+            if error.use_stderr() {
+                NoOrder::Wrong(text)
+            } else {
+                NoOrder::Shown(text)
+            }
+        }
+        Err(_) => NoOrder::OutOfMemory,
+    }
+}
+
 /// Reads the words of a command line; the first is the program's name.
-pub fn parse<'a>(alloc: Global, words: &'a [String]) -> Result<Order<'a>, Error> {
-    let matches = command(alloc)?.try_get_matches_from(words)?;
-    Ok(read_order(&matches))
+pub fn read_words<'a>(alloc: Global, words: &'a [String]) -> Result<Order<'a>, NoOrder> {
+    let parsed = match command(alloc) {
+        Ok(command) => command.try_get_matches_from(words),
+        Err(_) => return Err(NoOrder::OutOfMemory),
+    };
+    match parsed {
+        Ok(matches) => Ok(order_of(&matches)),
+        Err(error) => Err(no_order_of(alloc, &error)),
+    }
 }
