@@ -25,6 +25,7 @@ pub struct Case<'a> {
 }
 
 /// The fields of the first line of a case.
+#[derive(Drop)]
 struct Head<'a> {
     name: &'a str,
     words: Vec<&'a str>,
@@ -112,8 +113,8 @@ fn words_of<'a>(alloc: Global, command: &[&'a str]) -> Result<Vec<&'a str>, Allo
     Ok(words)
 }
 
-/// Takes what a field of the first line stands for: `N`, so many bytes; `parts:N`, so many parts;
-/// `@PATH`, the bytes of that file; `-`, any bytes but none.
+/// Takes what a field of the first line stands for: a text; `parts:N`, so many parts; `@PATH`, the
+/// bytes of that file; `-`, any bytes but none.
 fn take_source<'a>(
     alloc: Global,
     scanner: &mut Scanner<'a>,
@@ -131,10 +132,7 @@ fn take_source<'a>(
         };
         return Ok(take_parts(alloc, scanner, count)?.map(|parts| Source::Parts(parts)));
     }
-    let Ok(length) = field.parse::<usize>() else {
-        return Ok(None);
-    };
-    let Some(bytes) = scanner.take(length) else {
+    let Some(bytes) = scanner.text(field) else {
         return Ok(None);
     };
     let mut parts = Vec::new(alloc);

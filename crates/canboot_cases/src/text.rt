@@ -13,7 +13,7 @@ pub struct Part<'a> {
     pub bytes: &'a [u8],
 }
 
-/// Takes so many parts, each a line `part TIMES N`, its N bytes and a line feed.
+/// Takes so many parts, each a line `part TIMES TEXT` and its text.
 pub fn take_parts<'a>(
     alloc: Global,
     scanner: &mut Scanner<'a>,
@@ -32,11 +32,8 @@ pub fn take_parts<'a>(
 fn take_part<'a>(scanner: &mut Scanner<'a>) -> Option<Part<'a>> {
     let mut fields = scanner.line()?.strip_prefix("part ")?.split(' ');
     let times = fields.next()?.parse::<u64>().ok()?;
-    let length = fields.next()?.parse::<usize>().ok()?;
-    Some(Part {
-        times,
-        bytes: scanner.take(length)?,
-    })
+    let bytes = scanner.text(fields.next()?)?;
+    Some(Part { times, bytes })
 }
 
 /// Gives the bytes of parts, one after another, and keeps no more than one repetition.
