@@ -37,10 +37,7 @@ struct Head<'a> {
 
 impl<'a> Case<'a> {
     /// Takes a case, unless it is misspelled.
-    pub fn read(
-        alloc: Global,
-        scanner: &mut Scanner<'a>,
-    ) -> Result<Option<Case<'a>>, AllocError> {
+    pub fn read(alloc: Global, scanner: &mut Scanner<'a>) -> Result<Option<Case<'a>>, AllocError> {
         let Some(line) = scanner.line() else {
             return Ok(None);
         };
@@ -136,6 +133,6 @@ fn take_source<'a>(
         return Ok(None);
     };
     let mut parts = Vec::new(alloc);
-    parts.push(Part { times: 1, bytes })?;
+    parts.push(Part::once(bytes))?;
     Ok(Some(Source::Parts(parts)))
 }

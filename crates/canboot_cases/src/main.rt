@@ -14,10 +14,9 @@ use crate::case::Case;
 use crate::run::{Outcome, run_case};
 use crate::scanner::Scanner;
 use std::alloc::AllocError;
-use std::io;
 use std::process::ExitCode;
 use std::rt::{Env, Files};
-use std::{env, fs};
+use std::{env, fs, io};
 
 /// How many cases were run, and how many of them differ.
 #[derive(Clone, Copy)]

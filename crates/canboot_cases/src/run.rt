@@ -3,9 +3,8 @@ use crate::compared::Compared;
 use crate::text::{Part, Text};
 use canboot::run_words;
 use std::alloc::{AllocError, Global};
-use std::fs;
-use std::io;
 use std::rt::Files;
+use std::{fs, io};
 
 /// Where the input lies of a command line with `NET` in it.
 const LIST: &str = "list-of-this-case.toml";
@@ -42,10 +41,7 @@ fn parts_of<'a>(
     let mut parts = Vec::new(alloc);
     match source {
         Source::Parts(stored) => parts.extend_from_slice(stored)?,
-        Source::File(_) => parts.push(Part {
-            times: 1,
-            bytes: loaded,
-        })?,
+        Source::File(_) => parts.push(Part::once(loaded))?,
         Source::Any => {}
     }
     Ok(parts)

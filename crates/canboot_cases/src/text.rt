@@ -9,8 +9,20 @@ const NUMBER: u8 = b'~';
 /// from 1.
 #[derive(Clone, Copy)]
 pub struct Part<'a> {
-    pub times: u64,
-    pub bytes: &'a [u8],
+    times: u64,
+    bytes: &'a [u8],
+    numbered: bool,
+}
+
+impl<'a> Part<'a> {
+    /// The bytes as they are, once.
+    pub fn once(bytes: &'a [u8]) -> Part<'a> {
+        Part {
+            times: 1,
+            bytes,
+            numbered: false,
+        }
+    }
 }
 
 /// Takes so many parts, each a line `part TIMES TEXT` and its text.
@@ -33,7 +45,11 @@ fn take_part<'a>(scanner: &mut Scanner<'a>) -> Option<Part<'a>> {
     let mut fields = scanner.line()?.strip_prefix("part ")?.split(' ');
     let times = fields.next()?.parse::<u64>().ok()?;
     let bytes = scanner.text(fields.next()?)?;
-    Some(Part { times, bytes })
+    Some(Part {
+        times,
+        bytes,
+        numbered: bytes.contains(&NUMBER),
+    })
 }
 
 /// Gives the bytes of parts, one after another, and keeps no more than one repetition.
@@ -70,7 +86,7 @@ impl<'a> Text<'a> {
             };
             if self.begun < part.times {
                 self.begun += 1;
-                self.repeat(part.bytes)?;
+                self.repeat(part)?;
                 return Ok(true);
             }
             self.parts = behind;
@@ -80,16 +96,16 @@ impl<'a> Text<'a> {
     }
 
     /// The bytes of one repetition.
-    fn repeat(&mut self, bytes: &'a [u8]) -> Result<(), AllocError> {
+    fn repeat(&mut self, part: &'a Part<'a>) -> Result<(), AllocError> {
         self.numbered.clear();
         self.given = 0;
-        self.rest = bytes;
-        if !bytes.contains(&NUMBER) {
+        self.rest = part.bytes;
+        if !part.numbered {
             return Ok(());
         }
         self.rest = &[];
         let number = format!(in self.alloc; "{}", self.begun)?;
-        for byte in bytes {
+        for byte in part.bytes {
             if *byte == NUMBER {
                 self.numbered.extend_from_slice(number.as_str().as_bytes())?;
             } else {
