@@ -21,9 +21,14 @@ impl<'a> Compared<'a> {
 
     /// Whether just what is wanted was written.
     pub fn is_same(self) -> io::Result<bool> {
-        match self.wanted {
-            Some(mut text) => Ok(self.same && text.is_over()?),
-            None => Ok(self.written),
+        let Compared {
+            wanted,
+            same,
+            written,
+        } = self;
+        match wanted {
+            Some(mut text) => Ok(same && text.is_over()?),
+            None => Ok(written),
         }
     }
 }

@@ -81,7 +81,8 @@ impl<'a> Text<'a> {
     /// Begins the next repetition. The answer is whether there is one.
     fn begin(&mut self) -> Result<bool, AllocError> {
         for _ in 0..u64::MAX {
-            let Some((part, behind)) = self.parts.split_first() else {
+            let parts = self.parts;
+            let Some((part, behind)) = parts.split_first() else {
                 return Ok(false);
             };
             if self.begun < part.times {
