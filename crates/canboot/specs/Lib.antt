@@ -1,2 +1,3 @@
 pub mod Replay
-pub mod Check
+pub mod Program
+pub use Rattle.canboot_check.specs.Check

@@ -1,24 +1,28 @@
-use crate::check::check_text;
-use crate::command_line::{Order, parse};
-use crate::replay::{FAILED, fault_line, replay_text};
-use clap::error::ErrorKind;
-use std::io::{self, BufWriter, Write};
+ghost use Rattle.std.specs.Prelude.{◌≡◌, ◌⊎◌};
+ghost use Rattle.canboot.specs.Program.{EndsWithout};
+
+use crate::replay::replay_text;
+use canboot_check::{DONE, FAILED, check_text, fault_line};
+use canboot_words::{NoOrder, Order, read_words};
+use std::alloc::Global;
+use std::io::{self, BufWriter, Read, Write};
 use std::process::ExitCode;
 use std::rt::{Env, Files};
 use std::{env, fs};
 
-/// Runs the program with `err` for the lines of faults, and gives its exit status.
-pub fn run<R: Env + Files + Print + Eprint + Input + AllocGlobal, E: Write>(
+/// The exit status of a wrong command line.
+pub const MISUSED: u8 = 2;
+
+/// Runs canboot on the words of its command line and its standard input and output, with `err` for
+/// what goes to standard error, and gives its exit status.
+pub fn run<R: Env + Files + Print + Input + AllocGlobal, E: Write>(
     rt: &R,
     err: &mut E,
 ) -> ExitCode {
-    ExitCode::from(status(rt, err))
+    ExitCode::from(run_here(rt, err))
 }
 
-fn status<R: Env + Files + Print + Eprint + Input + AllocGlobal, E: Write>(
-    rt: &R,
-    err: &mut E,
-) -> u8 {
+fn run_here<R: Env + Files + Print + Input + AllocGlobal, E: Write>(rt: &R, err: &mut E) -> u8 {
     let args = match env::args(rt) {
         Ok(args) => args,
         Err(error) => return read_fault(err, error.kind()),
@@ -26,45 +30,71 @@ fn status<R: Env + Files + Print + Eprint + Input + AllocGlobal, E: Write>(
     let Ok(words) = args.collect::<Vec<String>>(rt.alloc()) else {
         return fault_line(err, FAILED, "out of memory");
     };
-    match parse(rt.alloc(), words.as_slice()) {
-        Ok(Order::Check { network }) => check(rt, err, network),
-        Ok(Order::Replay) => replay(rt, err),
-        Err(error) => {
-            if error.kind() == ErrorKind::OutOfMemory {
-                return fault_line(err, FAILED, "out of memory");
-            }
-            match error.print(rt) {
-                Ok(()) => error.exit_code() as u8,
-                Err(_) => fault_line(err, FAILED, "write failed"),
-            }
+    let Ok(mut out) = BufWriter::new(rt.alloc(), io::writer(rt)) else {
+        return fault_line(err, FAILED, "out of memory");
+    };
+    run_words(rt, words.as_slice(), &mut rt.reader(), &mut out, err)
+}
+
+/// Runs canboot on these words, of which the first is the program's name, with these streams, and
+/// gives its exit status: that of [`check_text`] or [`replay_text`], 0 for help and the version, 2 for
+/// wrong words, 3 for a file that can't be opened.
+pub fn run_words<R: Files + AllocGlobal, I: Read, W: Write, E: Write>(
+    rt: &R,
+    words: &[String],
+    input: &mut I,
+    out: &mut W,
+    err: &mut E,
+) -> u8 {
+    match read_words(rt.alloc(), words) {
+        Ok(Order::Check { network }) => check_file(rt, network, out, err),
+        Ok(Order::Replay) => replay_text(rt.alloc(), input, out, err),
+        Err(none) => say(&none, out, err),
+    }
+}
+
+/// Says why nothing is run: help and the version on `out`, what is wrong on `err`.
+fn say<W: Write, E: Write>(none: &NoOrder, out: &mut W, err: &mut E) -> u8
+    ensures { EndsWithout none.now result }
+{
+    match none {
+        NoOrder::Shown(text) => match show(text.as_str(), out) {
+            Ok(()) => DONE,
+            Err(_) => fault_line(err, FAILED, "write failed"),
+        },
+        NoOrder::Wrong(text) => {
+            let _ = err.write_all(text.as_str().as_bytes());
+            MISUSED
         }
+        NoOrder::OutOfMemory => fault_line(err, FAILED, "out of memory"),
+    }
+}
+
+/// Writes a text, and all of it.
+fn show<W: Write>(text: &str, out: &mut W) -> io::Result<()> {
+    out.write_all(text.as_bytes())?;
+    out.flush()
+}
+
+/// `canboot check`, over the file of this path.
+fn check_file<R: Files + AllocGlobal, W: Write, E: Write>(
+    rt: &R,
+    path: &str,
+    out: &mut W,
+    err: &mut E,
+) -> u8 {
+    match fs::open(rt, path) {
+        Ok(mut file) => check_text(rt.alloc(), &mut file, out, err),
+        Err(error) => read_fault(err, error.kind()),
     }
 }
 
 /// The fault of a command line that can't be read, or of a file that can't be opened.
-fn read_fault<E: Write>(err: &mut E, kind: io::ErrorKind) -> u8 {
+fn read_fault<E: Write>(err: &mut E, kind: io::ErrorKind) -> u8
+    ensures { result ≡ 3 }
+{
     match kind {
         io::ErrorKind::OutOfMemory => fault_line(err, FAILED, "out of memory"),
         _ => fault_line(err, FAILED, "read failed"),
     }
-}
-
-/// `canboot check`, over the file of this path and the standard output.
-fn check<R: Files + Print + AllocGlobal, E: Write>(rt: &R, err: &mut E, path: &str) -> u8 {
-    let mut file = match fs::open(rt, path) {
-        Ok(file) => file,
-        Err(error) => return read_fault(err, error.kind()),
-    };
-    let Ok(mut out) = BufWriter::new(rt.alloc(), io::writer(rt)) else {
-        return fault_line(err, FAILED, "out of memory");
-    };
-    check_text(rt.alloc(), &mut file, &mut out, err)
-}
-
-/// `canboot replay`, over the standard streams.
-fn replay<R: Print + Input + AllocGlobal, E: Write>(rt: &R, err: &mut E) -> u8 {
-    let Ok(mut out) = BufWriter::new(rt.alloc(), io::writer(rt)) else {
-        return fault_line(err, FAILED, "out of memory");
-    };
-    replay_text(rt.alloc(), &mut rt.reader(), &mut out, err)
 }

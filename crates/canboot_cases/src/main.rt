@@ -1,0 +1,104 @@
+//! Runs the cases of the files that its words name, through canboot's command line, and compares
+//! output, error output and exit status with what is stored. It prints each case that differs, and at
+//! the end how many cases there are and how many of them differ. `tests/README.md` says what a case
+//! looks like.
+#![tactic(auto)]
+
+mod case;
+mod compared;
+mod run;
+mod scanner;
+mod text;
+
+use crate::case::Case;
+use crate::run::{Outcome, run_case};
+use crate::scanner::Scanner;
+use std::alloc::AllocError;
+use std::process::ExitCode;
+use std::rt::{Env, Files};
+use std::{env, fs, io};
+
+/// How many cases were run, and how many of them differ.
+#[derive(Clone, Copy)]
+struct Count {
+    cases: u64,
+    differing: u64,
+}
+
+impl Count {
+    /// One case more.
+    fn add(&mut self, differs: bool) {
+        self.cases = self.cases.saturating_add(1);
+        if differs {
+            self.differing = self.differing.saturating_add(1);
+        }
+    }
+}
+
+/// Says how a case differs, if it does.
+fn tell(rt: &impl Print, case: &Case<'_>, outcome: &Outcome) -> io::Result<()> {
+    let name = case.name;
+    if outcome.status != case.status {
+        let (status, wanted) = (outcome.status, case.status);
+        println!(rt; "{name}: status {status}, and not {wanted}")?;
+    }
+    if !outcome.same_out {
+        println!(rt; "{name}: another output")?;
+    }
+    if !outcome.same_err {
+        println!(rt; "{name}: another error output")?;
+    }
+    Ok(())
+}
+
+/// Runs the cases of one file.
+fn run_file<R: Files + Print + AllocGlobal>(
+    rt: &R,
+    path: &str,
+    count: &mut Count,
+) -> io::Result<()> {
+    let bytes = fs::read(rt, path)?;
+    let mut scanner = Scanner::new(&bytes);
+    for _ in 0..u64::MAX {
+        if scanner.is_at_end() {
+            return Ok(());
+        }
+        match Case::read(rt.alloc(), &mut scanner)? {
+            Some(case) => {
+                let outcome = run_case(rt, &case)?;
+                count.add(outcome.differs(&case));
+                tell(rt, &case, &outcome)?;
+            }
+            None => {
+                println!(rt; "{path}: no case {} bytes before its end", scanner.left())?;
+                count.add(true);
+                return Ok(());
+            }
+        }
+    }
+    Ok(())
+}
+
+fn words<R: Env + AllocGlobal>(rt: &R) -> io::Result<Vec<String>> {
+    match env::args(rt)?.collect::<Vec<String>>(rt.alloc()) {
+        Ok(words) => Ok(words),
+        Err(_) => Err(io::Error::from(AllocError)),
+    }
+}
+
+fn main(rt: HostRuntime) -> io::Result<ExitCode> {
+    let mut count = Count {
+        cases: 0,
+        differing: 0,
+    };
+    let words = words(&rt)?;
+    for path in words.iter().skip(1) {
+        run_file(&rt, path.as_str(), &mut count)?;
+    }
+    println!(rt; "{} cases, {} differ", count.cases, count.differing)?;
+    Ok(if count.differing == 0 {
+        ExitCode::SUCCESS
+    } else {
+        ExitCode::FAILURE
+    })
+}

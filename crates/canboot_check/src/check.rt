@@ -1,0 +1,124 @@
+ghost use Rattle.std.specs.Prelude.{◌≡◌, ◌↔◌, ◌⊎◌, IfErr, IfOk, List, OnOk, length};
+ghost use Rattle.std.specs.Io.KnownBytes.{Appends};
+ghost use Rattle.canboot_check.specs.Check.{
+    Checks, FailsToCheck, IsFaultOfList, IsFaulty, IsList, RefusesList,
+    check_line, kept_ids, mandatory_ids
+};
+
+use crate::status::{DONE, FAILED, REFUSED, fault_line};
+use cm_input::{InputFault, read_input};
+use cm_netlist::{NetFault, Network};
+use std::alloc::Global;
+use std::io::{self, Read, Write};
+use std::str;
+
+/// The greatest length of a network list's text, in bytes.
+pub const LONGEST_LIST: usize = 1_048_576;
+
+/// How many slaves are mandatory.
+fn count_mandatory(network: &Network) -> usize
+    ensures { result ≡ length (mandatory_ids network.now) }
+{
+    let ids = network.listed_ids();
+    ids.iter().filter(|id| network.mandatory(**id)).count()
+}
+
+/// How many slaves are kept alive.
+fn count_kept(network: &Network) -> usize
+    ensures { result ≡ length (kept_ids network.now) }
+{
+    let ids = network.listed_ids();
+    ids.iter().filter(|id| network.kept(**id)).count()
+}
+
+/// Writes the line of a network list, and all of it.
+fn put_check<W: Write>(network: &Network, out: &mut W) -> io::Result<()>
+    ensures { OnOk result (Appends (W.contents out.old) (W.contents out.new) (check_line network.now)) }
+{
+    let slaves = network.listed_ids().len();
+    let mandatory = count_mandatory(network);
+    let kept = count_kept(network);
+    writeln!(out, "ok slaves {slaves} mandatory {mandatory} kept {kept}")?;
+    out.flush()
+}
+
+/// Why a network list wasn't read.
+enum CheckFault {
+    /// The list has this fault.
+    List(NetFault),
+    /// The reader failed, or gave more bytes than it may.
+    Read,
+    /// Memory was refused.
+    Memory,
+}
+
+/// Reads a network list to the end of the input. Nothing is written before the list is known.
+fn read_list<R: Read>(alloc: Global, reader: &mut R) -> Result<Network, CheckFault>
+    ensures list { IfOk result (IsList (R.remaining reader.old) (R.remaining reader.new)) }
+    ensures faulty { IfErr result (IsFaulty (R.remaining reader.old) (R.remaining reader.new)) }
+{
+    let bytes = match read_input(alloc, reader, LONGEST_LIST) {
+        Ok(bytes) => bytes,
+        Err(InputFault::Read) => return Err(CheckFault::Read),
+        Err(InputFault::Memory) => return Err(CheckFault::Memory),
+    };
+    let Ok(text) = str::from_utf8(&bytes) else {
+        return Err(CheckFault::List(NetFault::NotToml));
+    };
+    match Network::from_toml(alloc, text) {
+        Ok(network) => Ok(network),
+        Err(NetFault::OutOfMemory) => Err(CheckFault::Memory),
+        Err(fault) => Err(CheckFault::List(fault)),
+    }
+}
+
+/// Writes the line of fault, and gives its exit status.
+fn refuse<E: Write>(err: &mut E, fault: CheckFault) -> u8
+    ensures list { IsFaultOfList fault ↔ (result ≡ 1) }
+    ensures statuses { (result ≡ 1) ⊎ (result ≡ 3) }
+{
+    match fault {
+        CheckFault::List(fault) => {
+            let _ = writeln!(err, "canboot: network: {fault}");
+            REFUSED
+        }
+        CheckFault::Read => fault_line(err, FAILED, "read failed"),
+        CheckFault::Memory => fault_line(err, FAILED, "out of memory"),
+    }
+}
+
+/// Reads a network list in TOML to the end of the input, and writes how many slaves it lists, how
+/// many of them are mandatory, and how many are kept alive. The answer is the exit status:
+///
+/// - 0: the line is written;
+/// - 1: one of the ten faults of a network list applies to the bytes, which aren't TOML where they
+///   aren't UTF-8; `err` has one line that names the first that applies, and nothing is written to
+///   `out`;
+/// - 3: a read or a write failed, the input is longer than 1,048,576 bytes, or memory was refused;
+///   `err` has one line that says which. Only where the list has no fault, and its line couldn't be
+///   written, may anything be written to `out`.
+pub fn check_text<R: Read, W: Write, E: Write>(
+    alloc: Global,
+    reader: &mut R,
+    out: &mut W,
+    err: &mut E,
+) -> u8
+    ensures done { result ≡ 0
+        → Checks (R.remaining reader.old) (R.remaining reader.new)
+            (W.contents out.old) (W.contents out.new) }
+    ensures refused { result ≡ 1
+        → RefusesList (R.remaining reader.old) (R.remaining reader.new)
+            (W.contents out.old) (W.contents out.new) }
+    ensures failed { result ≡ 3
+        → FailsToCheck (R.remaining reader.old) (R.remaining reader.new)
+            (W.contents out.old) (W.contents out.new) }
+    ensures statuses { (result ≡ 0) ⊎ ((result ≡ 1) ⊎ (result ≡ 3)) }
+{
+    match read_list(alloc, reader) {
+        Ok(network) => match put_check(&network, out) {
+            Ok(()) => DONE,
+            Err(_) => fault_line(err, FAILED, "write failed"),
+        },
+        Err(fault) => refuse(err, fault),
+    }
+}

@@ -1,0 +1,9 @@
+//! `canboot check`, over a reader and two writers; the exit statuses of canboot, and its lines of
+//! fault.
+#![tactic(auto)]
+
+mod check;
+mod status;
+
+pub use check::{LONGEST_LIST, check_text};
+pub use status::{DONE, FAILED, REFUSED, fault_line};

@@ -1,0 +1,11 @@
+//! canboot: the NMT master of a CANopen network, on the command line.
+//!
+//! `canboot check` reads a network list and prints how many slaves it lists. `canboot replay` reads
+//! a journal on standard input, makes sure that it is a legal history, and prints its status report.
+#![tactic(auto)]
+
+use std::process::ExitCode;
+
+fn main(rt: HostRuntime) -> ExitCode {
+    canboot::run(&rt, &mut rt.stderr())
+}

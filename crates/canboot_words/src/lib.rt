@@ -1,0 +1,6 @@
+//! The words of canboot's command line: what they ask for, and the texts of help, version and usage.
+#![tactic(auto)]
+
+mod command_line;
+
+pub use command_line::{NoOrder, Order, read_words};
