@@ -10,5 +10,3 @@ mod manager;
 mod netlist;
 #[cfg(test)]
 mod spelling;
-#[cfg(test)]
-mod streams;
