@@ -40,7 +40,8 @@ fn count_kept(network: &Network) -> usize
 
 /// Writes the line of a network list, and all of it.
 fn put_check<W: Write>(network: &Network, out: &mut W) -> io::Result<()>
-    ensures { OnOk result (Appends (W.contents out.old) (W.contents out.new) (check_line network.now)) }
+    ensures { OnOk result
+        (Appends (W.contents out.old) (W.contents out.new) (check_line network.now)) }
 {
     let slaves = network.listed_ids().len();
     let mandatory = count_mandatory(network);
