@@ -57,7 +57,8 @@ fn take_part<'a>(scanner: &mut Scanner<'a>) -> Option<Part<'a>> {
 pub struct Text<'a> {
     alloc: Global,
     parts: &'a [Part<'a>],
-    /// How many repetitions of the first of the parts were begun.
+    /// The part, and how many repetitions of it were begun.
+    place: usize,
     begun: u64,
     /// What is left of the last repetition where it has no number in it.
     rest: &'a [u8],
@@ -71,6 +72,7 @@ impl<'a> Text<'a> {
         Text {
             alloc,
             parts,
+            place: 0,
             begun: 0,
             rest: &[],
             numbered: Vec::new(alloc),
@@ -81,23 +83,22 @@ impl<'a> Text<'a> {
     /// Begins the next repetition. The answer is whether there is one.
     fn begin(&mut self) -> Result<bool, AllocError> {
         for _ in 0..u64::MAX {
-            let parts = self.parts;
-            let Some((part, behind)) = parts.split_first() else {
+            let Some(part) = self.parts.get(self.place) else {
                 return Ok(false);
             };
             if self.begun < part.times {
                 self.begun += 1;
-                self.repeat(part)?;
+                self.repeat(*part)?;
                 return Ok(true);
             }
-            self.parts = behind;
+            self.place = self.place.saturating_add(1);
             self.begun = 0;
         }
         Ok(false)
     }
 
     /// The bytes of one repetition.
-    fn repeat(&mut self, part: &'a Part<'a>) -> Result<(), AllocError> {
+    fn repeat(&mut self, part: Part<'a>) -> Result<(), AllocError> {
         self.numbered.clear();
         self.given = 0;
         self.rest = part.bytes;

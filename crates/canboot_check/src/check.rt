@@ -1,8 +1,15 @@
 ghost use Rattle.std.specs.Prelude.{◌≡◌, ◌↔◌, ◌⊎◌, IfErr, IfOk, List, OnOk, length};
 ghost use Rattle.std.specs.Io.KnownBytes.{Appends};
 ghost use Rattle.canboot_check.specs.Check.{
-    Checks, FailsToCheck, IsFaultOfList, IsFaulty, IsList, RefusesList,
-    check_line, kept_ids, mandatory_ids
+  Checks,
+  FailsToCheck,
+  IsFaultOfList,
+  IsFaulty,
+  IsList,
+  RefusesList,
+  check_line,
+  kept_ids,
+  mandatory_ids,
 };
 
 use crate::status::{DONE, FAILED, REFUSED, fault_line};
@@ -33,7 +40,8 @@ fn count_kept(network: &Network) -> usize
 
 /// Writes the line of a network list, and all of it.
 fn put_check<W: Write>(network: &Network, out: &mut W) -> io::Result<()>
-    ensures { OnOk result (Appends (W.contents out.old) (W.contents out.new) (check_line network.now)) }
+    ensures { OnOk result
+        (Appends (W.contents out.old) (W.contents out.new) (check_line network.now)) }
 {
     let slaves = network.listed_ids().len();
     let mandatory = count_mandatory(network);
@@ -105,13 +113,13 @@ pub fn check_text<R: Read, W: Write, E: Write>(
 ) -> u8
     ensures done { result ≡ 0
         → Checks (R.remaining reader.old) (R.remaining reader.new)
-            (W.contents out.old) (W.contents out.new) }
+        (W.contents out.old) (W.contents out.new) }
     ensures refused { result ≡ 1
         → RefusesList (R.remaining reader.old) (R.remaining reader.new)
-            (W.contents out.old) (W.contents out.new) }
+        (W.contents out.old) (W.contents out.new) }
     ensures failed { result ≡ 3
         → FailsToCheck (R.remaining reader.old) (R.remaining reader.new)
-            (W.contents out.old) (W.contents out.new) }
+        (W.contents out.old) (W.contents out.new) }
     ensures statuses { (result ≡ 0) ⊎ ((result ≡ 1) ⊎ (result ≡ 3)) }
 {
     match read_list(alloc, reader) {
