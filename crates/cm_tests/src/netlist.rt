@@ -4,7 +4,13 @@ use arrayvec::ArrayVec;
 use cm_netlist::{NetFault, Network, SlaveEntry};
 use cm_nmt::{Command, Frame, NmtState, NodeId, Signal, Target};
 use cm_objects::{Assignment, Startup, Terms, Write};
+use std::process::Abort;
 use std::test::Fail;
+
+/// Ends the test where this isn't so; proved at less cost than an assertion of two values.
+fn sure(rt: &impl Abort, is_so: bool) {
+    assert!(rt; is_so);
+}
 
 fn node(number: u8) -> Result<NodeId, Fail> {
     Ok(NodeId::new(number).ok_or("no node-ID")?)
@@ -43,10 +49,10 @@ fn frames_are_two_bytes(rt: HostRuntime) -> Result<(), Fail> {
         command: Command::ResetComm,
         target: Target::Node(node(127)?),
     };
-    assert_eq!(rt; Frame::read(&[0x01, 0x00]), Some(start_all));
-    assert_eq!(rt; start_all.bytes(), [0x01, 0x00]);
-    assert_eq!(rt; Frame::read(&[0x82, 0x7F]), Some(reset));
-    assert_eq!(rt; reset.bytes(), [0x82, 0x7F]);
+    sure(&rt, Frame::read(&[0x01, 0x00]) == Some(start_all));
+    sure(&rt, start_all.bytes() == [0x01, 0x00]);
+    sure(&rt, Frame::read(&[0x82, 0x7F]) == Some(reset));
+    sure(&rt, reset.bytes() == [0x82, 0x7F]);
     for refused in [
         [].as_slice(),
         [0x01].as_slice(),
@@ -54,7 +60,7 @@ fn frames_are_two_bytes(rt: HostRuntime) -> Result<(), Fail> {
         [0x03, 0x02].as_slice(),
         [0x01, 0x00, 0x00].as_slice(),
     ] {
-        assert_eq!(rt; Frame::read(refused), None, "{refused:?}");
+        sure(&rt, Frame::read(refused) == None);
     }
     Ok(())
 }
@@ -71,7 +77,7 @@ fn a_signal_is_seven_bits(rt: HostRuntime) {
         (0x01, None),
         (0x86, None),
     ] {
-        assert_eq!(rt; Signal::read(byte), signal, "{byte:#04x}");
+        sure(&rt, Signal::read(byte) == signal);
     }
 }
 
@@ -84,27 +90,27 @@ fn commands_have_specifiers_and_values_of_1f82h(rt: HostRuntime) {
         (0x81, 6, Command::ResetNode),
         (0x82, 7, Command::ResetComm),
     ] {
-        assert_eq!(rt; command.specifier(), specifier);
-        assert_eq!(rt; Command::from_specifier(specifier), Some(command));
-        assert_eq!(rt; Command::of_request(request), Some(command));
+        sure(&rt, command.specifier() == specifier);
+        sure(&rt, Command::from_specifier(specifier) == Some(command));
+        sure(&rt, Command::of_request(request) == Some(command));
     }
     for number in [0, 3, 128, 255] {
-        assert_eq!(rt; Command::of_request(number), None, "at {number}");
+        sure(&rt, Command::of_request(number) == None);
     }
-    assert_eq!(rt; Command::from_specifier(3), None);
-    assert_eq!(rt;
-        NmtState::from_code(NmtState::Stopped.code()),
-        Some(NmtState::Stopped)
+    sure(&rt, Command::from_specifier(3) == None);
+    sure(
+        &rt,
+        NmtState::from_code(NmtState::Stopped.code()) == Some(NmtState::Stopped),
     );
-    assert_eq!(rt; NmtState::from_code(0), None);
+    sure(&rt, NmtState::from_code(0) == None);
 }
 
 #[test]
 fn node_ids_are_1_to_127(rt: HostRuntime) {
     for (number, valid) in [(0, false), (1, true), (127, true), (128, false)] {
-        assert_eq!(rt; NodeId::new(number).is_some(), valid, "at {number}");
+        sure(&rt, NodeId::new(number).is_some() == valid);
     }
-    assert_eq!(rt; NodeId::default().get(), 1);
+    sure(&rt, NodeId::default().get() == 1);
 }
 
 #[test]
@@ -123,7 +129,7 @@ fn bits_of_1f80h_and_1f81h(rt: HostRuntime) {
             startup.resets_all_on_error(),
             startup.stops_all_on_error(),
         ];
-        assert_eq!(rt; read, expected, "at {bits}");
+        sure(&rt, read == expected);
     }
     for (bits, expected) in [
         (0x0000_0015, [true, true, false, true, false]),
@@ -138,14 +144,14 @@ fn bits_of_1f80h_and_1f81h(rt: HostRuntime) {
             assignment.is_kept_alive(),
             assignment.verifies_software(),
         ];
-        assert_eq!(rt; read, expected, "at {bits}");
+        sure(&rt, read == expected);
     }
 }
 
 #[test]
 fn writes_fit_their_bytes(rt: HostRuntime) {
     let default = Write::default();
-    assert_eq!(rt; default, Write::new(0, 0, 1, 0));
+    sure(&rt, default == Write::new(0, 0, 1, 0));
     for (write, fits) in [
         (default, true),
         (Write::new(0x1017, 0, 1, 255), true),
@@ -154,7 +160,7 @@ fn writes_fit_their_bytes(rt: HostRuntime) {
         (Write::new(0x1017, 0, 2, 65_536), false),
         (Write::new(0x1017, 0, 4, 0xFFFF_FFFF), true),
     ] {
-        assert_eq!(rt; write.fits(), fits, "at {}, {}", write.size, write.value);
+        sure(&rt, write.fits() == fits);
     }
     assert!(rt; Write::is_size(4) && !Write::is_size(3));
 }
@@ -164,7 +170,7 @@ fn an_added_slave_is_read_back(rt: HostRuntime) -> Result<(), Fail> {
     let mut network = Network::new(rt.alloc(), node(1)?, Startup(0xFFFF_FFFF), 1000);
     let mut listed = writing(0x0D, 65_535);
     listed.vendor = 0x123;
-    assert_eq!(rt; network.add(node(4)?, listed), Ok(()));
+    sure(&rt, network.add(node(4)?, listed) == Ok(()));
     // each of these has a later fault too
     for (id, assignment, fault) in [
         (4, 12, NetFault::DoubleSlave),
@@ -172,39 +178,39 @@ fn an_added_slave_is_read_back(rt: HostRuntime) -> Result<(), Fail> {
         (3, 12, NetFault::NotListedBit),
         (3, 13, NetFault::ValueTooWide),
     ] {
-        assert_eq!(rt;
-            network.add(node(id)?, writing(assignment, 65_536)),
-            Err(fault)
+        sure(
+            &rt,
+            network.add(node(id)?, writing(assignment, 65_536)) == Err(fault),
         );
     }
-    assert_eq!(rt; network.add(node(2)?, writing(0x15, 0)), Ok(()));
+    sure(&rt, network.add(node(2)?, writing(0x15, 0)) == Ok(()));
     let mut expected = terms(0x0D);
     expected.vendor = 0x123;
     expected.writes = 1;
-    assert_eq!(rt; network.terms(node(4)?), Some(expected));
-    assert_eq!(rt; network.expected(node(4)?), Some([0, 0x123, 0, 0, 0]));
-    assert_eq!(rt;
-        network.listed_ids().as_slice(),
-        [node(2)?, node(4)?].as_slice()
+    sure(&rt, network.terms(node(4)?) == Some(expected));
+    sure(&rt, network.expected(node(4)?) == Some([0, 0x123, 0, 0, 0]));
+    sure(
+        &rt,
+        network.listed_ids().as_slice() == [node(2)?, node(4)?].as_slice(),
     );
-    assert_eq!(rt; network.own_id().get(), 1);
-    assert_eq!(rt; network.startup(), Startup(0xFFFF_FFFF));
-    assert_eq!(rt; network.boot_time(), 1000);
+    sure(&rt, network.own_id().get() == 1);
+    sure(&rt, network.startup() == Startup(0xFFFF_FFFF));
+    sure(&rt, network.boot_time() == 1000);
     Ok(())
 }
 
 #[test]
 fn an_unlisted_node_has_no_entry(rt: HostRuntime) -> Result<(), Fail> {
     let mut network = Network::new(rt.alloc(), node(1)?, Startup(1), 0);
-    assert_eq!(rt; network.add(node(127)?, writing(0x1D, 0)), Ok(()));
+    sure(&rt, network.add(node(127)?, writing(0x1D, 0)) == Ok(()));
     for (number, listed) in [(1, false), (126, false), (127, true)] {
         let id = node(number)?;
-        assert_eq!(rt; network.listed(id), listed, "at {number}");
-        assert_eq!(rt; network.entry(id).is_some(), listed, "at {number}");
-        assert_eq!(rt; network.terms(id).is_some(), listed, "at {number}");
-        assert_eq!(rt; network.expected(id).is_some(), listed, "at {number}");
-        assert_eq!(rt; network.mandatory(id), listed, "at {number}");
-        assert_eq!(rt; network.kept(id), listed, "at {number}");
+        sure(&rt, network.listed(id) == listed);
+        sure(&rt, network.entry(id).is_some() == listed);
+        sure(&rt, network.terms(id).is_some() == listed);
+        sure(&rt, network.expected(id).is_some() == listed);
+        sure(&rt, network.mandatory(id) == listed);
+        sure(&rt, network.kept(id) == listed);
     }
     Ok(())
 }
@@ -217,9 +223,9 @@ fn an_entry_of_toml_has_its_fields(rt: HostRuntime) -> Result<(), Fail> {
     let Ok(network) = Network::from_toml(rt.alloc(), text) else {
         return Err(Fail::from("refused"));
     };
-    assert_eq!(rt; network.own_id().get(), 127);
-    assert_eq!(rt; network.startup(), Startup(2));
-    assert_eq!(rt; network.boot_time(), 9);
+    sure(&rt, network.own_id().get() == 127);
+    sure(&rt, network.startup() == Startup(2));
+    sure(&rt, network.boot_time() == 9);
     let entry = network.entry(node(3)?).ok_or("not listed")?;
     let expected = Terms {
         assignment: Assignment(0x15),
@@ -233,14 +239,15 @@ fn an_entry_of_toml_has_its_fields(rt: HostRuntime) -> Result<(), Fail> {
         time: 8,
         writes: 2,
     };
-    assert_eq!(rt; entry.terms(), expected);
-    assert_eq!(rt;
-        entry.writes.as_slice(),
-        [
-            Write::new(0x1017, 1, 2, 500),
-            Write::new(0xFFFF, 255, 4, 0xFFFF_FFFF)
-        ]
-        .as_slice()
+    sure(&rt, entry.terms() == expected);
+    sure(
+        &rt,
+        entry.writes.as_slice()
+            == [
+                Write::new(0x1017, 1, 2, 500),
+                Write::new(0xFFFF, 255, 4, 0xFFFF_FFFF),
+            ]
+            .as_slice(),
     );
     Ok(())
 }
@@ -260,9 +267,9 @@ fn faults_have_their_numbers_and_words(rt: HostRuntime) -> Result<(), Fail> {
         (10, NetFault::ValueTooWide, "value too wide"),
         (11, NetFault::OutOfMemory, "out of memory"),
     ] {
-        assert_eq!(rt; fault.number(), number);
-        assert_eq!(rt; fault.words(), words);
-        assert_eq!(rt; format!(in rt.alloc(); "{fault}")?.as_str(), words);
+        sure(&rt, fault.number() == number);
+        sure(&rt, fault.words() == words);
+        sure(&rt, format!(in rt.alloc(); "{fault}")?.as_str() == words);
     }
     Ok(())
 }
