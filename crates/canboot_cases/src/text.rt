@@ -193,7 +193,7 @@ impl Read for Text<'_> {
     fn read(&mut self, buf: &mut [u8]) -> io::Result<usize> {
         let mut filled = 0;
         for _ in 0..u64::MAX {
-            if filled == buf.len() || !self.has_more()? {
+            if filled >= buf.len() || !self.has_more()? {
                 break;
             }
             let left = self.left();
@@ -202,6 +202,6 @@ impl Read for Text<'_> {
             self.give(count);
             filled += count;
         }
-        Ok(filled)
+        Ok(filled.min(buf.len()))
     }
 }
