@@ -1,5 +1,8 @@
-//! What no file can show of the program: readers and writers that fail, end late or never.
+//! What no file can show of the program and below it: readers and writers that fail, end late or
+//! never, and journals that are written.
 #![tactic(auto)]
 
 #[cfg(test)]
 mod streams;
+#[cfg(test)]
+mod written;

@@ -1,0 +1,68 @@
+//! A journal that is written is read back, whatever its length, and its report is that of its entries.
+
+use cm_journal::{Journal, journal_read};
+use cm_writer::{journal_write, report};
+use std::alloc::{AllocError, Global};
+use std::process::Abort;
+use std::test::Fail;
+
+const JOURNAL: &[u8] =
+    b"canboot journal 1\nnetwork own 1 startup 00000001 boottime 0 seats 2 limit 16\nslave 2 assign 0000000D type 00020192 vendor 00000123 product 00000000 revision 00000000 serial 00000000 heartbeat 100 date 00000000 time 00000000 writes 2\nwrite 1017 00 2 0064\nwrite 6060 00 1 08\nentry 1 start = started / reset-unkept\nentry 2 begin 2 = begun 1 / none\nentry 2 report 2 1 00020192 00000123 - - - - - - 2 - preoperational = status Ok / one 01 02\nentry 1 read 2 = state 5 / none\nend 4\n";
+
+const REPORT: &[u8] =
+    b"phase ready\nown operational\nentries 4\nopen 0\nframe 82 00\nframe 01 02\nslave 2 state 5 booted yes session 0 last Ok\n";
+
+fn sure(rt: &impl Abort, is_so: bool) {
+    assert!(rt; is_so);
+}
+
+/// The text of a journal, as it is written.
+fn text_of(alloc: Global, journal: &Journal) -> Result<Vec<u8>, Fail> {
+    let mut text: Vec<u8> = Vec::new(alloc);
+    let entries = journal.entries.as_slice();
+    journal_write(
+        &journal.network,
+        journal.seats,
+        journal.limit,
+        entries,
+        &mut text,
+    )?;
+    Ok(text)
+}
+
+/// A journal with so many starts of the network, of which the first is granted.
+fn starts(alloc: Global, count: u32) -> Result<String, AllocError> {
+    let mut text = String::new(alloc);
+    text.push_str("canboot journal 1\n")?;
+    text.push_str("network own 1 startup 00000001 boottime 0 seats 1 limit 65536\n")?;
+    text.push_str("entry 1 start = started / reset-unkept\n")?;
+    for _ in 1..count {
+        text.push_str("entry 1 start = refused 2 / none\n")?;
+    }
+    text.push_str(format!(in alloc; "end {count}\n")?.as_str())?;
+    Ok(text)
+}
+
+#[test]
+fn what_is_written_is_what_was_read(rt: HostRuntime) -> Result<(), Fail> {
+    let Ok(journal) = journal_read(rt.alloc(), JOURNAL) else {
+        return Err(Fail::from("refused"));
+    };
+    let text = text_of(rt.alloc(), &journal)?;
+    sure(&rt, text.as_slice() == JOURNAL);
+    let mut out: Vec<u8> = Vec::new(rt.alloc());
+    report(&journal.network, journal.entries.as_slice(), &mut out)?;
+    sure(&rt, out.as_slice() == REPORT);
+    Ok(())
+}
+
+#[test]
+fn journals_of_20000_entries_are_written(rt: HostRuntime) -> Result<(), Fail> {
+    let wanted = starts(rt.alloc(), 20_000)?;
+    let Ok(journal) = journal_read(rt.alloc(), wanted.as_str().as_bytes()) else {
+        return Err(Fail::from("refused"));
+    };
+    let text = text_of(rt.alloc(), &journal)?;
+    sure(&rt, text.as_slice() == wanted.as_str().as_bytes());
+    Ok(())
+}
