@@ -114,7 +114,8 @@ impl Manager {
     /// Which refusal a start of the network meets.
     fn start_refusal(&self) -> Option<u8>
         ensures { result
-            ≡ first_refusal (refusals (listing_in self.now) (seen_in self.now 0) Call.StartNetwork) }
+            ≡ first_refusal
+            (refusals (listing_in self.now) (seen_in self.now 0) Call.StartNetwork) }
     {
         if !self.listing.is_master() {
             return Some(1);
@@ -269,7 +270,8 @@ impl Manager {
     /// Which refusal a passing of time meets.
     fn elapsed_refusal(&self, ms: u32) -> Option<u8>
         ensures { result
-            ≡ first_refusal (refusals (listing_in self.now) (seen_in self.now 0) (Call.Elapsed ms)) }
+            ≡ first_refusal
+            (refusals (listing_in self.now) (seen_in self.now 0) (Call.Elapsed ms)) }
     {
         if self.phase.is_idle() { Some(3) } else { None }
     }
@@ -676,7 +678,8 @@ impl Manager {
             (refusals (listing_in self.old) (seen_in self.old (node_named call.now)) call.now)
             ≡ None }
         ensures answer { (result.0, result.1)
-            ≡ granted_answer (listing_in self.old) (seen_in self.old (node_named call.now)) call.now }
+            ≡ granted_answer (listing_in self.old)
+            (seen_in self.old (node_named call.now)) call.now }
         ensures keeps { Effect self.old call.now result.0 result.1 self.new }
     {
         match call {
