@@ -24,6 +24,8 @@ use Rattle.cm_history.specs.declared.call.Orders.{Orders}
 use Rattle.cm_history.specs.declared.call.Orders.TheVariants as orders
 use Rattle.cm_history.specs.declared.call.Entry.{Entry}
 use Rattle.cm_history.specs.declared.phase.Phase.{Phase}
+use Rattle.cm_history.specs.declared.refusal.Refusal.{Refusal}
+use Rattle.cm_history.specs.declared.refusal.Refusal.TheVariants as refusal
 use Rattle.cm_history.specs.declared.slave.Slave.{Slave}
 
 -- ---- what the table looks up
@@ -115,6 +117,22 @@ refusals net s (call.Request t v) =
     ∷ []
 refusals net s (call.Read t) = (3, is_idle s.phase) ∷ (10, t == 0 || nat_lt 127 t) ∷ []
 refusals net s (call.Elapsed ms) = (3, is_idle s.phase) ∷ []
+
+-- the number of each refusal, in a reply
+abbrev pub refusal_number : Refusal → ℕ
+refusal_number refusal.NotMaster = 1
+refusal_number refusal.AlreadyStarted = 2
+refusal_number refusal.NotStarted = 3
+refusal_number refusal.NotListed = 4
+refusal_number refusal.HasSession = 5
+refusal_number refusal.AlreadyBooted = 6
+refusal_number refusal.OtherSession = 7
+refusal_number refusal.NoSuchBoot = 8
+refusal_number refusal.NoSignal = 9
+refusal_number refusal.NoTarget = 10
+refusal_number refusal.NoValue = 11
+refusal_number refusal.OpenSlave = 12
+refusal_number refusal.OwnReset = 13
 
 -- the SDO abort codes of refused requests: invalid value for parameter, not possible in the present device state
 -- (the codes: CiA 301; which refusal has which: own)

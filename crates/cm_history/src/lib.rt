@@ -5,8 +5,10 @@
 
 mod call;
 mod phase;
+mod refusal;
 mod slave;
 
-pub use call::{Call, Entry, Orders, Reply, abort_code};
+pub use call::{ALL_NODES, Call, Entry, Orders, Reply, abort_code};
 pub use phase::Phase;
-pub use slave::{Slave, state_reported};
+pub use refusal::Refusal;
+pub use slave::{MISSING, Slave, UNKNOWN, state_reported};

@@ -3,6 +3,13 @@ ghost use Rattle.cm_history.specs.History.{state_reported};
 ghost use Rattle.cm_history.specs.Answering.{blank_slave, has_session};
 
 use cm_answers::{Answers, Got, Heard, Status};
+use cm_nmt::NmtState;
+
+/// The state of a slave of which nothing is known, as object 1F82h reads it.
+pub const UNKNOWN: u8 = 0;
+
+/// The state of a slave that is missing, as object 1F82h reads it.
+pub const MISSING: u8 = 1;
 
 /// What a history says of one slave.
 #[derive(Clone, Copy, Debug, PartialEq, Eq)]
@@ -20,7 +27,7 @@ impl Slave {
         ensures { result ≡ blank_slave }
     {
         Slave {
-            state: 0,
+            state: UNKNOWN,
             booted: false,
             session: None,
         }
@@ -42,7 +49,7 @@ pub fn state_reported(status: Status, answers: &Answers) -> u8
     ensures { result ≡ state_reported status answers.now }
 {
     if status.is_missing() {
-        return 1;
+        return MISSING;
     }
     if let Heard::State(state) = answers.beat {
         return state.code();
@@ -51,7 +58,7 @@ pub fn state_reported(status: Status, answers: &Answers) -> u8
         return state.code();
     }
     match answers.device {
-        Got::NotAsked => 0,
-        _ => 127,
+        Got::NotAsked => UNKNOWN,
+        _ => NmtState::PreOperational.code(),
     }
 }

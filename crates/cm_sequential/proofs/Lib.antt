@@ -1,8 +1,2 @@
-mod Opened
-mod SlaveSteps
-pub mod Phases
-mod Signals
-mod Serving
-mod Listings
-mod Resets
-pub mod Stepped
+pub mod Listings
+pub mod Resets

@@ -11,7 +11,7 @@ use Rattle.cm_netlist.specs.declared.entry.SlaveEntry.{SlaveEntry}
 use Rattle.cm_objects.specs.declared.terms.Terms.{Terms}
 use Rattle.cm_netlist.proofs.Networks.{terms_above}
 use Rattle.cm_objects.specs.Listing.{Listing, is_listed}
-use Rattle.cm_sequential.specs.Standing.{kept_listing}
+use Rattle.cm_sequential.specs.States.{kept_listing}
 use Rattle.cm_sequential.specs.declared.listing_copy.ListingCopy.{ListingCopy}
 
 -- two lists that say the same of every node are one

@@ -1,49 +1,71 @@
 -- Working definitions, behind `Stands`: what they hold shows in the contracts of the manager's readers.
--- What the manager keeps of its network and of each slave, and how a slave's part changes.
-use Rattle.std.specs.Prelude.{ℕ, Bool, false, ◌==◌, ◌&&◌, ◌||◌, not, if◌then◌else◌, List, filter, None}
+-- What the manager keeps, as the machine of cm_history, and what a change of its table does to each slave.
+use Rattle.std.specs.Prelude.{◌≡◌, ◌<◌, ℕ, Bool, false, ◌==◌, ◌&&◌, ◌||◌, not, if◌then◌else◌, Option, Some, None}
 use Rattle.std.specs.List.{slice_index_or}
-use Rattle.cm_nmt.specs.Codes.{state_code}
-use Rattle.cm_nmt.specs.declared.signal.Signal.{Signal}
-use Rattle.cm_nmt.specs.declared.signal.Signal.TheVariants as signal
-use Rattle.cm_objects.specs.Listing.{node_ids, Listing, is_mandatory}
-use Rattle.cm_answers.specs.declared.status.Status.{Status}
-use Rattle.cm_answers.specs.Status.{is_good}
-use Rattle.cm_history.specs.History.{is_reset_value}
-use Rattle.cm_history.specs.Answering.{blank_slave}
+use Rattle.cm_nmt.specs.declared.command.Command.{Command}
+use Rattle.cm_nmt.specs.declared.state.NmtState.{NmtState}
+use Rattle.cm_objects.specs.Listing.{Listing, is_listed, is_mandatory}
+use Rattle.cm_history.specs.Machine.{Machine, after, obeyed, of_nodes, seen_in}
+use Rattle.cm_history.specs.Answering.{first_refusal, granted_answer, node_named, refusals}
+use Rattle.cm_history.specs.declared.call.Call.{Call}
+use Rattle.cm_history.specs.declared.call.Reply.{Reply}
+use Rattle.cm_history.specs.declared.call.Orders.{Orders}
 use Rattle.cm_history.specs.declared.slave.Slave.{Slave}
+use Rattle.cm_sequential.specs.NodeSets.{has}
+use Rattle.cm_sequential.specs.States.{kept_slave}
+use Rattle.cm_sequential.specs.declared.slaves.SlaveTable.{SlaveTable}
+use Rattle.cm_sequential.specs.declared.state.NetworkState.{NetworkState}
 
--- what the manager keeps at place i
-abbrev pub kept_at : List Slave → ℕ → Slave
-kept_at slaves i = slice_index_or slaves i blank_slave
+-- the state as a machine
+abbrev pub machine : NetworkState → Machine
+machine s = record { phase = s.phase; own = s.own; begun = s.begun; slaves = of_nodes (kept_slave s.slaves) }
 
--- a mandatory slave that isn't booted by what is kept
-abbrev pub is_open_in : Listing → List Slave → ℕ → Bool
-is_open_in net slaves i = is_mandatory net i && not (kept_at slaves i).booted
+-- ---- what the manager's type keeps
 
-abbrev pub open_in : Listing → List Slave → List ℕ
-open_in net slaves = filter (is_open_in net slaves) node_ids
+-- the open slaves are the mandatory ones that aren't booted
+abbrev pub IsCounted : Listing → SlaveTable → Type 0
+IsCounted net t = (i : ℕ) → i < 128 → has t.open i ≡ (is_mandatory net i && not (has t.booted i))
 
--- a slave after a command to all that leaves this state
-abbrev pub put : ℕ → Slave → Slave
-put left slave = record slave { state = if slave.state == 0 || slave.state == 1 then slave.state else left }
+-- the state is one of this listing: the own node-ID is the listing's and isn't a slave's, the open slaves are counted,
+-- and what isn't listed has no state
+pub record Fits (net : Listing) (s : NetworkState) : Type 0 where
+  pub own_id : s.own_id ≡ net.own
+  pub own_unlisted : is_listed net net.own ≡ false
+  pub counted : IsCounted net s.slaves
+  pub unlisted : (i : ℕ) → i < 128 → is_listed net i ≡ false → (kept_slave s.slaves i).state ≡ 0
 
--- a slave that isn't booted and has no session, in the state that it had
-abbrev pub cleared_slave : Slave → Slave
-cleared_slave slave = record slave { booted = false; session = None }
+-- the call isn't refused, and its reply and orders are those of the tables
+pub record IsGranted (net : Listing) (s : NetworkState) (c : Call) (r : Reply) (o : Orders) : Type 0 where
+  pub unrefused : first_refusal (refusals net (seen_in net (machine s) (node_named c)) c) ≡ None
+  pub answer : (r, o) ≡ granted_answer net (seen_in net (machine s) (node_named c)) c
 
--- the slaves with another at place i
-abbrev pub with_slave : ℕ → Slave → List Slave → ℕ → Slave
-with_slave i slave slaves j = if i == j then slave else kept_at slaves j
+-- the state goes on as the machine does, and still fits
+pub record Goes (net : Listing) (s : NetworkState) (c : Call) (r : Reply) (o : Orders) (s' : NetworkState) : Type 0 where
+  pub step : machine s' ≡ after net (machine s) c r o
+  pub fits : Fits net s'
 
--- a slave whose boot was reported
-abbrev pub reported_slave : Slave → ℕ → Status → Slave
-reported_slave slave left s = record { state = left; booted = is_good s || slave.booted; session = None }
+-- ---- changes of a slave
 
--- a slave after its error control message
-abbrev pub signalled_slave : Signal → Slave → Slave
-signalled_slave signal.BootUp slave = record { state = 127; booted = false; session = None }
-signalled_slave (signal.State s) slave = record slave { state = state_code s }
+-- a slave in another state
+abbrev pub in_state : ℕ → Slave → Slave
+in_state v slave = record slave { state = v }
 
--- a slave after a request that resets it, or one that doesn't, before its state is set
-abbrev pub requested_slave : ℕ → Slave → Slave
-requested_slave v slave = if is_reset_value v then cleared_slave slave else slave
+-- a slave whose boot begins
+abbrev pub in_session : ℕ → Slave → Slave
+in_session n slave = record slave { session = Some n }
+
+-- a slave whose boot is reported, in the state that it leaves
+abbrev pub boot_ended : Bool → ℕ → Slave → Slave
+boot_ended good v slave = record { state = v; booted = good || slave.booted; session = None }
+
+-- a slave that isn't booted and has no session
+abbrev pub cleared : Slave → Slave
+cleared slave = record slave { booted = false; session = None }
+
+-- a slave after a command to all, where there is one
+abbrev pub obeying : Option Command → Slave → Slave
+obeying c slave = record slave { state = obeyed c slave.state }
+
+-- the slave of one node changed, the others left
+abbrev pub at_node : ℕ → (Slave → Slave) → (ℕ → Slave) → ℕ → Slave
+at_node k change slaves i = if k == i then change (slaves i) else slaves i

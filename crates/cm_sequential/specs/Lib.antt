@@ -1,3 +1,5 @@
+pub mod Listed
+pub mod NodeSets
+pub mod States
 pub mod Standing
 pub mod Kept
-pub mod Steps

@@ -1,43 +1,43 @@
 -- When a manager stands for a history: what its readers show is what the history says (own).
-use Rattle.std.specs.Prelude.{◌≡◌, ◌<◌, ℕ, Bool, List, Option, None}
-use Rattle.std.specs.List.{slice_index_or}
-use Rattle.cm_nmt.specs.declared.state.NmtState.{NmtState}
+use Rattle.std.specs.Prelude.{◌≡◌, ◌&&◌, not, ℕ, if◌then◌else◌, List, filter}
 use Rattle.cm_netlist.specs.Network.{Network, IsNetwork, listing}
-use Rattle.cm_objects.specs.Listing.{Listing}
-use Rattle.cm_history.specs.History.{begun_in, is_booted, own_of, phase_of, session_of, state_of}
-use Rattle.cm_history.specs.Answering.{blank_slave}
+use Rattle.cm_objects.specs.Listing.{Listing, is_listed, is_mandatory, node_ids}
+use Rattle.cm_history.specs.Answering.{Seen, answer_from, blank_slave, node_named}
+use Rattle.cm_history.specs.declared.call.Call.{Call}
+use Rattle.cm_history.specs.declared.call.Reply.{Reply}
+use Rattle.cm_history.specs.declared.call.Orders.{Orders}
 use Rattle.cm_history.specs.declared.call.Entry.{Entry}
-use Rattle.cm_history.specs.declared.phase.Phase.{Phase}
-use Rattle.cm_history.specs.declared.slave.Slave.{Slave}
-use Rattle.cm_sequential.specs.declared.listing_copy.ListingCopy.{ListingCopy}
+use Rattle.cm_sequential.specs.States.{kept_listing, kept_slave, Shows}
 use Rattle.cm_sequential.specs.declared.manager.Manager.{Manager}
 
--- what the manager's copy of its network list says; the terms of node i stand at place i
-unfoldable pub kept_listing : ListingCopy → Listing
-kept_listing copy = record {
-  own = copy.own;
-  startup = copy.startup.0;
-  boot_time = copy.boot_time;
-  terms = λ i. slice_index_or copy.terms i None;
-}
-
--- what the manager keeps of node i
-abbrev pub kept_slave : Manager → ℕ → Slave
-kept_slave m i = slice_index_or m.slaves i blank_slave
+-- the network list that the manager keeps
+abbrev pub listing_in : Manager → Listing
+listing_in m = kept_listing m.listing
 
 -- how many sessions the manager has begun
 abbrev pub sessions_begun : Manager → ℕ
-sessions_begun m = m.begun
+sessions_begun m = m.state.begun
 
--- the manager stands for the history of this network: its copy of the list is that list; its phase, own state and
--- number of sessions begun are those of the history, and so are the state of each node, whether it is booted, and its
--- session
+-- the manager stands for the history of this network: its copy of the list is that list, and its state is the history's
 pub record Stands (m : Manager) (net : Network) (past : List Entry) : Type 0 where
   pub network : IsNetwork net
-  pub same_listing : kept_listing m.listing ≡ listing net
-  pub phase : m.phase ≡ phase_of (listing net) past
-  pub own : m.own ≡ own_of (listing net) past
-  pub begun : sessions_begun m ≡ begun_in past
-  pub state : (i : ℕ) → i < 128 → (kept_slave m i).state ≡ state_of (listing net) past i
-  pub booted : (i : ℕ) → i < 128 → (kept_slave m i).booted ≡ is_booted past i
-  pub session : (i : ℕ) → i < 128 → (kept_slave m i).session ≡ session_of past i
+  pub same_listing : listing_in m ≡ listing net
+  pub same_state : Shows m.state (listing net) past
+
+-- the mandatory slaves that aren't booted, as the manager has them
+abbrev pub open_in : Manager → List ℕ
+open_in m = filter (λ i. is_mandatory (listing_in m) i && not (kept_slave m.state.slaves i).booted) node_ids
+
+-- what the tables of the answers look up, as the manager has it
+abbrev pub seen_by : Manager → ℕ → Seen
+seen_by m i = record {
+  phase = m.state.phase;
+  own = m.state.own;
+  begun = m.state.begun;
+  open_slaves = open_in m;
+  slave = if is_listed (listing_in m) i then kept_slave m.state.slaves i else blank_slave;
+}
+
+-- the reply and the orders are what the tables answer to the call, from what the manager has
+abbrev pub IsAnswer : Manager → Call → Reply → Orders → Type 0
+IsAnswer m c r o = (r, o) ≡ answer_from (listing_in m) (seen_by m (node_named c)) c

@@ -3,10 +3,15 @@
 //! that its orders send. It takes no memory.
 #![tactic(auto)]
 
+mod answering;
+mod effects;
 mod listing_copy;
 mod manager;
+mod node_set;
 mod sending;
 mod slaves;
+mod state;
 
 pub use manager::Manager;
 pub use sending::frames;
+pub use state::NetworkState;

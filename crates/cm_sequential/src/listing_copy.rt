@@ -1,20 +1,26 @@
 ghost use Rattle.std.specs.Prelude.{◌≡◌, ◌<◌, ℕ, None, IsSome, IsTrue, length};
+ghost use Rattle.cm_sequential.specs.NodeSets.{has};
+ghost use Rattle.cm_sequential.specs.Listed.{listed_mandatory};
 ghost use Rattle.std.specs.List.{slice_index_or};
 ghost use Rattle.cm_netlist.specs.Network.{listing};
 ghost use Rattle.cm_objects.specs.Listing.{is_listed, is_mandatory, is_to_be_booted, is_master, starts_all_at_once, leaves_operational_to_application, starts_no_slave, resets_all_on_error, stops_all_on_error};
 ghost use Rattle.cm_netlist.specs.Network as network;
 
+use crate::node_set::NodeSet;
 use cm_netlist::Network;
 use cm_nmt::NodeId;
 use cm_objects::{Startup, Terms};
 
-/// The manager's own copy of its network list. The terms of node i stand at place i.
+/// The manager's own copy of its network list, which never changes. The terms of node i stand at
+/// place i.
 #[derive(Clone, Copy)]
 pub struct ListingCopy {
     own: NodeId,
     startup: Startup,
     boot_time: u32,
     terms: [Option<Terms>; 128],
+    mandatory: NodeSet,
+    ghost mandatory_ones: { (i : ℕ) → i < 128 → has mandatory i ≡ listed_mandatory terms i },
 }
 
 /// What is listed of the node, nothing for a number that is no node-ID.
@@ -40,8 +46,21 @@ fn terms_by_node(net: &Network) -> [Option<Terms>; 128]
     terms
 }
 
+/// The mandatory slaves.
+fn mandatory_slaves(net: &Network) -> NodeSet
+    ensures { (i : ℕ) → i < 128 → has result i ≡ is_mandatory (listing net.now) i }
+{
+    let mut slaves = NodeSet::empty();
+    for node in 1..128u8 {
+        if let Some(id) = NodeId::new(node) && net.mandatory(id) {
+            slaves.insert(id);
+        }
+    }
+    slaves
+}
+
 impl ListingCopy {
-    ghost use Rattle.cm_sequential.specs.Standing.{kept_listing};
+    ghost use Rattle.cm_sequential.specs.States.{kept_listing};
 
     /// The copy of a network list.
     pub fn of(net: &Network) -> ListingCopy
@@ -53,19 +72,28 @@ impl ListingCopy {
             startup: net.startup(),
             boot_time: net.boot_time(),
             terms: terms_by_node(net),
+            mandatory: mandatory_slaves(net),
         }
     }
 
+    /// The mandatory slaves.
+    #[tactic(auto, unfolding(crate::specs::States::kept_listing))]
+    pub fn mandatory(&self) -> NodeSet
+        ensures { (i : ℕ) → i < 128 → has result i ≡ is_mandatory (kept_listing self.now) i }
+    {
+        self.mandatory
+    }
+
     /// The manager's own node-ID.
-    #[tactic(auto, unfolding(crate::specs::Standing::kept_listing))]
-    pub fn own_id(&self) -> u8
+    #[tactic(auto, unfolding(crate::specs::States::kept_listing))]
+    pub fn own_id(&self) -> NodeId
         ensures { result ≡ (kept_listing self.now).own }
     {
-        self.own.get()
+        self.own
     }
 
     /// 1F89h, in ms.
-    #[tactic(auto, unfolding(crate::specs::Standing::kept_listing))]
+    #[tactic(auto, unfolding(crate::specs::States::kept_listing))]
     pub fn boot_time(&self) -> u32
         ensures { result ≡ (kept_listing self.now).boot_time }
     {
@@ -73,7 +101,7 @@ impl ListingCopy {
     }
 
     /// What is listed of the node; nothing for a number that is no node-ID.
-    #[tactic(auto, unfolding(crate::specs::Standing::kept_listing))]
+    #[tactic(auto, unfolding(crate::specs::States::kept_listing))]
     pub fn terms(&self, node: u8) -> Option<Terms>
         ensures value { result ≡ (kept_listing self.now).terms node }
         ensures small { IsSome result → node < 128 }
@@ -92,60 +120,58 @@ impl ListingCopy {
         self.terms(node).is_some()
     }
 
-    pub fn is_mandatory(&self, node: u8) -> bool
-        ensures { result ≡ is_mandatory (kept_listing self.now) node }
+    #[tactic(auto, unfolding(crate::specs::States::kept_listing))]
+    pub fn is_mandatory(&self, id: NodeId) -> bool
+        ensures { result ≡ is_mandatory (kept_listing self.now) id }
     {
-        match self.terms(node) {
-            Some(terms) => terms.assignment.is_mandatory(),
-            None => false,
-        }
+        self.mandatory.contains(id)
     }
 
-    pub fn is_to_be_booted(&self, node: u8) -> bool
-        ensures { result ≡ is_to_be_booted (kept_listing self.now) node }
+    pub fn is_to_be_booted(&self, id: NodeId) -> bool
+        ensures { result ≡ is_to_be_booted (kept_listing self.now) id }
     {
-        match self.terms(node) {
+        match self.terms(id.get()) {
             Some(terms) => terms.assignment.is_to_be_booted(),
             None => false,
         }
     }
 
-    #[tactic(auto, unfolding(crate::specs::Standing::kept_listing))]
+    #[tactic(auto, unfolding(crate::specs::States::kept_listing))]
     pub fn is_master(&self) -> bool
         ensures { result ≡ is_master (kept_listing self.now) }
     {
         self.startup.is_master()
     }
 
-    #[tactic(auto, unfolding(crate::specs::Standing::kept_listing))]
+    #[tactic(auto, unfolding(crate::specs::States::kept_listing))]
     pub fn starts_all_at_once(&self) -> bool
         ensures { result ≡ starts_all_at_once (kept_listing self.now) }
     {
         self.startup.starts_all_at_once()
     }
 
-    #[tactic(auto, unfolding(crate::specs::Standing::kept_listing))]
+    #[tactic(auto, unfolding(crate::specs::States::kept_listing))]
     pub fn leaves_operational_to_application(&self) -> bool
         ensures { result ≡ leaves_operational_to_application (kept_listing self.now) }
     {
         self.startup.leaves_operational_to_application()
     }
 
-    #[tactic(auto, unfolding(crate::specs::Standing::kept_listing))]
+    #[tactic(auto, unfolding(crate::specs::States::kept_listing))]
     pub fn starts_no_slave(&self) -> bool
         ensures { result ≡ starts_no_slave (kept_listing self.now) }
     {
         self.startup.starts_no_slave()
     }
 
-    #[tactic(auto, unfolding(crate::specs::Standing::kept_listing))]
+    #[tactic(auto, unfolding(crate::specs::States::kept_listing))]
     pub fn resets_all_on_error(&self) -> bool
         ensures { result ≡ resets_all_on_error (kept_listing self.now) }
     {
         self.startup.resets_all_on_error()
     }
 
-    #[tactic(auto, unfolding(crate::specs::Standing::kept_listing))]
+    #[tactic(auto, unfolding(crate::specs::States::kept_listing))]
     pub fn stops_all_on_error(&self) -> bool
         ensures { result ≡ stops_all_on_error (kept_listing self.now) }
     {

@@ -1,101 +1,200 @@
-ghost use Rattle.std.specs.Prelude.{◌≡◌, ◌<◌, ◌%◌, ℕ};
+ghost use Rattle.std.specs.Prelude.{◌≡◌, ◌≤◌, ◌<◌, ◌==◌, not, ℕ, Some, length, filter};
+ghost use Rattle.std.specs.List.{slice_index_or};
+ghost use Rattle.cm_nmt.specs.Codes.{state_left};
+ghost use Rattle.cm_objects.specs.Listing.{Listing};
 ghost use Rattle.cm_history.specs.Answering.{blank_slave};
-ghost use Rattle.cm_history.specs.History.{state_requested};
-ghost use Rattle.cm_sequential.specs.Kept.{cleared_slave, kept_at, put, reported_slave, requested_slave, signalled_slave, with_slave};
+ghost use Rattle.cm_history.specs.Machine.{obeyed};
+ghost use Rattle.cm_history.specs.History.{is_empty};
+ghost use Rattle.cm_sequential.specs.NodeSets.{members_of};
+ghost use Rattle.cm_sequential.specs.States.{kept_listing, kept_slave, session_numbered};
+ghost use Rattle.cm_sequential.specs.Kept.{at_node, boot_ended, cleared, in_session, in_state, obeying, IsCounted};
 
-use cm_answers::Status;
-use cm_history::Slave;
-use cm_nmt::Signal;
+use crate::listing_copy::ListingCopy;
+use crate::node_set::NodeSet;
+use cm_history::{MISSING, Slave, UNKNOWN};
+use cm_nmt::{Command, NodeId};
 
-/// What the manager keeps of each slave, that of node i at place i.
-pub type Slaves = [Slave; 128];
+/// What the manager keeps of each node, that of node i at place i.
+#[derive(Clone, Copy)]
+pub struct SlaveTable {
+    /// As object 1F82h reads them.
+    states: [u8; 128],
+    /// The numbers of the sessions that are open, 0 where none is.
+    sessions: [u64; 128],
+    booted: NodeSet,
+    /// The mandatory slaves that aren't booted.
+    open: NodeSet,
+}
 
-/// A slave after a command to all that leaves this state: unknown and missing slaves stay so.
-fn put(slave: Slave, left: u8) -> Slave
-    ensures { result ≡ put left slave }
+/// A state after a command to all that leaves this one: unknown and missing stay so.
+#[inline(always)]
+fn obeyed(command: Command, state: u8) -> u8
+    ensures { result ≡ obeyed (Some command) state }
 {
-    if slave.state == 0 || slave.state == 1 {
-        slave
+    if state == UNKNOWN || state == MISSING {
+        state
     } else {
-        Slave {
-            state: left,
-            ..slave
+        command.state_left()
+    }
+}
+
+/// Puts every state to what a command to all leaves.
+fn obey_all(states: &mut [u8; 128], command: Command)
+    ensures { (i : ℕ) → i < 128
+        → slice_index_or states.new i 0 ≡ obeyed (Some command) (slice_index_or states.old i 0) }
+{
+    for state in states.iter_mut() {
+        *state = obeyed(command, *state);
+    }
+}
+
+impl SlaveTable {
+    /// The table before any call.
+    pub fn blank(listing: &ListingCopy) -> SlaveTable
+        ensures slaves { (i : ℕ) → i < 128 → kept_slave result i ≡ blank_slave }
+        ensures counted { IsCounted (kept_listing listing.now) result }
+    {
+        SlaveTable {
+            states: [UNKNOWN; 128],
+            sessions: [0; 128],
+            booted: NodeSet::empty(),
+            open: listing.mandatory(),
         }
     }
-}
 
-/// A slave after the report of its boot.
-pub fn reported(slave: Slave, left: u8, status: Status) -> Slave
-    ensures { result ≡ reported_slave slave left status }
-{
-    Slave {
-        state: left,
-        booted: status.is_good() || slave.booted,
-        session: None,
-    }
-}
-
-/// A slave after its error control message: a boot-up message clears it.
-pub fn signalled(slave: Slave, signal: Signal) -> Slave
-    ensures { result ≡ signalled_slave signal slave }
-{
-    match signal {
-        Signal::BootUp => Slave {
-            state: 127,
-            booted: false,
-            session: None,
-        },
-        Signal::State(state) => Slave {
-            state: state.code(),
-            ..slave
-        },
-    }
-}
-
-/// A slave after a request to it: a reset clears it.
-pub fn requested(slave: Slave, value: u8) -> Slave
-    ensures { result ≡ record (requested_slave value slave) { state = state_requested value } }
-{
-    if value == 6 || value == 7 {
-        Slave::blank()
-    } else {
+    /// What is kept of the node.
+    pub fn slave(&self, id: NodeId) -> Slave
+        ensures { result ≡ kept_slave self.now id }
+    {
         Slave {
-            state: value,
-            ..slave
+            state: self.state(id),
+            booted: self.booted(id),
+            session: self.session(id),
         }
     }
-}
 
-/// Puts every slave into a state, but those that are unknown or missing.
-pub fn put_all(slaves: &mut Slaves, left: u8)
-    ensures { (i : ℕ) → i < 128 → kept_at slaves.new i ≡ put left (kept_at slaves.old i) }
-{
-    for slave in slaves.iter_mut() {
-        *slave = put(*slave, left);
+    #[inline(always)]
+    pub fn state(&self, id: NodeId) -> u8
+        ensures { result ≡ (kept_slave self.now id).state }
+    {
+        self.states[id.get() as usize]
     }
-}
 
-/// Clears every slave: none is booted, none has a session.
-pub fn clear_all(slaves: &mut Slaves)
-    ensures { (i : ℕ) → i < 128 → kept_at slaves.new i ≡ cleared_slave (kept_at slaves.old i) }
-{
-    for slave in slaves.iter_mut() {
-        slave.booted = false;
-        slave.session = None;
+    #[inline(always)]
+    pub fn booted(&self, id: NodeId) -> bool
+        ensures { result ≡ (kept_slave self.now id).booted }
+    {
+        self.booted.contains(id)
     }
-}
 
-/// Forgets all of every slave.
-pub fn blank_all(slaves: &mut Slaves)
-    ensures { (i : ℕ) → i < 128 → kept_at slaves.new i ≡ blank_slave }
-{
-    *slaves = [Slave::blank(); 128];
-}
+    #[inline(always)]
+    pub fn session(&self, id: NodeId) -> Option<u64>
+        ensures { result ≡ (kept_slave self.now id).session }
+    {
+        match self.sessions[id.get() as usize] {
+            0 => None,
+            number => Some(number),
+        }
+    }
 
-/// Sets what is kept of a node.
-pub fn set_at(slaves: &mut Slaves, node: u8, slave: Slave)
-    requires { node < 128 }
-    ensures { (i : ℕ) → kept_at slaves.new i ≡ with_slave node slave slaves.old i }
-{
-    slaves[node as usize] = slave;
+    /// How many mandatory slaves aren't booted.
+    pub fn count_open(&self) -> u8
+        ensures { result ≡ length (members_of self.now.open) }
+    {
+        self.open.len()
+    }
+
+    /// Whether every mandatory slave is booted.
+    #[inline(always)]
+    pub fn none_open(&self) -> bool
+        ensures { result ≡ is_empty (members_of self.now.open) }
+    {
+        self.open.is_empty()
+    }
+
+    /// Whether every mandatory slave but this one is booted.
+    #[inline(always)]
+    pub fn none_open_but(&self, id: NodeId) -> bool
+        ensures { result
+            ≡ is_empty (filter (λ j. not (id == j)) (members_of self.now.open)) }
+    {
+        self.open.is_empty_without(id)
+    }
+
+    /// The slave is in this state.
+    #[inline(always)]
+    pub fn set_state(&mut self, id: NodeId, state: u8)
+        ensures slaves { (i : ℕ) → i < 128 → kept_slave self.new i
+            ≡ at_node id (in_state state) (kept_slave self.old) i }
+        ensures counted { (net : Listing) → IsCounted net self.old → IsCounted net self.new }
+    {
+        self.states[id.get() as usize] = state;
+    }
+
+    /// The boot of the slave begins.
+    #[inline(always)]
+    pub fn begin(&mut self, id: NodeId, number: u64)
+        requires { 1 ≤ number }
+        ensures slaves { (i : ℕ) → i < 128 → kept_slave self.new i
+            ≡ at_node id (in_session number) (kept_slave self.old) i }
+        ensures counted { (net : Listing) → IsCounted net self.old → IsCounted net self.new }
+    {
+        self.sessions[id.get() as usize] = number;
+    }
+
+    /// The boot of the slave ended; it leaves the slave booted, where it was good, and in this state.
+    #[inline(always)]
+    pub fn end_boot(&mut self, id: NodeId, good: bool, state: u8)
+        ensures slaves { (i : ℕ) → i < 128 → kept_slave self.new i
+            ≡ at_node id (boot_ended good state) (kept_slave self.old) i }
+        ensures counted { (net : Listing) → IsCounted net self.old → IsCounted net self.new }
+    {
+        let place = id.get() as usize;
+        self.states[place] = state;
+        self.sessions[place] = 0;
+        if good {
+            self.booted.insert(id);
+            self.open.remove(id);
+        }
+    }
+
+    /// The slave isn't booted, has no session, and is in this state.
+    #[inline(always)]
+    pub fn clear(&mut self, listing: &ListingCopy, id: NodeId, state: u8)
+        requires { IsCounted (kept_listing listing.now) self.old }
+        ensures slaves { (i : ℕ) → i < 128 → kept_slave self.new i
+            ≡ at_node id (λ slave. in_state state (cleared slave)) (kept_slave self.old) i }
+        ensures counted { IsCounted (kept_listing listing.now) self.new }
+    {
+        let place = id.get() as usize;
+        self.states[place] = state;
+        self.sessions[place] = 0;
+        self.booted.remove(id);
+        if listing.is_mandatory(id) {
+            self.open.insert(id);
+        }
+    }
+
+    /// No slave is booted, and none has a session.
+    pub fn clear_all(&mut self, listing: &ListingCopy)
+        ensures slaves { (i : ℕ) → i < 128 → kept_slave self.new i
+            ≡ cleared (kept_slave self.old i) }
+        ensures counted { IsCounted (kept_listing listing.now) self.new }
+    {
+        self.sessions = [0; 128];
+        self.booted = NodeSet::empty();
+        self.open = listing.mandatory();
+    }
+
+    /// Every slave does what a command to all makes it do, where there is one.
+    #[inline(always)]
+    pub fn obey(&mut self, command: Option<Command>)
+        ensures slaves { (i : ℕ) → i < 128 → kept_slave self.new i
+            ≡ obeying command (kept_slave self.old i) }
+        ensures counted { (net : Listing) → IsCounted net self.old → IsCounted net self.new }
+    {
+        if let Some(command) = command {
+            obey_all(&mut self.states, command);
+        }
+    }
 }

@@ -1,0 +1,297 @@
+ghost use Rattle.std.specs.Prelude.{◌≡◌, ◌<◌, ◌≤◌, ◌==◌, ◌^◌, ◌-◌, ℕ, List, Some};
+ghost use Rattle.cm_history.specs.History.{is_empty};
+ghost use Rattle.cm_history.specs.Answering.{answer_from, is_late, lost_orders, open_less, refusal_number, report_orders, request_orders, starts_every, starts_one};
+ghost use Rattle.cm_sequential.specs.Standing.{listing_in, open_in, seen_by};
+
+use crate::effects::{is_fatal, is_reset};
+use crate::manager::Manager;
+use cm_answers::{Answers, Status, judged_by_tables};
+use cm_history::{ALL_NODES, Orders, Refusal, Reply};
+use cm_nmt::{Command, NmtState, NodeId, Signal};
+
+/// A refused call has no orders.
+#[inline(always)]
+fn refused(refusal: Refusal) -> (Reply, Orders)
+    ensures reply { result.0 ≡ Reply.Refused (refusal_number refusal) }
+    ensures orders { result.1 ≡ Orders.None }
+{
+    (Reply::Refused(refusal.number()), Orders::None)
+}
+
+/// The orders of a request to this target, 1 to 128.
+#[inline(always)]
+fn request_orders(to_own: bool, target: u8, command: Command) -> Orders
+    requires low { 1 ≤ target }
+    requires high { target ≤ 128 }
+    ensures { result ≡ request_orders to_own (target == 128) target (Some command) }
+{
+    if to_own {
+        return Orders::None;
+    }
+    match NodeId::new(target) {
+        Some(id) => Orders::to_node(command, id),
+        None => Orders::to_every(command),
+    }
+}
+
+// The answer to each call: its refusals in the order in which they are tested, and else its reply
+// and orders. Nothing changes.
+impl Manager {
+    /// Whether every mandatory slave is booted.
+    #[inline(always)]
+    fn none_open(&self) -> bool
+        ensures { result ≡ is_empty (open_in self.now) }
+    {
+        self.state.slaves.none_open()
+    }
+
+    /// Whether every mandatory slave is booted, once a boot of this one came to the status.
+    #[inline(always)]
+    fn none_left(&self, id: NodeId, status: Status) -> bool
+        ensures { result ≡ is_empty (open_less (open_in self.now) id status) }
+    {
+        if status.is_good() {
+            self.state.slaves.none_open_but(id)
+        } else {
+            self.state.slaves.none_open()
+        }
+    }
+
+    /// The answer to a start of the network.
+    pub(crate) fn answer_start(&self) -> (Reply, Orders)
+        ensures { (result.0, result.1)
+            ≡ answer_from (listing_in self.now) (seen_by self.now 0) Call.StartNetwork }
+    {
+        if !self.listing.is_master() {
+            return refused(Refusal::NotMaster);
+        }
+        if self.state.phase.is_booting() || self.state.phase.is_ready() {
+            return refused(Refusal::AlreadyStarted);
+        }
+        (Reply::Started, Orders::ResetUnkept)
+    }
+
+    /// The answer to a begin of a boot.
+    #[inline(always)]
+    pub(crate) fn answer_begin(&self, id: NodeId) -> (Reply, Orders)
+        requires { self.now.state.begun < 2 ^ 64 - 1 }
+        ensures { (result.0, result.1)
+            ≡ answer_from (listing_in self.now) (seen_by self.now id) (Call.Begin id) }
+    {
+        if self.state.phase.is_idle() || self.state.phase.is_halted() {
+            return refused(Refusal::NotStarted);
+        }
+        if !self.listing.is_listed(id.get()) {
+            return refused(Refusal::NotListed);
+        }
+        if self.state.slaves.session(id).is_some() {
+            return refused(Refusal::HasSession);
+        }
+        if self.state.slaves.booted(id) {
+            return refused(Refusal::AlreadyBooted);
+        }
+        (Reply::Begun(self.state.begun + 1), Orders::None)
+    }
+
+    /// Whether all slaves are to be started at once, where `none_open` says that none is open.
+    #[inline(always)]
+    fn starts_every(&self, none_open: bool) -> bool
+        ensures { (open_slaves : List ℕ) → none_open ≡ is_empty open_slaves
+            → result ≡ starts_every (listing_in self.now) self.now.state.phase open_slaves }
+    {
+        self.state.phase.is_booting()
+            && none_open
+            && self.listing.starts_all_at_once()
+            && !self.listing.leaves_operational_to_application()
+            && !self.listing.starts_no_slave()
+    }
+
+    /// Whether the slave is to be started alone.
+    #[inline(always)]
+    fn starts_one(&self, id: NodeId, status: Status) -> bool
+        ensures { result ≡ starts_one (listing_in self.now) self.now.state.own id status }
+    {
+        status.is_ok()
+            && self.listing.is_to_be_booted(id)
+            && !self.listing.starts_no_slave()
+            && (!self.listing.starts_all_at_once() || self.state.own == NmtState::Operational)
+    }
+
+    /// The orders of a report.
+    #[inline(always)]
+    fn report_orders(&self, id: NodeId, status: Status) -> Orders
+        ensures { result
+            ≡ report_orders (listing_in self.now) self.now.state.phase self.now.state.own
+            (open_less (open_in self.now) id status) id status }
+    {
+        if self.state.phase.is_halted() {
+            return Orders::None;
+        }
+        if self.state.phase.is_booting() && is_fatal(&self.listing, id, status) {
+            return Orders::None;
+        }
+        let none_left = self.none_left(id, status);
+        if self.starts_every(none_left) {
+            return Orders::to_every(Command::Start);
+        }
+        if self.starts_one(id, status) {
+            return Orders::to_node(Command::Start, id);
+        }
+        Orders::None
+    }
+
+    /// The answer to a report of a boot.
+    #[inline(always)]
+    pub(crate) fn answer_report(
+        &self,
+        id: NodeId,
+        number: u64,
+        answers: &Answers,
+    ) -> (Reply, Orders)
+        ensures { (result.0, result.1)
+            ≡ answer_from (listing_in self.now) (seen_by self.now id)
+            (Call.Report id number answers.now) }
+    {
+        if self.state.phase.is_idle() {
+            return refused(Refusal::NotStarted);
+        }
+        if !self.listing.is_listed(id.get()) {
+            return refused(Refusal::NotListed);
+        }
+        if self.state.slaves.session(id) != Some(number) {
+            return refused(Refusal::OtherSession);
+        }
+        match judged_by_tables(self.listing.terms(id.get()), answers) {
+            Some(status) => (Reply::Reported(status), self.report_orders(id, status)),
+            None => refused(Refusal::NoSuchBoot),
+        }
+    }
+
+    /// The answer to an error control message.
+    #[inline(always)]
+    pub(crate) fn answer_signal(&self, id: NodeId, byte: u8) -> (Reply, Orders)
+        ensures { (result.0, result.1)
+            ≡ answer_from (listing_in self.now) (seen_by self.now id) (Call.Signal id byte) }
+    {
+        if self.state.phase.is_idle() {
+            return refused(Refusal::NotStarted);
+        }
+        if !self.listing.is_listed(id.get()) {
+            return refused(Refusal::NotListed);
+        }
+        match Signal::read(byte) {
+            Some(Signal::BootUp) => (Reply::BootAgain, Orders::None),
+            Some(Signal::State(_)) => (Reply::Noted, Orders::None),
+            None => refused(Refusal::NoSignal),
+        }
+    }
+
+    /// The orders of the error handler, where a booted slave is lost.
+    #[inline(always)]
+    fn lost_orders(&self, id: NodeId) -> Orders
+        ensures { result ≡ lost_orders (listing_in self.now) id }
+    {
+        let mandatory = self.listing.is_mandatory(id);
+        if mandatory && self.listing.stops_all_on_error() {
+            return Orders::to_every(Command::Stop);
+        }
+        if mandatory && self.listing.resets_all_on_error() {
+            return Orders::to_every(Command::ResetNode);
+        }
+        Orders::to_node(Command::ResetNode, id)
+    }
+
+    /// The answer to a loss.
+    #[inline(always)]
+    pub(crate) fn answer_lost(&self, id: NodeId) -> (Reply, Orders)
+        ensures { (result.0, result.1)
+            ≡ answer_from (listing_in self.now) (seen_by self.now id) (Call.Lost id) }
+    {
+        if self.state.phase.is_idle() {
+            return refused(Refusal::NotStarted);
+        }
+        if !self.listing.is_listed(id.get()) {
+            return refused(Refusal::NotListed);
+        }
+        if self.state.slaves.booted(id) {
+            (Reply::Handled, self.lost_orders(id))
+        } else {
+            (Reply::Noted, Orders::None)
+        }
+    }
+
+    /// The answer to a request.
+    #[inline(always)]
+    pub(crate) fn answer_request(&self, target: u8, value: u8) -> (Reply, Orders)
+        ensures { (result.0, result.1)
+            ≡ answer_from (listing_in self.now) (seen_by self.now target)
+            (Call.Request target value) }
+    {
+        if self.state.phase.is_idle() {
+            return refused(Refusal::NotStarted);
+        }
+        if target == 0 || ALL_NODES < target {
+            return refused(Refusal::NoTarget);
+        }
+        let Some(command) = Command::of_request(value) else {
+            return refused(Refusal::NoValue);
+        };
+        let to_own = target == self.listing.own_id().get();
+        let to_self_or_all = to_own || target == ALL_NODES;
+        if !to_self_or_all && !self.listing.is_listed(target) {
+            return refused(Refusal::NotListed);
+        }
+        if command == Command::Start && to_self_or_all && !self.none_open() {
+            return refused(Refusal::OpenSlave);
+        }
+        if to_own && is_reset(command) {
+            return refused(Refusal::OwnReset);
+        }
+        (Reply::Done, request_orders(to_own, target, command))
+    }
+
+    /// The answer to a read.
+    #[inline(always)]
+    pub(crate) fn answer_read(&self, target: u8) -> (Reply, Orders)
+        ensures { (result.0, result.1)
+            ≡ answer_from (listing_in self.now) (seen_by self.now target) (Call.Read target) }
+    {
+        if self.state.phase.is_idle() {
+            return refused(Refusal::NotStarted);
+        }
+        match NodeId::new(target) {
+            Some(id) => (Reply::State(self.state.shown(id)), Orders::None),
+            None => refused(Refusal::NoTarget),
+        }
+    }
+
+    /// Whether the time for the mandatory slaves is up.
+    #[inline(always)]
+    fn is_late(&self, ms: u32) -> bool
+        ensures { result
+            ≡ is_late (listing_in self.now) self.now.state.phase (open_in self.now) ms }
+    {
+        let limit = self.listing.boot_time();
+        let booting = self.state.phase.is_booting();
+        booting && limit != 0 && limit < ms && !self.none_open()
+    }
+
+    /// The answer to a passing of time.
+    #[inline(always)]
+    pub(crate) fn answer_elapsed(&self, ms: u32) -> (Reply, Orders)
+        ensures { (result.0, result.1)
+            ≡ answer_from (listing_in self.now) (seen_by self.now 0) (Call.Elapsed ms) }
+    {
+        if self.state.phase.is_idle() {
+            return refused(Refusal::NotStarted);
+        }
+        if self.is_late(ms) {
+            return (Reply::TimeUp, Orders::None);
+        }
+        let none_open = self.none_open();
+        if self.starts_every(none_open) {
+            return (Reply::InTime, Orders::to_every(Command::Start));
+        }
+        (Reply::InTime, Orders::None)
+    }
+}

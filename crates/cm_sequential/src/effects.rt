@@ -1,0 +1,301 @@
+ghost use Rattle.std.specs.Prelude.{◌≡◌, ◌<◌, ◌≤◌, ◌+◌, ◌-◌, ◌^◌, ℕ, true, false, None, Some, if◌then◌else◌, unwrap_or, IsTrue};
+ghost use Rattle.cm_nmt.specs.Codes.{command_of_request, state_of_code};
+ghost use Rattle.cm_objects.specs.Listing.{is_listed};
+ghost use Rattle.cm_answers.specs.Status.{is_good};
+ghost use Rattle.cm_history.specs.Orders.{is_reset, is_reset_all, is_stop_all, to_all, to_every, to_node};
+ghost use Rattle.cm_history.specs.History.{becomes_operational, is_empty, is_fatal, is_granted, state_reported};
+ghost use Rattle.cm_history.specs.Machine.{after, answer_in, phase_then};
+ghost use Rattle.cm_sequential.specs.NodeSets.{members_of};
+ghost use Rattle.cm_sequential.specs.States.{kept_listing};
+ghost use Rattle.cm_sequential.specs.Kept.{machine, Fits, Goes, IsGranted};
+
+use crate::listing_copy::ListingCopy;
+use crate::slaves::SlaveTable;
+use crate::state::NetworkState;
+use cm_answers::{Answers, Status};
+use cm_history::{ALL_NODES, Call, MISSING, Orders, Phase, Reply, state_reported};
+use cm_nmt::{Command, NmtState, NodeId};
+
+/// Whether the status halts the boot of the network.
+#[inline(always)]
+pub fn is_fatal(listing: &ListingCopy, id: NodeId, status: Status) -> bool
+    ensures { result ≡ is_fatal (kept_listing listing.now) id status }
+{
+    listing.is_mandatory(id) && !(status.is_good() || status.is_retried())
+}
+
+/// Whether the command is one of the two resets.
+#[inline(always)]
+pub fn is_reset(command: Command) -> bool
+    ensures { result ≡ is_reset command }
+{
+    matches!(command, Command::ResetNode | Command::ResetComm)
+}
+
+// What a granted call makes of the state. Each function goes on as the machine of cm_history does.
+impl NetworkState {
+    /// The readiness test, or a failure that ends the boot of the network.
+    #[inline(always)]
+    fn settle(&mut self, listing: &ListingCopy, failed: bool)
+        ensures phase { self.new.phase ≡ phase_then self.old.phase
+            (if failed then Some Phase.Halted
+            else (if is_empty (members_of self.old.slaves.open) then Some Phase.Ready else None)) }
+        ensures own { self.new.own ≡ unwrap_or (becomes_operational (kept_listing listing.now)
+            self.old.phase self.new.phase) self.old.own }
+        ensures slaves { self.new.slaves ≡ self.old.slaves }
+        ensures begun { self.new.begun ≡ self.old.begun }
+        ensures own_id { self.new.own_id ≡ self.old.own_id }
+    {
+        if !self.phase.is_booting() {
+            return;
+        }
+        if failed {
+            self.phase = Phase::Halted;
+        } else if self.slaves.none_open() {
+            self.phase = Phase::Ready;
+            if !listing.leaves_operational_to_application() {
+                self.own = NmtState::Operational;
+            }
+        }
+    }
+
+    /// The network is started: every slave is cleared, and its state unknown.
+    fn start(&mut self, listing: &ListingCopy)
+        requires { Fits (kept_listing listing.now) self.old }
+        ensures { Goes (kept_listing listing.now) self.old Call.StartNetwork Reply.Started
+            Orders.ResetUnkept self.new }
+    {
+        self.phase = Phase::Booting;
+        self.own = NmtState::PreOperational;
+        self.slaves = SlaveTable::blank(listing);
+    }
+
+    /// The boot of a slave begins.
+    #[inline(always)]
+    fn begin(&mut self, listing: &ListingCopy, id: NodeId)
+        requires few { self.old.begun < 2 ^ 64 - 1 }
+        requires fits { Fits (kept_listing listing.now) self.old }
+        ensures { Goes (kept_listing listing.now) self.old (Call.Begin id)
+            (Reply.Begun (self.old.begun + 1)) Orders.None self.new }
+    {
+        self.begun += 1;
+        self.slaves.begin(id, self.begun);
+    }
+
+    /// A boot ended with this status, and led to these orders.
+    #[inline(always)]
+    fn report(
+        &mut self,
+        listing: &ListingCopy,
+        id: NodeId,
+        status: Status,
+        answers: &Answers,
+        orders: &Orders,
+    )
+        requires listed { IsTrue (is_listed (kept_listing listing.now) id) }
+        requires fits { Fits (kept_listing listing.now) self.old }
+        ensures { (number : ℕ) → Goes (kept_listing listing.now) self.old
+            (Call.Report id number answers.now) (Reply.Reported status) orders.now self.new }
+    {
+        let left = if orders.is_start_of(id) {
+            Command::Start.state_left()
+        } else {
+            state_reported(status, answers)
+        };
+        self.slaves.end_boot(id, status.is_good(), left);
+        self.slaves.obey(orders.to_all());
+        self.settle(listing, is_fatal(listing, id, status));
+    }
+
+    /// A slave sent its boot-up message.
+    fn boot_up(&mut self, listing: &ListingCopy, id: NodeId)
+        requires listed { IsTrue (is_listed (kept_listing listing.now) id) }
+        requires fits { Fits (kept_listing listing.now) self.old }
+        ensures { (byte : ℕ) → Goes (kept_listing listing.now) self.old (Call.Signal id byte)
+            Reply.BootAgain Orders.None self.new }
+    {
+        let state = NmtState::PreOperational;
+        self.slaves.clear(listing, id, state.code());
+    }
+
+    /// A slave sent its state.
+    #[inline(always)]
+    fn note(&mut self, listing: &ListingCopy, id: NodeId, byte: u8)
+        requires listed { IsTrue (is_listed (kept_listing listing.now) id) }
+        requires fits { Fits (kept_listing listing.now) self.old }
+        ensures { Goes (kept_listing listing.now) self.old (Call.Signal id byte) Reply.Noted
+            Orders.None self.new }
+    {
+        self.slaves.set_state(id, byte % 128);
+    }
+
+    /// A booted slave is lost, and the error handler gave these orders.
+    fn lose(&mut self, listing: &ListingCopy, id: NodeId, orders: &Orders)
+        requires listed { IsTrue (is_listed (kept_listing listing.now) id) }
+        requires fits { Fits (kept_listing listing.now) self.old }
+        ensures { Goes (kept_listing listing.now) self.old (Call.Lost id) Reply.Handled orders.now
+            self.new }
+    {
+        if orders.is_reset_all() {
+            self.slaves.clear_all(listing);
+        }
+        self.slaves.clear(listing, id, MISSING);
+        if orders.is_stop_all() {
+            self.own = NmtState::Stopped;
+        }
+        self.slaves.obey(orders.to_all());
+    }
+
+    /// A slave that isn't booted is lost.
+    fn miss(&mut self, listing: &ListingCopy, id: NodeId)
+        requires listed { IsTrue (is_listed (kept_listing listing.now) id) }
+        requires fits { Fits (kept_listing listing.now) self.old }
+        ensures { Goes (kept_listing listing.now) self.old (Call.Lost id) Reply.Noted Orders.None
+            self.new }
+    {
+        self.slaves.set_state(id, MISSING);
+    }
+
+    /// A request to the manager itself.
+    fn request_own(&mut self, listing: &ListingCopy, state: NmtState)
+        requires fits { Fits (kept_listing listing.now) self.old }
+        ensures { (value : ℕ) → state_of_code value ≡ Some state
+            → Goes (kept_listing listing.now) self.old
+            (Call.Request (kept_listing listing.now).own value) Reply.Done Orders.None self.new }
+    {
+        self.own = state;
+    }
+
+    /// A request to all nodes.
+    fn request_all(&mut self, listing: &ListingCopy, command: Command)
+        requires fits { Fits (kept_listing listing.now) self.old }
+        ensures { (value : ℕ) → command_of_request value ≡ Some command
+            → Goes (kept_listing listing.now) self.old (Call.Request 128 value) Reply.Done
+            (to_every command) self.new }
+    {
+        match NmtState::from_code(command.state_left()) {
+            Some(state) => self.own = state,
+            None => self.slaves.clear_all(listing),
+        }
+        self.slaves.obey(Some(command));
+    }
+
+    /// A request to a slave.
+    #[inline(always)]
+    fn request_one(&mut self, listing: &ListingCopy, id: NodeId, command: Command)
+        requires listed { IsTrue (is_listed (kept_listing listing.now) id) }
+        requires fits { Fits (kept_listing listing.now) self.old }
+        ensures { (value : ℕ) → command_of_request value ≡ Some command
+            → Goes (kept_listing listing.now) self.old (Call.Request id value) Reply.Done
+            (to_node command id) self.new }
+    {
+        if is_reset(command) {
+            self.slaves.clear(listing, id, command.state_left());
+        } else {
+            self.slaves.set_state(id, command.state_left());
+        }
+    }
+
+    /// A request is carried out.
+    #[inline(always)]
+    fn request(&mut self, listing: &ListingCopy, target: u8, value: u8, orders: &Orders)
+        requires fits { Fits (kept_listing listing.now) self.old }
+        requires answered { IsGranted (kept_listing listing.now) self.old (Call.Request target value)
+            Reply.Done orders.now }
+        ensures { Goes (kept_listing listing.now) self.old (Call.Request target value) Reply.Done
+            orders.now self.new }
+    {
+        let Some(command) = Command::of_request(value) else {
+            unreachable!()
+        };
+        if target == listing.own_id().get() {
+            if let Some(state) = NmtState::from_code(value) {
+                self.request_own(listing, state);
+            }
+            return;
+        }
+        match NodeId::new(target) {
+            Some(id) => self.request_one(listing, id, command),
+            None => self.request_all(listing, command),
+        }
+    }
+
+    /// The time was up.
+    fn time_up(&mut self, listing: &ListingCopy)
+        requires fits { Fits (kept_listing listing.now) self.old }
+        ensures { (ms : ℕ) → Goes (kept_listing listing.now) self.old (Call.Elapsed ms)
+            Reply.TimeUp Orders.None self.new }
+    {
+        self.settle(listing, true);
+    }
+
+    /// The time wasn't up, and led to these orders.
+    #[inline(always)]
+    fn in_time(&mut self, listing: &ListingCopy, orders: &Orders)
+        requires fits { Fits (kept_listing listing.now) self.old }
+        ensures { (ms : ℕ) → Goes (kept_listing listing.now) self.old (Call.Elapsed ms)
+            Reply.InTime orders.now self.new }
+    {
+        self.slaves.obey(orders.to_all());
+        self.settle(listing, false);
+    }
+
+    /// Carries out a call that was granted with this reply and these orders.
+    #[inline(always)]
+    fn carry_out_granted(
+        &mut self,
+        listing: &ListingCopy,
+        call: &Call,
+        reply: Reply,
+        orders: &Orders,
+    )
+        requires few { self.old.begun < 2 ^ 64 - 1 }
+        requires fits { Fits (kept_listing listing.now) self.old }
+        requires answered { IsGranted (kept_listing listing.now) self.old call.now reply orders.now }
+        ensures { Goes (kept_listing listing.now) self.old call.now reply orders.now self.new }
+    {
+        match call {
+            Call::StartNetwork => self.start(listing),
+            Call::Begin(id) => self.begin(listing, *id),
+            Call::Report(id, _number, answers) => match reply {
+                Reply::Reported(status) => self.report(listing, *id, status, answers, orders),
+                _ => unreachable!(),
+            },
+            Call::Signal(id, byte) => match reply {
+                Reply::BootAgain => self.boot_up(listing, *id),
+                _ => self.note(listing, *id, *byte),
+            },
+            Call::Lost(id) => match reply {
+                Reply::Handled => self.lose(listing, *id, orders),
+                _ => self.miss(listing, *id),
+            },
+            Call::Request(target, value) => self.request(listing, *target, *value, orders),
+            Call::Read(_target) => {}
+            Call::Elapsed(_ms) => match reply {
+                Reply::TimeUp => self.time_up(listing),
+                _ => self.in_time(listing, orders),
+            },
+        }
+    }
+
+    /// Carries out a call with this answer; a refused call changes nothing.
+    #[inline(always)]
+    pub(crate) fn carry_out(
+        &mut self,
+        listing: &ListingCopy,
+        call: &Call,
+        reply: Reply,
+        orders: &Orders,
+    )
+        requires few { self.old.begun < 2 ^ 64 - 1 }
+        requires fits { Fits (kept_listing listing.now) self.old }
+        requires answered { (reply, orders.now)
+            ≡ answer_in (kept_listing listing.now) (machine self.old) call.now }
+        ensures goes { Goes (kept_listing listing.now) self.old call.now reply orders.now self.new }
+        ensures refused { (number : ℕ) → reply ≡ Reply.Refused number → self.new ≡ self.old }
+    {
+        if !matches!(reply, Reply::Refused(_)) {
+            self.carry_out_granted(listing, call, reply, orders);
+        }
+    }
+}
