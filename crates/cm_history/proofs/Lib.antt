@@ -1,2 +1,3 @@
 pub mod OpenSlaves
 pub mod PhaseSteps
+pub mod Runs

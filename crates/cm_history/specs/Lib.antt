@@ -4,3 +4,4 @@ pub mod History
 pub mod Answering
 pub mod Legal
 pub mod Frames
+pub mod Machine

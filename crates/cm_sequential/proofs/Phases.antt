@@ -18,7 +18,7 @@ use Rattle.cm_answers.specs.Status.{is_good}
 use Rattle.cm_history.specs.Answering.{open_less}
 use Rattle.cm_sequential.specs.Steps.{settled_phase}
 use Rattle.cm_history.proofs.OpenSlaves.{filter_twice}
-use Rattle.cm_history.proofs.PhaseSteps.{phase_then}
+use Rattle.cm_history.specs.Machine.{phase_then}
 
 -- an entry that decides nothing leaves the phase
 pub phase_same : (p : Phase) → phase_then p None ≡ p

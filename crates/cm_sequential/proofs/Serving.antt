@@ -41,7 +41,7 @@ use Rattle.cm_sequential.proofs.Signals.{code_of_signal}
 use Rattle.cm_sequential.proofs.Listings.{own_unlisted}
 use Rattle.cm_sequential.proofs.Phases.{phase_same, own_same, phase_settled}
 use Rattle.cm_history.proofs.OpenSlaves.{open_after_report}
-use Rattle.cm_history.proofs.PhaseSteps.{phase_then}
+use Rattle.cm_history.specs.Machine.{phase_then}
 use Rattle.cm_sequential.proofs.Stepped.{Agrees, agrees_from, answer_is, own_stepped, phase_stepped, seen_stepped, stands_from}
 
 entry : ℕ → Call → Reply → Orders → Entry

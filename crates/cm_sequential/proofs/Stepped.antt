@@ -13,7 +13,8 @@ use Rattle.cm_history.specs.declared.call.Entry.{Entry}
 use Rattle.cm_history.specs.declared.phase.Phase.{Phase}
 use Rattle.cm_history.specs.declared.phase.Phase.TheVariants as phase
 use Rattle.cm_history.specs.declared.slave.Slave.{Slave}
-use Rattle.cm_history.proofs.PhaseSteps.{phase_then, phase_more}
+use Rattle.cm_history.specs.Machine.{phase_then}
+use Rattle.cm_history.proofs.PhaseSteps.{phase_more}
 use Rattle.cm_sequential.specs.Kept.{kept_at}
 use Rattle.cm_sequential.specs.Steps.{Keeps}
 use Rattle.cm_sequential.specs.Standing.{Stands}
