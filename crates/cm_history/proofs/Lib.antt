@@ -1,2 +1,4 @@
 pub mod OpenSlaves
 pub mod PhaseSteps
+pub mod Runs
+pub mod Refused

@@ -1,5 +1,5 @@
 -- The phase that a history says, one entry later.
-use Rattle.std.proofs.Common.{◌≡◌, ℕ, List, [], ◌∷◌, refl, ap, sym, ◌∙◌, cond, Bool, true, false, ◌||◌, Option, Some, None}
+use Rattle.std.proofs.Common.{◌≡◌, ℕ, List, [], ◌∷◌, refl, cond, Bool, true, false, ◌||◌, Option, Some, None}
 use Rattle.std.specs.Prelude.{unwrap_or}
 use Rattle.std.specs.Option.{option_or}
 use Rattle.cm_objects.specs.Listing.{Listing}
@@ -11,15 +11,8 @@ use Rattle.cm_history.specs.declared.call.Entry.{Entry}
 use Rattle.cm_history.specs.declared.phase.Phase.{Phase}
 use Rattle.cm_history.specs.declared.phase.Phase.TheVariants as phase
 use Rattle.cm_history.specs.History.{decides_by, first_decided, is_empty, is_fatal, is_start_by, is_started, open_of, phase_of}
+use Rattle.cm_history.specs.Machine.{phase_then}
 use Rattle.cm_history.specs.Phases.{is_halted, is_ready}
-
--- what an entry makes of a phase: the first one that decides after a start gives it
-abbrev pub phase_then : Phase → Option Phase → Phase
-phase_then phase.Booting (Some p) = p
-phase_then phase.Booting None = phase.Booting
-phase_then phase.Idle d = phase.Idle
-phase_then phase.Ready d = phase.Ready
-phase_then phase.Halted d = phase.Halted
 
 chosen_last : (fatal ready : Bool) (p : Phase) → cond fatal (Some phase.Halted) (cond ready (Some phase.Ready) None) ≡ Some p → (is_ready p || is_halted p) ≡ true
 chosen_last true ready phase.Halted e = refl

@@ -35,7 +35,8 @@ use Rattle.cm_history.proofs.OpenSlaves.{open_after_report}
 use Rattle.cm_laws.specs.Laws.{AtEach, StandsSince, ShowsIdentity, IsAllThere, BecomesOperationalRightly}
 use Rattle.cm_laws.proofs.Identity.{judged_identity}
 use Rattle.cm_laws.proofs.Started.{report_cases}
-use Rattle.cm_history.proofs.PhaseSteps.{phase_then, phase_more}
+use Rattle.cm_history.specs.Machine.{phase_then}
+use Rattle.cm_history.proofs.PhaseSteps.{phase_more}
 
 abbrev entry : ℕ → Call → Reply × Orders → Entry
 entry seat c p = record { seat = seat; call = c; reply = p.0; orders = p.1 }

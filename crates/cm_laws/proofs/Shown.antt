@@ -1,16 +1,15 @@
 -- What a read is answered with.
-use Rattle.std.proofs.Common.{◌≡◌, ℕ, List, refl, ap, ◌∙◌, cond, Bool, true, false, Option, Some, None}
+use Rattle.std.proofs.Common.{◌≡◌, ℕ, List, refl, ap, cond, Bool, true, false, Option, Some, None}
 use Rattle.std.specs.Prelude.{IsTrue, ◌==◌}
 use Rattle.cm_nmt.specs.Codes.{state_code}
 use Rattle.cm_objects.specs.Listing.{Listing, is_listed}
-use Rattle.cm_history.specs.History.{is_granted, is_booted, own_of, session_of, shown, state_of}
-use Rattle.cm_history.specs.Answering.{answer_of, blank_slave, first_refusal, granted_answer, refusals, refused_or, seen_of, slave_of}
+use Rattle.cm_history.specs.History.{is_granted, own_of, shown, state_of}
+use Rattle.cm_history.specs.Answering.{blank_slave, first_refusal, granted_answer, refusals, refused_or, seen_of, slave_of}
 use Rattle.cm_history.specs.declared.call.Call.TheVariants as call
 use Rattle.cm_history.specs.declared.call.Reply.{Reply}
 use Rattle.cm_history.specs.declared.call.Reply.TheVariants as reply
 use Rattle.cm_history.specs.declared.call.Orders.{Orders}
 use Rattle.cm_history.specs.declared.call.Entry.{Entry}
-use Rattle.cm_history.specs.declared.slave.Slave.{Slave}
 use Rattle.cm_laws.specs.Laws.{ReadsShow}
 
 granted_shows : (q : Option ℕ) (granted : Reply × Orders) (n : ℕ) → granted.0 ≡ reply.State n → IsTrue (is_granted (refused_or q granted).0) → (refused_or q granted).0 ≡ reply.State n

@@ -1,5 +1,6 @@
 ghost use Rattle.std.specs.Prelude.{ℕ, List};
 ghost use Rattle.cm_history.specs.Legal.{IsLegal};
+ghost use Rattle.cm_history.specs.Machine.{ListsNodes, ShowsItsHistory};
 ghost use Rattle.cm_objects.specs.Listing.{Listing};
 ghost use Rattle.cm_history.specs.declared.call.Entry.{Entry as AnEntry};
 ghost use Rattle.cm_laws.specs.Laws.{AtEach, BecomesOperationalRightly, ReadsShow, StartsRightly};
@@ -26,4 +27,14 @@ pub fn network_becomes_operational_rightly()
 /// history shows of the node.
 pub fn reads_show()
     ensures law { (net : Listing) (past : List AnEntry) (node : ℕ) → ReadsShow net past node }
+{}
+
+/// A law of legal histories, over the definitions alone: the machine by which the manager is
+/// programmed shows its history. Run over the calls of a legal history of a network that lists only
+/// node-IDs, it keeps, after each of them, what the definitions look back for: the phase, the own
+/// state, how many sessions were begun, each slave, and the open slaves. And it answers each next
+/// call as the tables answer it after that history.
+pub fn machine_shows_its_history()
+    ensures law { (net : Listing) (past : List AnEntry) → ListsNodes net → IsLegal net past
+        → ShowsItsHistory net past }
 {}

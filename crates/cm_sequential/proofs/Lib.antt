@@ -1,2 +1,7 @@
+pub mod NodeSets
 pub mod Listings
 pub mod Resets
+pub mod Changes
+pub mod Going
+pub mod Standing
+pub mod Granting

@@ -2,10 +2,12 @@
 -- What the manager keeps, as the machine of cm_history, and what a change of its table does to each slave.
 use Rattle.std.specs.Prelude.{◌≡◌, ◌<◌, ℕ, Bool, false, ◌==◌, ◌&&◌, ◌||◌, not, if◌then◌else◌, Option, Some, None}
 use Rattle.std.specs.List.{slice_index_or}
+use Rattle.cm_nmt.specs.Codes.{state_left}
 use Rattle.cm_nmt.specs.declared.command.Command.{Command}
 use Rattle.cm_nmt.specs.declared.state.NmtState.{NmtState}
 use Rattle.cm_objects.specs.Listing.{Listing, is_listed, is_mandatory}
-use Rattle.cm_history.specs.Machine.{Machine, after, obeyed, of_nodes, seen_in}
+use Rattle.cm_history.specs.Orders.{is_reset}
+use Rattle.cm_history.specs.Machine.{ListsNodes, Machine, after, obeyed, of_nodes, seen_in}
 use Rattle.cm_history.specs.Answering.{first_refusal, granted_answer, node_named, refusals}
 use Rattle.cm_history.specs.declared.call.Call.{Call}
 use Rattle.cm_history.specs.declared.call.Reply.{Reply}
@@ -24,13 +26,14 @@ machine s = record { phase = s.phase; own = s.own; begun = s.begun; slaves = of_
 
 -- the open slaves are the mandatory ones that aren't booted
 abbrev pub IsCounted : Listing → SlaveTable → Type 0
-IsCounted net t = (i : ℕ) → i < 128 → has t.open i ≡ (is_mandatory net i && not (has t.booted i))
+IsCounted net t = (i : ℕ) → i < 128 → has t.unbooted i ≡ (is_mandatory net i && not (has t.booted i))
 
--- the state is one of this listing: the own node-ID is the listing's and isn't a slave's, the open slaves are counted,
--- and what isn't listed has no state
+-- the state is one of this listing: the own node-ID is the listing's and isn't a slave's, no number above 127 is listed,
+-- the open slaves are counted, and what isn't listed has no state
 pub record Fits (net : Listing) (s : NetworkState) : Type 0 where
   pub own_id : s.own_id ≡ net.own
   pub own_unlisted : is_listed net net.own ≡ false
+  pub nodes : ListsNodes net
   pub counted : IsCounted net s.slaves
   pub unlisted : (i : ℕ) → i < 128 → is_listed net i ≡ false → (kept_slave s.slaves i).state ≡ 0
 
@@ -65,6 +68,10 @@ cleared slave = record slave { booted = false; session = None }
 -- a slave after a command to all, where there is one
 abbrev pub obeying : Option Command → Slave → Slave
 obeying c slave = record slave { state = obeyed c slave.state }
+
+-- a slave after a command to it alone
+abbrev pub obeying_alone : Command → Slave → Slave
+obeying_alone c slave = if is_reset c then in_state (state_left c) (cleared slave) else in_state (state_left c) slave
 
 -- the slave of one node changed, the others left
 abbrev pub at_node : ℕ → (Slave → Slave) → (ℕ → Slave) → ℕ → Slave

@@ -1,12 +1,14 @@
 ghost use Rattle.std.specs.Prelude.{◌≡◌, ◌<◌, ◌≤◌, ◌==◌, ◌^◌, ◌-◌, ℕ, List, Some};
 ghost use Rattle.cm_history.specs.History.{is_empty};
+ghost use Rattle.cm_history.specs.declared.call.Call.TheVariants as call;
 ghost use Rattle.cm_history.specs.Answering.{answer_from, is_late, lost_orders, open_less, refusal_number, report_orders, request_orders, starts_every, starts_one};
-ghost use Rattle.cm_sequential.specs.Standing.{listing_in, open_in, seen_by};
+ghost use Rattle.cm_sequential.specs.Standing.{listing_in, open_in, seen_by, IsAnswer};
 
-use crate::effects::{is_fatal, is_reset};
+use crate::effects::is_fatal;
 use crate::manager::Manager;
+use crate::slaves::is_reset;
 use cm_answers::{Answers, Status, judged_by_tables};
-use cm_history::{ALL_NODES, Orders, Refusal, Reply};
+use cm_history::{ALL_NODES, Call, Orders, Refusal, Reply};
 use cm_nmt::{Command, NmtState, NodeId, Signal};
 
 /// A refused call has no orders.
@@ -58,9 +60,9 @@ impl Manager {
     }
 
     /// The answer to a start of the network.
-    pub(crate) fn answer_start(&self) -> (Reply, Orders)
+    fn answer_start(&self) -> (Reply, Orders)
         ensures { (result.0, result.1)
-            ≡ answer_from (listing_in self.now) (seen_by self.now 0) Call.StartNetwork }
+            ≡ answer_from (listing_in self.now) (seen_by self.now 0) call.StartNetwork }
     {
         if !self.listing.is_master() {
             return refused(Refusal::NotMaster);
@@ -73,10 +75,10 @@ impl Manager {
 
     /// The answer to a begin of a boot.
     #[inline(always)]
-    pub(crate) fn answer_begin(&self, id: NodeId) -> (Reply, Orders)
+    fn answer_begin(&self, id: NodeId) -> (Reply, Orders)
         requires { self.now.state.begun < 2 ^ 64 - 1 }
         ensures { (result.0, result.1)
-            ≡ answer_from (listing_in self.now) (seen_by self.now id) (Call.Begin id) }
+            ≡ answer_from (listing_in self.now) (seen_by self.now id) (call.Begin id) }
     {
         if self.state.phase.is_idle() || self.state.phase.is_halted() {
             return refused(Refusal::NotStarted);
@@ -142,7 +144,7 @@ impl Manager {
 
     /// The answer to a report of a boot.
     #[inline(always)]
-    pub(crate) fn answer_report(
+    fn answer_report(
         &self,
         id: NodeId,
         number: u64,
@@ -150,7 +152,7 @@ impl Manager {
     ) -> (Reply, Orders)
         ensures { (result.0, result.1)
             ≡ answer_from (listing_in self.now) (seen_by self.now id)
-            (Call.Report id number answers.now) }
+            (call.Report id number answers.now) }
     {
         if self.state.phase.is_idle() {
             return refused(Refusal::NotStarted);
@@ -169,9 +171,9 @@ impl Manager {
 
     /// The answer to an error control message.
     #[inline(always)]
-    pub(crate) fn answer_signal(&self, id: NodeId, byte: u8) -> (Reply, Orders)
+    fn answer_signal(&self, id: NodeId, byte: u8) -> (Reply, Orders)
         ensures { (result.0, result.1)
-            ≡ answer_from (listing_in self.now) (seen_by self.now id) (Call.Signal id byte) }
+            ≡ answer_from (listing_in self.now) (seen_by self.now id) (call.Signal id byte) }
     {
         if self.state.phase.is_idle() {
             return refused(Refusal::NotStarted);
@@ -203,9 +205,9 @@ impl Manager {
 
     /// The answer to a loss.
     #[inline(always)]
-    pub(crate) fn answer_lost(&self, id: NodeId) -> (Reply, Orders)
+    fn answer_lost(&self, id: NodeId) -> (Reply, Orders)
         ensures { (result.0, result.1)
-            ≡ answer_from (listing_in self.now) (seen_by self.now id) (Call.Lost id) }
+            ≡ answer_from (listing_in self.now) (seen_by self.now id) (call.Lost id) }
     {
         if self.state.phase.is_idle() {
             return refused(Refusal::NotStarted);
@@ -222,10 +224,10 @@ impl Manager {
 
     /// The answer to a request.
     #[inline(always)]
-    pub(crate) fn answer_request(&self, target: u8, value: u8) -> (Reply, Orders)
+    fn answer_request(&self, target: u8, value: u8) -> (Reply, Orders)
         ensures { (result.0, result.1)
             ≡ answer_from (listing_in self.now) (seen_by self.now target)
-            (Call.Request target value) }
+            (call.Request target value) }
     {
         if self.state.phase.is_idle() {
             return refused(Refusal::NotStarted);
@@ -252,9 +254,9 @@ impl Manager {
 
     /// The answer to a read.
     #[inline(always)]
-    pub(crate) fn answer_read(&self, target: u8) -> (Reply, Orders)
+    fn answer_read(&self, target: u8) -> (Reply, Orders)
         ensures { (result.0, result.1)
-            ≡ answer_from (listing_in self.now) (seen_by self.now target) (Call.Read target) }
+            ≡ answer_from (listing_in self.now) (seen_by self.now target) (call.Read target) }
     {
         if self.state.phase.is_idle() {
             return refused(Refusal::NotStarted);
@@ -278,9 +280,9 @@ impl Manager {
 
     /// The answer to a passing of time.
     #[inline(always)]
-    pub(crate) fn answer_elapsed(&self, ms: u32) -> (Reply, Orders)
+    fn answer_elapsed(&self, ms: u32) -> (Reply, Orders)
         ensures { (result.0, result.1)
-            ≡ answer_from (listing_in self.now) (seen_by self.now 0) (Call.Elapsed ms) }
+            ≡ answer_from (listing_in self.now) (seen_by self.now 0) (call.Elapsed ms) }
     {
         if self.state.phase.is_idle() {
             return refused(Refusal::NotStarted);
@@ -293,5 +295,23 @@ impl Manager {
             return (Reply::InTime, Orders::to_every(Command::Start));
         }
         (Reply::InTime, Orders::None)
+    }
+
+    /// The answer to a call.
+    #[inline(always)]
+    pub(crate) fn answer_by_tables(&self, call: &Call) -> (Reply, Orders)
+        requires { self.now.state.begun < 2 ^ 64 - 1 }
+        ensures { IsAnswer self.now call.now result.0 result.1 }
+    {
+        match call {
+            Call::StartNetwork => self.answer_start(),
+            Call::Begin(id) => self.answer_begin(*id),
+            Call::Report(id, number, answers) => self.answer_report(*id, *number, answers),
+            Call::Signal(id, byte) => self.answer_signal(*id, *byte),
+            Call::Lost(id) => self.answer_lost(*id),
+            Call::Request(target, value) => self.answer_request(*target, *value),
+            Call::Read(target) => self.answer_read(*target),
+            Call::Elapsed(ms) => self.answer_elapsed(*ms),
+        }
     }
 }

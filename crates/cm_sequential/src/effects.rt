@@ -1,16 +1,16 @@
 ghost use Rattle.std.specs.Prelude.{◌≡◌, ◌<◌, ◌≤◌, ◌+◌, ◌-◌, ◌^◌, ℕ, true, false, None, Some, if◌then◌else◌, unwrap_or, IsTrue};
-ghost use Rattle.cm_nmt.specs.Codes.{command_of_request, state_of_code};
+ghost use Rattle.cm_nmt.specs.Codes.{command_of_request, state_left, state_of_code};
 ghost use Rattle.cm_objects.specs.Listing.{is_listed};
 ghost use Rattle.cm_answers.specs.Status.{is_good};
-ghost use Rattle.cm_history.specs.Orders.{is_reset, is_reset_all, is_stop_all, to_all, to_every, to_node};
-ghost use Rattle.cm_history.specs.History.{becomes_operational, is_empty, is_fatal, is_granted, state_reported};
-ghost use Rattle.cm_history.specs.Machine.{after, answer_in, phase_then};
+ghost use Rattle.cm_history.specs.Orders.{is_start_of, is_stop_all, to_every, to_node};
+ghost use Rattle.cm_history.specs.History.{becomes_operational, is_empty, is_fatal, state_reported};
+ghost use Rattle.cm_history.specs.Machine.{phase_then};
 ghost use Rattle.cm_sequential.specs.NodeSets.{members_of};
 ghost use Rattle.cm_sequential.specs.States.{kept_listing};
-ghost use Rattle.cm_sequential.specs.Kept.{machine, Fits, Goes, IsGranted};
+ghost use Rattle.cm_sequential.specs.Kept.{Fits, Goes, IsGranted};
 
 use crate::listing_copy::ListingCopy;
-use crate::slaves::SlaveTable;
+use crate::slaves::{SlaveTable, is_reset};
 use crate::state::NetworkState;
 use cm_answers::{Answers, Status};
 use cm_history::{ALL_NODES, Call, MISSING, Orders, Phase, Reply, state_reported};
@@ -24,12 +24,38 @@ pub fn is_fatal(listing: &ListingCopy, id: NodeId, status: Status) -> bool
     listing.is_mandatory(id) && !(status.is_good() || status.is_retried())
 }
 
-/// Whether the command is one of the two resets.
+/// The state in which a boot leaves its slave, where its report led to these orders.
 #[inline(always)]
-pub fn is_reset(command: Command) -> bool
-    ensures { result ≡ is_reset command }
+fn state_left(id: NodeId, status: Status, answers: &Answers, orders: &Orders) -> u8
+    ensures { result ≡ (if is_start_of orders.now id then 5
+        else state_reported status answers.now) }
 {
-    matches!(command, Command::ResetNode | Command::ResetComm)
+    if orders.is_start_of(id) {
+        Command::Start.state_left()
+    } else {
+        state_reported(status, answers)
+    }
+}
+
+/// The manager's own state after a loss that led to these orders.
+#[inline(always)]
+fn own_after_loss(orders: &Orders, own: NmtState) -> NmtState
+    ensures { result ≡ unwrap_or (if is_stop_all orders.now then Some NmtState.Stopped else None)
+        own }
+{
+    if orders.is_stop_all() {
+        NmtState::Stopped
+    } else {
+        own
+    }
+}
+
+/// The manager's own state after a command to all nodes; a reset leaves it.
+#[inline(always)]
+fn own_obeying(command: Command, own: NmtState) -> NmtState
+    ensures { result ≡ unwrap_or (state_of_code (state_left command)) own }
+{
+    NmtState::from_code(command.state_left()).unwrap_or(own)
 }
 
 // What a granted call makes of the state. Each function goes on as the machine of cm_history does.
@@ -39,7 +65,7 @@ impl NetworkState {
     fn settle(&mut self, listing: &ListingCopy, failed: bool)
         ensures phase { self.new.phase ≡ phase_then self.old.phase
             (if failed then Some Phase.Halted
-            else (if is_empty (members_of self.old.slaves.open) then Some Phase.Ready else None)) }
+            else (if is_empty (members_of self.old.slaves.unbooted) then Some Phase.Ready else None)) }
         ensures own { self.new.own ≡ unwrap_or (becomes_operational (kept_listing listing.now)
             self.old.phase self.new.phase) self.old.own }
         ensures slaves { self.new.slaves ≡ self.old.slaves }
@@ -97,11 +123,7 @@ impl NetworkState {
         ensures { (number : ℕ) → Goes (kept_listing listing.now) self.old
             (Call.Report id number answers.now) (Reply.Reported status) orders.now self.new }
     {
-        let left = if orders.is_start_of(id) {
-            Command::Start.state_left()
-        } else {
-            state_reported(status, answers)
-        };
+        let left = state_left(id, status, answers, orders);
         self.slaves.end_boot(id, status.is_good(), left);
         self.slaves.obey(orders.to_all());
         self.settle(listing, is_fatal(listing, id, status));
@@ -136,13 +158,9 @@ impl NetworkState {
         ensures { Goes (kept_listing listing.now) self.old (Call.Lost id) Reply.Handled orders.now
             self.new }
     {
-        if orders.is_reset_all() {
-            self.slaves.clear_all(listing);
-        }
+        self.own = own_after_loss(orders, self.own);
+        self.slaves.clear_all(listing, orders.is_reset_all());
         self.slaves.clear(listing, id, MISSING);
-        if orders.is_stop_all() {
-            self.own = NmtState::Stopped;
-        }
         self.slaves.obey(orders.to_all());
     }
 
@@ -173,10 +191,8 @@ impl NetworkState {
             → Goes (kept_listing listing.now) self.old (Call.Request 128 value) Reply.Done
             (to_every command) self.new }
     {
-        match NmtState::from_code(command.state_left()) {
-            Some(state) => self.own = state,
-            None => self.slaves.clear_all(listing),
-        }
+        self.own = own_obeying(command, self.own);
+        self.slaves.clear_all(listing, is_reset(command));
         self.slaves.obey(Some(command));
     }
 
@@ -189,11 +205,7 @@ impl NetworkState {
             → Goes (kept_listing listing.now) self.old (Call.Request id value) Reply.Done
             (to_node command id) self.new }
     {
-        if is_reset(command) {
-            self.slaves.clear(listing, id, command.state_left());
-        } else {
-            self.slaves.set_state(id, command.state_left());
-        }
+        self.slaves.obey_alone(listing, id, command);
     }
 
     /// A request is carried out.
@@ -242,7 +254,7 @@ impl NetworkState {
 
     /// Carries out a call that was granted with this reply and these orders.
     #[inline(always)]
-    fn carry_out_granted(
+    pub(crate) fn carry_out(
         &mut self,
         listing: &ListingCopy,
         call: &Call,
@@ -275,27 +287,6 @@ impl NetworkState {
                 Reply::TimeUp => self.time_up(listing),
                 _ => self.in_time(listing, orders),
             },
-        }
-    }
-
-    /// Carries out a call with this answer; a refused call changes nothing.
-    #[inline(always)]
-    pub(crate) fn carry_out(
-        &mut self,
-        listing: &ListingCopy,
-        call: &Call,
-        reply: Reply,
-        orders: &Orders,
-    )
-        requires few { self.old.begun < 2 ^ 64 - 1 }
-        requires fits { Fits (kept_listing listing.now) self.old }
-        requires answered { (reply, orders.now)
-            ≡ answer_in (kept_listing listing.now) (machine self.old) call.now }
-        ensures goes { Goes (kept_listing listing.now) self.old call.now reply orders.now self.new }
-        ensures refused { (number : ℕ) → reply ≡ Reply.Refused number → self.new ≡ self.old }
-    {
-        if !matches!(reply, Reply::Refused(_)) {
-            self.carry_out_granted(listing, call, reply, orders);
         }
     }
 }

@@ -50,6 +50,7 @@ fn terms_by_node(net: &Network) -> [Option<Terms>; 128]
 fn mandatory_slaves(net: &Network) -> NodeSet
     ensures { (i : ℕ) → i < 128 → has result i ≡ is_mandatory (listing net.now) i }
 {
+    let _own = net.own_id();
     let mut slaves = NodeSet::empty();
     for node in 1..128u8 {
         if let Some(id) = NodeId::new(node) && net.mandatory(id) {

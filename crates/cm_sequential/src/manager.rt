@@ -44,16 +44,7 @@ impl Manager {
         ensures answer { (net : AnyNetwork) (past : List Entry) → Stands self.now net past
             → (result.0, result.1) ≡ answer_of (listing net) past call.now }
     {
-        match call {
-            Call::StartNetwork => self.answer_start(),
-            Call::Begin(id) => self.answer_begin(*id),
-            Call::Report(id, number, answers) => self.answer_report(*id, *number, answers),
-            Call::Signal(id, byte) => self.answer_signal(*id, *byte),
-            Call::Lost(id) => self.answer_lost(*id),
-            Call::Request(target, value) => self.answer_request(*target, *value),
-            Call::Read(target) => self.answer_read(*target),
-            Call::Elapsed(ms) => self.answer_elapsed(*ms),
-        }
+        self.answer_by_tables(call)
     }
 
     /// Carries out a call whose answer, by [`Manager::answer`], is this one; nothing is judged
@@ -69,7 +60,9 @@ impl Manager {
         ensures refused { (number : ℕ) → reply ≡ Reply.Refused number → self.new ≡ self.old }
         ensures begun { sessions_begun self.new ≤ sessions_begun self.old + 1 }
     {
-        self.state.carry_out(&self.listing, call, reply, orders);
+        if reply.is_granted() {
+            self.state.carry_out(&self.listing, call, reply, orders);
+        }
     }
 
     /// Answers a call. Where the manager stands for a history, the answer is that of the

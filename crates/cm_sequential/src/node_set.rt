@@ -1,22 +1,23 @@
-ghost use Rattle.std.specs.Prelude.{◌≡◌, ◌==◌, ◌&&◌, ◌||◌, not, false, ℕ, length, filter};
-ghost use Rattle.cm_objects.specs.Bits.{has_bit};
+ghost use Rattle.std.specs.Prelude.{◌≡◌, ◌==◌, false, not, ◌&&◌, ◌||◌, ℕ, filter, length};
+ghost use Rattle.std.specs.Int.{bit_at};
 ghost use Rattle.cm_objects.specs.Listing.{node_ids};
-ghost use Rattle.cm_history.specs.History.{is_empty};
 
 use cm_nmt::NodeId;
 
 /// A set of node-IDs: bit i for node i, and how many there are.
-#[derive(Clone, Copy)]
+#[derive(Clone, Copy, Debug, PartialEq, Eq)]
 pub struct NodeSet {
     members: u128,
     number: u8,
-    ghost counted: { number ≡ length (filter (has_bit members) node_ids) },
+    ghost counted: { number ≡ length (filter (λ i. bit_at members i == 1) node_ids) },
 }
 
 impl NodeSet {
+    ghost use Rattle.cm_history.specs.History.{is_empty};
     ghost use Rattle.cm_sequential.specs.NodeSets.{has, members_of};
 
-    pub fn empty() -> NodeSet
+    /// The set of no node.
+    pub const fn empty() -> NodeSet
         ensures { (i : ℕ) → has result i ≡ false }
     {
         NodeSet {
@@ -25,44 +26,46 @@ impl NodeSet {
         }
     }
 
+    /// Whether the node is in the set.
     #[inline(always)]
     pub fn contains(&self, id: NodeId) -> bool
         ensures { result ≡ has self.now id }
     {
-        let bit = 1u128 << id.get();
-        self.members & bit == bit
+        (self.members >> id.get()) & 1 == 1
     }
 
+    /// Puts the node into the set.
     #[inline(always)]
     pub fn insert(&mut self, id: NodeId)
         ensures { (i : ℕ) → has self.new i ≡ (id == i || has self.old i) }
     {
         if !self.contains(id) {
-            *self = NodeSet {
-                members: self.members | (1u128 << id.get()),
-                number: self.number + 1,
-            };
+            self.members |= 1 << id.get();
+            self.number += 1;
         }
     }
 
+    /// Takes the node out of the set.
     #[inline(always)]
     pub fn remove(&mut self, id: NodeId)
         ensures { (i : ℕ) → has self.new i ≡ (not (id == i) && has self.old i) }
     {
+        let _members = self.members;
         if self.contains(id) {
-            *self = NodeSet {
-                members: self.members & !(1u128 << id.get()),
-                number: self.number - 1,
-            };
+            self.members &= !(1 << id.get());
+            self.number -= 1;
         }
     }
 
+    /// How many nodes there are in the set.
+    #[inline(always)]
     pub fn len(&self) -> u8
         ensures { result ≡ length (members_of self.now) }
     {
         self.number
     }
 
+    /// Whether no node is in the set.
     #[inline(always)]
     pub fn is_empty(&self) -> bool
         ensures { result ≡ is_empty (members_of self.now) }
@@ -70,10 +73,12 @@ impl NodeSet {
         self.number == 0
     }
 
+    /// Whether no other node than this one is in the set.
     #[inline(always)]
     pub fn is_empty_without(&self, id: NodeId) -> bool
         ensures { result ≡ is_empty (filter (λ j. not (id == j)) (members_of self.now)) }
     {
-        self.number == self.contains(id) as u8
+        let _number = id.get();
+        self.number == u8::from(self.contains(id))
     }
 }

@@ -1,13 +1,14 @@
-ghost use Rattle.std.specs.Prelude.{◌≡◌, ◌≤◌, ◌<◌, ◌==◌, not, ℕ, Some, length, filter};
+ghost use Rattle.std.specs.Prelude.{◌≡◌, ◌≤◌, ◌<◌, ◌==◌, not, ℕ, Some, length, filter, if◌then◌else◌};
 ghost use Rattle.std.specs.List.{slice_index_or};
 ghost use Rattle.cm_nmt.specs.Codes.{state_left};
 ghost use Rattle.cm_objects.specs.Listing.{Listing};
 ghost use Rattle.cm_history.specs.Answering.{blank_slave};
 ghost use Rattle.cm_history.specs.Machine.{obeyed};
 ghost use Rattle.cm_history.specs.History.{is_empty};
+ghost use Rattle.cm_history.specs.Orders.{is_reset};
 ghost use Rattle.cm_sequential.specs.NodeSets.{members_of};
 ghost use Rattle.cm_sequential.specs.States.{kept_listing, kept_slave, session_numbered};
-ghost use Rattle.cm_sequential.specs.Kept.{at_node, boot_ended, cleared, in_session, in_state, obeying, IsCounted};
+ghost use Rattle.cm_sequential.specs.Kept.{at_node, boot_ended, cleared, in_session, in_state, obeying, obeying_alone, IsCounted};
 
 use crate::listing_copy::ListingCopy;
 use crate::node_set::NodeSet;
@@ -23,7 +24,7 @@ pub struct SlaveTable {
     sessions: [u64; 128],
     booted: NodeSet,
     /// The mandatory slaves that aren't booted.
-    open: NodeSet,
+    unbooted: NodeSet,
 }
 
 /// A state after a command to all that leaves this one: unknown and missing stay so.
@@ -48,6 +49,14 @@ fn obey_all(states: &mut [u8; 128], command: Command)
     }
 }
 
+/// Whether the command is one of the two resets.
+#[inline(always)]
+pub fn is_reset(command: Command) -> bool
+    ensures { result ≡ is_reset command }
+{
+    matches!(command, Command::ResetNode | Command::ResetComm)
+}
+
 impl SlaveTable {
     /// The table before any call.
     pub fn blank(listing: &ListingCopy) -> SlaveTable
@@ -58,7 +67,7 @@ impl SlaveTable {
             states: [UNKNOWN; 128],
             sessions: [0; 128],
             booted: NodeSet::empty(),
-            open: listing.mandatory(),
+            unbooted: listing.mandatory(),
         }
     }
 
@@ -99,26 +108,26 @@ impl SlaveTable {
 
     /// How many mandatory slaves aren't booted.
     pub fn count_open(&self) -> u8
-        ensures { result ≡ length (members_of self.now.open) }
+        ensures { result ≡ length (members_of self.now.unbooted) }
     {
-        self.open.len()
+        self.unbooted.len()
     }
 
     /// Whether every mandatory slave is booted.
     #[inline(always)]
     pub fn none_open(&self) -> bool
-        ensures { result ≡ is_empty (members_of self.now.open) }
+        ensures { result ≡ is_empty (members_of self.now.unbooted) }
     {
-        self.open.is_empty()
+        self.unbooted.is_empty()
     }
 
     /// Whether every mandatory slave but this one is booted.
     #[inline(always)]
     pub fn none_open_but(&self, id: NodeId) -> bool
         ensures { result
-            ≡ is_empty (filter (λ j. not (id == j)) (members_of self.now.open)) }
+            ≡ is_empty (filter (λ j. not (id == j)) (members_of self.now.unbooted)) }
     {
-        self.open.is_empty_without(id)
+        self.unbooted.is_empty_without(id)
     }
 
     /// The slave is in this state.
@@ -154,7 +163,7 @@ impl SlaveTable {
         self.sessions[place] = 0;
         if good {
             self.booted.insert(id);
-            self.open.remove(id);
+            self.unbooted.remove(id);
         }
     }
 
@@ -171,19 +180,37 @@ impl SlaveTable {
         self.sessions[place] = 0;
         self.booted.remove(id);
         if listing.is_mandatory(id) {
-            self.open.insert(id);
+            self.unbooted.insert(id);
         }
     }
 
-    /// No slave is booted, and none has a session.
-    pub fn clear_all(&mut self, listing: &ListingCopy)
+    /// No slave is booted, and none has a session, where `all` says so.
+    pub fn clear_all(&mut self, listing: &ListingCopy, all: bool)
+        requires { IsCounted (kept_listing listing.now) self.old }
         ensures slaves { (i : ℕ) → i < 128 → kept_slave self.new i
-            ≡ cleared (kept_slave self.old i) }
+            ≡ (if all then cleared (kept_slave self.old i) else kept_slave self.old i) }
         ensures counted { IsCounted (kept_listing listing.now) self.new }
     {
-        self.sessions = [0; 128];
-        self.booted = NodeSet::empty();
-        self.open = listing.mandatory();
+        if all {
+            self.sessions = [0; 128];
+            self.booted = NodeSet::empty();
+            self.unbooted = listing.mandatory();
+        }
+    }
+
+    /// The slave does what a command to it alone makes it do.
+    #[inline(always)]
+    pub fn obey_alone(&mut self, listing: &ListingCopy, id: NodeId, command: Command)
+        requires { IsCounted (kept_listing listing.now) self.old }
+        ensures slaves { (i : ℕ) → i < 128 → kept_slave self.new i
+            ≡ at_node id (obeying_alone command) (kept_slave self.old) i }
+        ensures counted { IsCounted (kept_listing listing.now) self.new }
+    {
+        if is_reset(command) {
+            self.clear(listing, id, command.state_left());
+        } else {
+            self.set_state(id, command.state_left());
+        }
     }
 
     /// Every slave does what a command to all makes it do, where there is one.

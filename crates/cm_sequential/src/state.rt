@@ -2,7 +2,7 @@ ghost use Rattle.std.specs.Prelude.{◌≡◌, ◌==◌, false, if◌then◌else
 ghost use Rattle.cm_nmt.specs.Codes.{state_code};
 ghost use Rattle.cm_objects.specs.Listing.{Listing, is_listed};
 ghost use Rattle.cm_history.specs.History.{begun_in, is_booted, own_of, phase_of, session_of, shown, state_of};
-ghost use Rattle.cm_history.specs.Machine.{idle};
+ghost use Rattle.cm_history.specs.Machine.{idle, ListsNodes};
 ghost use Rattle.cm_history.specs.declared.call.Entry.{Entry};
 ghost use Rattle.cm_sequential.specs.NodeSets.{members_of};
 ghost use Rattle.cm_sequential.specs.States.{kept_listing, kept_slave, Shows};
@@ -28,7 +28,8 @@ pub struct NetworkState {
 impl NetworkState {
     /// The state before any call.
     pub(crate) fn idle(listing: &ListingCopy) -> NetworkState
-        requires { is_listed (kept_listing listing.now) (kept_listing listing.now).own ≡ false }
+        requires own { is_listed (kept_listing listing.now) (kept_listing listing.now).own ≡ false }
+        requires nodes { ListsNodes (kept_listing listing.now) }
         ensures machine { machine result ≡ idle }
         ensures fits { Fits (kept_listing listing.now) result }
     {
@@ -83,7 +84,7 @@ impl NetworkState {
 
     /// How many mandatory slaves aren't booted.
     pub fn open_mandatory(&self) -> u8
-        ensures { result ≡ length (members_of self.now.slaves.open) }
+        ensures { result ≡ length (members_of self.now.slaves.unbooted) }
     {
         self.slaves.count_open()
     }

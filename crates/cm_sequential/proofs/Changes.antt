@@ -1,0 +1,177 @@
+-- What each granted call makes of a slave: what the code does to it is what the machine does.
+use Rattle.std.proofs.Common.{◌≡◌, ℕ, ◌<◌, refl, ap, sym, subst, ◌∙◌, cond, Bool, true, false, not, ◌&&◌, ◌||◌, inl, inr, arith, Option, Some, None}
+use Rattle.std.specs.Prelude.{◌==◌, ◌%◌}
+use Rattle.std.proofs.lemmas.Bool.{cases_Bool, eqb-true, eq-eqb, ne_eqb, false≢true}
+use Rattle.cm_nmt.specs.Codes.{state_left, command_of_request, state_of_code}
+use Rattle.cm_nmt.specs.declared.command.Command.{Command}
+use Rattle.cm_nmt.specs.declared.command.Command.TheVariants as command
+use Rattle.cm_nmt.specs.declared.state.NmtState.{NmtState}
+use Rattle.cm_objects.specs.Listing.{Listing, is_listed}
+use Rattle.cm_answers.specs.Status.{is_good}
+use Rattle.cm_answers.specs.declared.answers.Answers.{Answers}
+use Rattle.cm_answers.specs.declared.status.Status.{Status}
+use Rattle.cm_history.specs.declared.call.Call.{Call}
+use Rattle.cm_history.specs.declared.call.Call.TheVariants as call
+use Rattle.cm_history.specs.declared.call.Reply.{Reply}
+use Rattle.cm_history.specs.declared.call.Reply.TheVariants as reply
+use Rattle.cm_history.specs.declared.call.Orders.{Orders}
+use Rattle.cm_history.specs.declared.call.Orders.TheVariants as orders
+use Rattle.cm_history.specs.declared.slave.Slave.{Slave}
+use Rattle.cm_history.specs.Orders.{is_reset, is_reset_all, is_start_of, to_all, to_every, to_node}
+use Rattle.cm_history.specs.History.{is_reset_value, state_reported, state_requested}
+use Rattle.cm_history.specs.Answering.{node_named}
+use Rattle.cm_history.specs.Machine.{obeyed, slave_after}
+use Rattle.cm_history.proofs.Refused.{names_all, unreached}
+use Rattle.cm_sequential.specs.Kept.{boot_ended, cleared, in_session, in_state, obeying, obeying_alone}
+
+-- what isn't listed has no state
+abbrev pub Unlisted : Listing → ℕ → Slave → Type 0
+Unlisted net i s = is_listed net i ≡ false → s.state ≡ 0
+
+and_true : (b : Bool) → (b && true) ≡ b
+and_true true = refl
+and_true false = refl
+
+and_false : (b : Bool) → (b && false) ≡ false
+and_false true = refl
+and_false false = refl
+
+or_true : (b : Bool) → (b || true) ≡ true
+or_true true = refl
+or_true false = refl
+
+zero_obeys : (o : Option Command) → obeyed o 0 ≡ 0
+zero_obeys None = refl
+zero_obeys (Some c) = refl
+
+-- a slave that obeys, 0 where it isn't listed
+obeys_there : (listed : Bool) (o : Option Command) (s : Slave) → (listed ≡ false → s.state ≡ 0) → cond listed (obeyed o s.state) 0 ≡ obeyed o s.state
+obeys_there true o s h = refl
+obeys_there false o s h = rw (h refl) (sym (zero_obeys o))
+
+reported_here : (net : Listing) (id n : ℕ) (a : Answers) (t : Status) (o : Orders) (s : Slave) → is_listed net id ≡ true
+    → obeying (to_all o) (boot_ended (is_good t) (cond (is_start_of o id) 5 (state_reported t a)) s) ≡ slave_after net (call.Report id n a) (reply.Reported t) o id s
+reported_here net id n a t o s listed = rw (eq-eqb id id refl, listed, and_true (is_good t)) refl
+
+reported_there : (net : Listing) (id n : ℕ) (a : Answers) (t : Status) (o : Orders) (i : ℕ) (s : Slave) → (id == i) ≡ false → Unlisted net i s
+    → obeying (to_all o) s ≡ slave_after net (call.Report id n a) (reply.Reported t) o i s
+reported_there net id n a t o i s there u = rw (there, obeys_there (is_listed net i) (to_all o) s u) (rw (and_false (is_good t)) refl)
+
+pub reported : (net : Listing) (id n : ℕ) (a : Answers) (t : Status) (o : Orders) (i : ℕ) (s : Slave) → is_listed net id ≡ true → Unlisted net i s
+    → obeying (to_all o) (cond (id == i) (boot_ended (is_good t) (cond (is_start_of o id) 5 (state_reported t a)) s) s)
+    ≡ slave_after net (call.Report id n a) (reply.Reported t) o i s
+reported net id n a t o i s listed u = elim (cases_Bool (id == i)) [
+  | inl here ↦ ap (λ (b : Bool). obeying (to_all o) (cond b (boot_ended (is_good t) (cond (is_start_of o id) 5 (state_reported t a)) s) s)) here
+      ∙ (subst (λ (j : ℕ). obeying (to_all o) (boot_ended (is_good t) (cond (is_start_of o id) 5 (state_reported t a)) s)
+      ≡ slave_after net (call.Report id n a) (reply.Reported t) o j s) (eqb-true id i here) (reported_here net id n a t o s listed))
+  | inr there ↦ ap (λ (b : Bool). obeying (to_all o) (cond b (boot_ended (is_good t) (cond (is_start_of o id) 5 (state_reported t a)) s) s)) there
+      ∙ (reported_there net id n a t o i s there u)
+]
+
+-- the slave that a call names is listed
+named_listed : (net : Listing) (id i : ℕ) → is_listed net id ≡ true → (id == i) ≡ true → is_listed net i ≡ true
+named_listed net id i listed here = subst (λ (j : ℕ). is_listed net j ≡ true) (eqb-true id i here) listed
+
+-- what holds of the named slave and of the others
+set_named : (net : Listing) (c : Call) (r : Reply) (change : Slave → Slave) (id i : ℕ) (s : Slave) → node_named c ≡ id → names_all c ≡ false → is_listed net id ≡ true
+    → Unlisted net i s → change s ≡ slave_after net c r orders.None id s → cond (id == i) (change s) s ≡ slave_after net c r orders.None i s
+set_named net c r change id i s is few listed u named = elim (cases_Bool (id == i)) [
+  | inl here ↦ ap (λ (b : Bool). cond b (change s) s) here ∙ subst (λ (j : ℕ). change s ≡ slave_after net c r orders.None j s) (eqb-true id i here) named
+  | inr there ↦ ap (λ (b : Bool). cond b (change s) s) there
+      ∙ sym (unreached net c r orders.None i s refl few (ap (λ (k : ℕ). k == i) is ∙ there) u)
+]
+
+pub booted_up : (net : Listing) (id byte i : ℕ) (s : Slave) → is_listed net id ≡ true → Unlisted net i s
+    → cond (id == i) (in_state 127 (cleared s)) s ≡ slave_after net (call.Signal id byte) reply.BootAgain orders.None i s
+booted_up net id byte i s listed u =
+    set_named net (call.Signal id byte) reply.BootAgain (λ k. in_state 127 (cleared k)) id i s refl refl listed u (rw (eq-eqb id id refl, listed) refl)
+
+pub noted : (net : Listing) (id byte i : ℕ) (s : Slave) → is_listed net id ≡ true → Unlisted net i s
+    → cond (id == i) (in_state (byte % 128) s) s ≡ slave_after net (call.Signal id byte) reply.Noted orders.None i s
+noted net id byte i s listed u =
+    set_named net (call.Signal id byte) reply.Noted (in_state (byte % 128)) id i s refl refl listed u (rw (eq-eqb id id refl, listed) refl)
+
+pub missed : (net : Listing) (id i : ℕ) (s : Slave) → is_listed net id ≡ true → Unlisted net i s
+    → cond (id == i) (in_state 1 s) s ≡ slave_after net (call.Lost id) reply.Noted orders.None i s
+missed net id i s listed u =
+    set_named net (call.Lost id) reply.Noted (in_state 1) id i s refl refl listed u (rw (eq-eqb id id refl, listed) refl)
+
+lost_there : (all listed : Bool) (o : Option Command) (s : Slave) → (listed ≡ false → s.state ≡ 0)
+    → obeying o (cond all (cleared s) s)
+    ≡ record { state = cond listed (obeyed o s.state) 0; booted = not all && s.booted; session = cond all None s.session }
+lost_there true listed o s h = rw (obeys_there listed o s h) refl
+lost_there false listed o s h = rw (obeys_there listed o s h) refl
+
+pub lost : (net : Listing) (id : ℕ) (o : Orders) (i : ℕ) (s : Slave) → is_listed net id ≡ true → Unlisted net i s
+    → obeying (to_all o) (cond (id == i) (in_state 1 (cleared (cond (is_reset_all o) (cleared s) s))) (cond (is_reset_all o) (cleared s) s))
+    ≡ slave_after net (call.Lost id) reply.Handled o i s
+lost net id o i s listed u = elim (cases_Bool (id == i)) [
+  | inl here ↦ rw (here, named_listed net id i listed here) refl
+  | inr there ↦ rw there (lost_there (is_reset_all o) (is_listed net i) (to_all o) s u)
+]
+
+pub all_asked : (net : Listing) (v : ℕ) (c : Command) (i : ℕ) (s : Slave) → i < 128 → is_reset_value v ≡ is_reset c → Unlisted net i s
+    → obeying (Some c) (cond (is_reset c) (cleared s) s) ≡ slave_after net (call.Request 128 v) reply.Done (to_every c) i s
+all_asked net v c i s small resets u =
+    rw (resets, ne_eqb 128 i (λ e. absurd (omega (arith, e, small))), and_true (is_reset c)) (lost_there (is_reset c) (is_listed net i) (Some c) s u)
+
+pub one_asked : (net : Listing) (id v : ℕ) (c : Command) (i : ℕ) (s : Slave) → id < 128 → is_listed net id ≡ true → is_reset_value v ≡ is_reset c
+    → state_requested v ≡ state_left c → Unlisted net i s
+    → cond (id == i) (obeying_alone c s) s
+    ≡ slave_after net (call.Request id v) reply.Done (to_node c id) i s
+one_asked net id v c i s small listed resets left u = elim (cases_Bool (id == i)) [
+  | inl here ↦
+      let asked : ℕ → Bool → Slave = λ w r. record { state = w; booted = not r && s.booted; session = cond r None s.session } in
+      ap (λ (b : Bool). cond b (obeying_alone c s) s) here
+      ∙ by_reset (is_reset c) (state_left c) ∙ ap (λ w. asked w (is_reset c)) (sym left) ∙ ap (asked (state_requested v)) (sym resets)
+      ∙ sym (rw (here, named_listed net id i listed here, and_true (is_reset_value v)) refl)
+  | inr there ↦ ap (λ (b : Bool). cond b (obeying_alone c s) s) there
+      ∙ sym (unreached net (call.Request id v) reply.Done (to_node c id) i s refl (ne_eqb id 128 (λ e. absurd (omega (arith, e, small)))) there u)
+]
+  where
+    by_reset : (r : Bool) (w : ℕ) → cond r (in_state w (cleared s)) (in_state w s) ≡ record { state = w; booted = not r && s.booted; session = cond r None s.session }
+    by_reset true w = refl
+    by_reset false w = refl
+
+pub passed : (net : Listing) (ms : ℕ) (o : Orders) (i : ℕ) (s : Slave) → Unlisted net i s
+    → obeying (to_all o) s ≡ slave_after net (call.Elapsed ms) reply.InTime o i s
+passed net ms o i s u = rw (obeys_there (is_listed net i) (to_all o) s u) refl
+
+-- ---- the values of a request
+
+-- what the command of a value does is what the value asks for
+pub record IsRequest (v : ℕ) (c : Command) : Type 0 where
+  pub resets : is_reset_value v ≡ is_reset c
+  pub left : state_requested v ≡ state_left c
+  pub own : state_of_code v ≡ state_of_code (state_left c)
+
+-- the value asks for this command, and does what it does
+abbrev Asks : ℕ → Command → Type 0
+Asks v c = (command_of_request v ≡ Some c) × IsRequest v c
+
+asks_once : (v : ℕ) (c d : Command) → command_of_request v ≡ Some c → Asks v d → IsRequest v c
+asks_once v c d e asks = let same : Some d ≡ Some c = sym asks.0 ∙ e in let this : d ≡ c = cc in subst (IsRequest v) this asks.1
+
+none_asked : (v : ℕ) (c : Command) → command_of_request v ≡ Some c → (v == 4) ≡ false → (v == 5) ≡ false → (v == 6) ≡ false → (v == 7) ≡ false → (v == 127) ≡ false → ⊥
+none_asked v c e a b d f g = let none : command_of_request v ≡ None = rw (a, b, d, f, g) refl in let wrong : None ≡ Some c = sym none ∙ e in cc
+
+pub requested : (v : ℕ) (c : Command) → command_of_request v ≡ Some c → IsRequest v c
+requested v c e =
+    let is : (k : ℕ) (d : Command) → Asks k d → (v == k) ≡ true → IsRequest v c =
+    λ k d asks here. asks_once v c d e (subst (λ (n : ℕ). Asks n d) (sym (eqb-true v k here)) asks) in
+    elim (cases_Bool (v == 4)) [
+      | inl a ↦ is 4 command.Stop (refl, record { resets = refl; left = refl; own = refl }) a
+      | inr a ↦ elim (cases_Bool (v == 5)) [
+          | inl b ↦ is 5 command.Start (refl, record { resets = refl; left = refl; own = refl }) b
+          | inr b ↦ elim (cases_Bool (v == 6)) [
+              | inl d ↦ is 6 command.ResetNode (refl, record { resets = refl; left = refl; own = refl }) d
+              | inr d ↦ elim (cases_Bool (v == 7)) [
+                  | inl f ↦ is 7 command.ResetComm (refl, record { resets = refl; left = refl; own = refl }) f
+                  | inr f ↦ elim (cases_Bool (v == 127)) [
+                      | inl g ↦ is 127 command.EnterPre (refl, record { resets = refl; left = refl; own = refl }) g
+                      | inr g ↦ absurd (none_asked v c e a b d f g)
+                    ]
+                ]
+            ]
+        ]
+    ]
