@@ -27,6 +27,7 @@ struct Drawn {
     refused: usize,
 }
 
+#[inline(always)]
 fn apply(manager: &mut Manager, call: Call) -> (Reply, Orders) {
     if manager.begun() < u64::MAX {
         manager.apply(call)

@@ -26,4 +26,4 @@ pub use field::{Field, fields};
 pub use got::Got;
 pub use heard::Heard;
 pub use status::Status;
-pub use verdict::{judged_by_tables, status_of};
+pub use verdict::{judged_by_tables, judged_listed, status_of};

@@ -87,9 +87,10 @@ pub fn status_of(terms: Option<Terms>, answers: &Answers) -> Status
     }
 }
 
-/// The status of a boot of a listed slave that ended with these answers; `None` where none does.
+/// The status of a boot that ended with these answers, of a slave of which this is listed; `None`
+/// exactly where no boot ends with them. It goes by the tables, as [`judged_by_tables`] does.
 #[tactic(auto, unfolding(crate::specs::Verdict::judged))]
-fn judged_listed(terms: &Terms, answers: &Answers) -> Option<Status>
+pub fn judged_listed(terms: &Terms, answers: &Answers) -> Option<Status>
     ensures { result ≡ judged (Some terms.now) answers.now }
 {
     match lawful_identity(terms, answers) {

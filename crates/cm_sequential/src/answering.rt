@@ -7,7 +7,7 @@ ghost use Rattle.cm_sequential.specs.Standing.{listing_in, open_in, seen_by, IsA
 use crate::effects::is_fatal;
 use crate::manager::Manager;
 use crate::slaves::is_reset;
-use cm_answers::{Answers, Status, judged_by_tables};
+use cm_answers::{Answers, Status, judged_listed};
 use cm_history::{ALL_NODES, Call, Orders, Refusal, Reply};
 use cm_nmt::{Command, NmtState, NodeId, Signal};
 
@@ -157,13 +157,13 @@ impl Manager {
         if self.state.phase.is_idle() {
             return refused(Refusal::NotStarted);
         }
-        if !self.listing.is_listed(id.get()) {
+        let Some(terms) = self.listing.terms(id) else {
             return refused(Refusal::NotListed);
-        }
+        };
         if self.state.slaves.session(id) != Some(number) {
             return refused(Refusal::OtherSession);
         }
-        match judged_by_tables(self.listing.terms(id.get()), answers) {
+        match judged_listed(terms, answers) {
             Some(status) => (Reply::Reported(status), self.report_orders(id, status)),
             None => refused(Refusal::NoSuchBoot),
         }

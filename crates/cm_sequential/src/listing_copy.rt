@@ -2,6 +2,7 @@ ghost use Rattle.std.specs.Prelude.{◌≡◌, ◌<◌, ℕ, None, IsSome, IsTru
 ghost use Rattle.cm_sequential.specs.NodeSets.{has};
 ghost use Rattle.cm_sequential.specs.Listed.{listed_mandatory};
 ghost use Rattle.std.specs.List.{slice_index_or};
+ghost use Rattle.std.specs.Option.{option_copied};
 ghost use Rattle.cm_netlist.specs.Network.{listing};
 ghost use Rattle.cm_objects.specs.Listing.{is_listed, is_mandatory, is_to_be_booted, is_master, starts_all_at_once, leaves_operational_to_application, starts_no_slave, resets_all_on_error, stops_all_on_error};
 ghost use Rattle.cm_netlist.specs.Network as network;
@@ -101,24 +102,23 @@ impl ListingCopy {
         self.boot_time
     }
 
-    /// What is listed of the node; nothing for a number that is no node-ID.
+    /// What is listed of the node.
+    #[inline(always)]
     #[tactic(auto, unfolding(crate::specs::States::kept_listing))]
-    pub fn terms(&self, node: u8) -> Option<Terms>
-        ensures value { result ≡ (kept_listing self.now).terms node }
-        ensures small { IsSome result → node < 128 }
+    pub fn terms(&self, id: NodeId) -> Option<&Terms>
+        ensures { option_copied result ≡ (kept_listing self.now).terms id }
     {
-        if node < 128 {
-            self.terms[node as usize]
-        } else {
-            None
-        }
+        self.terms[id.get() as usize].as_ref()
     }
 
+    /// Whether the node is listed; false for a number that is no node-ID.
+    #[inline(always)]
+    #[tactic(auto, unfolding(crate::specs::States::kept_listing))]
     pub fn is_listed(&self, node: u8) -> bool
         ensures value { result ≡ is_listed (kept_listing self.now) node }
         ensures small { IsTrue result → node < 128 }
     {
-        self.terms(node).is_some()
+        node < 128 && self.terms[node as usize].is_some()
     }
 
     #[tactic(auto, unfolding(crate::specs::States::kept_listing))]
@@ -131,7 +131,7 @@ impl ListingCopy {
     pub fn is_to_be_booted(&self, id: NodeId) -> bool
         ensures { result ≡ is_to_be_booted (kept_listing self.now) id }
     {
-        match self.terms(id.get()) {
+        match self.terms(id) {
             Some(terms) => terms.assignment.is_to_be_booted(),
             None => false,
         }

@@ -68,6 +68,7 @@ impl Manager {
     /// Answers a call. Where the manager stands for a history, the answer is that of the
     /// definitions over the history, and the manager then stands for the history with this call.
     /// A refused call changes nothing.
+    #[inline(always)]
     pub fn apply(&mut self, call: Call) -> (Reply, Orders)
         requires { sessions_begun self.old < 2 ^ 64 - 1 }
         ensures answer { (net : AnyNetwork) (past : List Entry) → Stands self.old net past
