@@ -13,6 +13,5 @@ mod slaves;
 mod state;
 
 pub use manager::Manager;
-pub use node_set::NodeSet;
 pub use sending::frames;
 pub use state::NetworkState;
