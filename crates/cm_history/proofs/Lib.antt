@@ -1,2 +1,3 @@
+pub mod LegalHistories
 pub mod OpenSlaves
 pub mod PhaseSteps
