@@ -2,7 +2,7 @@ ghost use Rattle.std.specs.Prelude.{◌≡◌, ◌⊎◌};
 ghost use Rattle.canboot.specs.Program.{EndsWithout};
 
 use crate::replay::replay_text;
-use canboot_check::{DONE, FAILED, check_text, fault_line};
+use canboot_check::{FAILED, check_text, fault_line, output_status};
 use canboot_words::{NoOrder, Order, read_words};
 use std::alloc::Global;
 use std::io::{self, BufWriter, Read, Write};
@@ -58,10 +58,7 @@ fn say<W: Write, E: Write>(none: &NoOrder, out: &mut W, err: &mut E) -> u8
     ensures { EndsWithout none.now result }
 {
     match none {
-        NoOrder::Shown(text) => match show(text.as_str(), out) {
-            Ok(()) => DONE,
-            Err(_) => fault_line(err, FAILED, "write failed"),
-        },
+        NoOrder::Shown(text) => output_status(err, show(text.as_str(), out)),
         NoOrder::Wrong(text) => {
             let _ = err.write_all(text.as_str().as_bytes());
             MISUSED

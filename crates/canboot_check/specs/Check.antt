@@ -74,11 +74,9 @@ FailsToCheck input input' output output' = (output' ≡ output) ⊎ ((net : Netw
 -- what a fault says of the input; of a failed read, or of want of memory, it says nothing
 abbrev pub IsFaulty : Option (List ℕ) → Option (List ℕ) → CheckFault → Type 0
 IsFaulty input input' (fault.List f) = IsFaultyText input input'
-IsFaulty input input' fault.Read = Unit {0}
-IsFaulty input input' fault.Memory = Unit {0}
+IsFaulty input input' (fault.Input f) = Unit {0}
 
 -- the list has a fault
 abbrev pub IsFaultOfList : CheckFault → Type 0
 IsFaultOfList (fault.List f) = Unit {0}
-IsFaultOfList fault.Read = ⊥
-IsFaultOfList fault.Memory = ⊥
+IsFaultOfList (fault.Input f) = ⊥

@@ -12,7 +12,7 @@ ghost use Rattle.canboot_check.specs.Check.{
   mandatory_ids,
 };
 
-use crate::status::{DONE, FAILED, REFUSED, fault_line};
+use crate::status::{REFUSED, input_fault_line, output_status};
 use cm_input::{InputFault, read_input};
 use cm_netlist::{NetFault, Network};
 use std::alloc::Global;
@@ -54,10 +54,8 @@ fn put_check<W: Write>(network: &Network, out: &mut W) -> io::Result<()>
 enum CheckFault {
     /// The list has this fault.
     List(NetFault),
-    /// The reader failed, or gave more bytes than it may.
-    Read,
-    /// Memory was refused.
-    Memory,
+    /// The input wasn't read, or memory was refused.
+    Input(InputFault),
 }
 
 /// Reads a network list to the end of the input. Nothing is written before the list is known.
@@ -67,15 +65,14 @@ fn read_list<R: Read>(alloc: Global, reader: &mut R) -> Result<Network, CheckFau
 {
     let bytes = match read_input(alloc, reader, LONGEST_LIST) {
         Ok(bytes) => bytes,
-        Err(InputFault::Read) => return Err(CheckFault::Read),
-        Err(InputFault::Memory) => return Err(CheckFault::Memory),
+        Err(fault) => return Err(CheckFault::Input(fault)),
     };
     let Ok(text) = str::from_utf8(&bytes) else {
         return Err(CheckFault::List(NetFault::NotToml));
     };
     match Network::from_toml(alloc, text) {
         Ok(network) => Ok(network),
-        Err(NetFault::OutOfMemory) => Err(CheckFault::Memory),
+        Err(NetFault::OutOfMemory) => Err(CheckFault::Input(InputFault::Memory)),
         Err(fault) => Err(CheckFault::List(fault)),
     }
 }
@@ -90,8 +87,7 @@ fn refuse<E: Write>(err: &mut E, fault: CheckFault) -> u8
             let _ = writeln!(err, "canboot: network: {fault}");
             REFUSED
         }
-        CheckFault::Read => fault_line(err, FAILED, "read failed"),
-        CheckFault::Memory => fault_line(err, FAILED, "out of memory"),
+        CheckFault::Input(fault) => input_fault_line(err, fault),
     }
 }
 
@@ -123,10 +119,7 @@ pub fn check_text<R: Read, W: Write, E: Write>(
     ensures statuses { (result ≡ 0) ⊎ ((result ≡ 1) ⊎ (result ≡ 3)) }
 {
     match read_list(alloc, reader) {
-        Ok(network) => match put_check(&network, out) {
-            Ok(()) => DONE,
-            Err(_) => fault_line(err, FAILED, "write failed"),
-        },
+        Ok(network) => output_status(err, put_check(&network, out)),
         Err(fault) => refuse(err, fault),
     }
 }

@@ -6,4 +6,4 @@ mod check;
 mod status;
 
 pub use check::{LONGEST_LIST, check_text};
-pub use status::{DONE, FAILED, REFUSED, fault_line};
+pub use status::{DONE, FAILED, REFUSED, fault_line, input_fault_line, output_status};

@@ -1,3 +1,4 @@
+pub mod LegalHistories
 pub mod OpenSlaves
 pub mod PhaseSteps
 pub mod Runs

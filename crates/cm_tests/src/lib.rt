@@ -10,3 +10,5 @@ mod manager;
 mod netlist;
 #[cfg(test)]
 mod spelling;
+#[cfg(test)]
+mod support;

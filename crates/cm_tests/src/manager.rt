@@ -2,20 +2,17 @@
 
 ghost use Rattle.cm_replay.specs.Compact.{IsReplayOfSome};
 
+use crate::support::{node, terms_of};
 use arrayvec::ArrayVec;
 use cm_answers::{Answers, Got, Status};
 use cm_history::{Call, Entry, Orders, Reply, Slave, abort_code};
 use cm_netlist::{Network, SlaveEntry};
 use cm_nmt::{Frame, NodeId};
-use cm_objects::{Assignment, Startup};
+use cm_objects::Startup;
 use cm_replay::{Cause, CompactReplay, Untaken, replay, replay_to_fault};
 use cm_sequential::{Manager, frames};
 use std::alloc::Global;
 use std::process::Abort;
-
-fn node(rt: &impl Abort, number: u8) -> NodeId {
-    NodeId::new(number).expect(rt, "a node-ID")
-}
 
 /// The frame of these two bytes.
 fn frame(rt: &impl Abort, specifier: u8, number: u8) -> Frame {
@@ -24,18 +21,7 @@ fn frame(rt: &impl Abort, specifier: u8, number: u8) -> Frame {
 
 /// A slave of this assignment, of which nothing else is listed.
 fn slave(assignment: u32) -> SlaveEntry {
-    SlaveEntry {
-        assignment: Assignment(assignment),
-        device_type: 0,
-        vendor: 0,
-        product: 0,
-        revision: 0,
-        serial: 0,
-        heartbeat_ms: 0,
-        date: 0,
-        time: 0,
-        writes: ArrayVec::new(),
-    }
+    SlaveEntry::from_terms(terms_of(assignment), ArrayVec::new())
 }
 
 /// A network of the manager 1 with slaves of these nodes and assignments.

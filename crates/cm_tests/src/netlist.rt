@@ -1,42 +1,21 @@
 ghost use Rattle.std.specs.Prelude.{◌≡◌, []};
 
+use crate::support::{sure, terms_of};
 use arrayvec::ArrayVec;
 use cm_netlist::{NetFault, Network, SlaveEntry};
 use cm_nmt::{Command, Frame, NmtState, NodeId, Signal, Target};
 use cm_objects::{Assignment, Startup, Terms, Write};
-use std::process::Abort;
 use std::test::Fail;
-
-/// Ends the test where this isn't so; proved at less cost than an assertion of two values.
-fn sure(rt: &impl Abort, is_so: bool) {
-    assert!(rt; is_so);
-}
 
 fn node(number: u8) -> Result<NodeId, Fail> {
     Ok(NodeId::new(number).ok_or("no node-ID")?)
-}
-
-/// Terms of this assignment, whose other fields are 0.
-fn terms(assignment: u32) -> Terms {
-    Terms {
-        assignment: Assignment(assignment),
-        device_type: 0,
-        vendor: 0,
-        product: 0,
-        revision: 0,
-        serial: 0,
-        heartbeat_ms: 0,
-        date: 0,
-        time: 0,
-        writes: 0,
-    }
 }
 
 /// An entry with one write of two bytes to 1017h.
 fn writing(assignment: u32, value: u32) -> SlaveEntry {
     let mut writes = ArrayVec::<Write, 32>::new();
     writes.push(Write::new(0x1017, 0, 2, value));
-    SlaveEntry::from_terms(terms(assignment), writes)
+    SlaveEntry::from_terms(terms_of(assignment), writes)
 }
 
 #[test]
@@ -184,7 +163,7 @@ fn an_added_slave_is_read_back(rt: HostRuntime) -> Result<(), Fail> {
         );
     }
     sure(&rt, network.add(node(2)?, writing(0x15, 0)) == Ok(()));
-    let mut expected = terms(0x0D);
+    let mut expected = terms_of(0x0D);
     expected.vendor = 0x123;
     expected.writes = 1;
     sure(&rt, network.terms(node(4)?) == Some(expected));

@@ -1,10 +1,5 @@
+use crate::support::sure;
 use cm_text::{Fields, hex2, hex4, hex8, is_word, read_decimal, read_hex2, read_hex4, read_hex8};
-use std::process::Abort;
-
-// Each comparison is asserted here, since an assertion of its own in each place is long to prove.
-fn sure(rt: &impl Abort, is_so: bool) {
-    assert!(rt; is_so);
-}
 
 #[test]
 fn decimals_have_up_to_64_bits(rt: HostRuntime) {

@@ -1,13 +1,13 @@
 -- Hexadecimal fields are read exactly.
-use Rattle.std.proofs.Common.{◌≡◌, ℕ, ◌+◌, ◌*◌, ◌/◌, ◌%◌, ◌^◌, ◌<◌, ◌≤◌, Bool, true, false, cond, eqb, ltb, List, [], ◌∷◌, ◌++◌, length, map, get_or, Option, Some, None, refl, sym, ap, ◌∙◌, arith, eqb-true, eq-eqb}
+use Rattle.std.proofs.Common.{◌≡◌, ℕ, ◌+◌, ◌*◌, ◌/◌, ◌%◌, ◌^◌, ◌<◌, ◌≤◌, Bool, true, false, cond, eqb, ltb, List, [], ◌∷◌, ◌++◌, length, map, get_or, Option, Some, None, refl, sym, ap, ◌∙◌, subst, arith, eqb-true, eq-eqb}
 use Rattle.std.proofs.lemmas.Bool.Decides.{nat_tests}
-use Rattle.std.specs.Prelude.{MatchOption, Result, Ok, Err}
+use Rattle.std.specs.Prelude.{◌-◌, MatchOption, replicate, Result, Ok, Err}
 use Rattle.std.specs.Result.{OkIff, result_ok}
 use Rattle.std.specs.List.{range_with_len}
 use Rattle.std.proofs.lemmas.List.FromFn.{get_or-map-range_with_len}
 use Rattle.cm_text.specs.Exact.{IsExact, respelled}
 use Rattle.cm_text.specs.Plain.{is_plain}
-use Rattle.cm_text.specs.Hex.{glyph, nibble, two, four, hex_two, hex_four, hex_eight, two_of, four_of, eight_of}
+use Rattle.cm_text.specs.Hex.{glyph, nibble, two, four, hex_two, hex_four, hex_eight, two_of, four_of, eight_of, padded, digits_of}
 use Rattle.cm_text.proofs.Fronts.{same, same_itself}
 
 -- ---- a value that is spelled again
@@ -277,23 +277,73 @@ two_weighs a b t u h k = rw two_joined (joined_weighs 16 (worth_of a) (worth_of 
 pub four_weighs : (a b c d t u : ℕ) → Weighs (two_of (a ∷ b ∷ [])) t → Weighs (two_of (c ∷ d ∷ [])) u → Weighs (four_of (a ∷ b ∷ c ∷ d ∷ [])) (t * 256 + u)
 four_weighs a b c d t u h k = rw four_joined (joined_weighs 256 (two_of (a ∷ b ∷ [])) (two_of (c ∷ d ∷ [])) t u (omega arith) h k)
 
-pub eight_weighs : (a b c d e f g h t u : ℕ) → Weighs (four_of (a ∷ b ∷ c ∷ d ∷ [])) t → Weighs (four_of (e ∷ f ∷ g ∷ h ∷ [])) u
+eight_weighs : (a b c d e f g h t u : ℕ) → Weighs (four_of (a ∷ b ∷ c ∷ d ∷ [])) t → Weighs (four_of (e ∷ f ∷ g ∷ h ∷ [])) u
     → Weighs (eight_of (a ∷ b ∷ c ∷ d ∷ e ∷ f ∷ g ∷ h ∷ [])) (t * 65536 + u)
 eight_weighs a b c d e f g h t u p q = rw eight_joined (joined_weighs 65536 (four_of (a ∷ b ∷ c ∷ d ∷ [])) (four_of (e ∷ f ∷ g ∷ h ∷ [])) t u (omega arith) p q)
 
 -- a weight that fits is what is spelled
-pub fitted : {E : Type 0} (o : Option ℕ) (n k : ℕ) (t : Result ℕ E) → OkIff t (n < k) n → Weighs o n → ((x : ℕ) → o ≡ Some x → x < k) → k ≤ 2 ^ 32 → result_ok t ≡ o
+fitted : {E : Type 0} (o : Option ℕ) (n k : ℕ) (t : Result ℕ E) → OkIff t (n < k) n → Weighs o n → ((x : ℕ) → o ≡ Some x → x < k) → k ≤ 2 ^ 32 → result_ok t ≡ o
 fitted None n k (Ok x) fits weighs small wide = absurd (omega (arith, fits.0))
 fitted None n k (Err e) fits weighs small wide = refl
 fitted (Some y) n k (Ok x) fits weighs small wide = cc (fits.1, weighs)
 fitted (Some y) n k (Err e) fits weighs small wide = absurd (fits (omega (arith, weighs, small y refl)))
 
-pub two_fits : {E : Type 0} (a b n : ℕ) (t : Result ℕ E) → OkIff t (n < 2 ^ 8) n → Weighs (two_of (a ∷ b ∷ [])) n → result_ok t ≡ two_of (a ∷ b ∷ [])
-two_fits a b n t fits weighs = fitted _ n (2 ^ 8) t fits weighs (λ x e. (two_takes _ x e).1) (omega arith)
+-- the eight bytes of an array
+pub octet_weighs : (w : List ℕ) (t u : ℕ) → length w ≡ 8 → Weighs (four_of (get_or w 0 0 ∷ get_or w 1 0 ∷ get_or w 2 0 ∷ get_or w 3 0 ∷ [])) t
+    → Weighs (four_of (get_or w 4 0 ∷ get_or w 5 0 ∷ get_or w 6 0 ∷ get_or w 7 0 ∷ [])) u → Weighs (eight_of w) (t * 65536 + u)
+octet_weighs (a ∷ b ∷ c ∷ d ∷ e ∷ f ∷ g ∷ h ∷ []) t u eight p q = eight_weighs a b c d e f g h t u p q
+octet_weighs [] t u eight p q = absurd cc
+octet_weighs (a ∷ []) t u eight p q = absurd cc
+octet_weighs (a ∷ b ∷ []) t u eight p q = absurd cc
+octet_weighs (a ∷ b ∷ c ∷ []) t u eight p q = absurd cc
+octet_weighs (a ∷ b ∷ c ∷ d ∷ []) t u eight p q = absurd cc
+octet_weighs (a ∷ b ∷ c ∷ d ∷ e ∷ []) t u eight p q = absurd cc
+octet_weighs (a ∷ b ∷ c ∷ d ∷ e ∷ f ∷ []) t u eight p q = absurd cc
+octet_weighs (a ∷ b ∷ c ∷ d ∷ e ∷ f ∷ g ∷ []) t u eight p q = absurd cc
+octet_weighs (a ∷ b ∷ c ∷ d ∷ e ∷ f ∷ g ∷ h ∷ i ∷ w) t u eight p q = absurd (omega (arith, eight))
 
-pub four_fits : {E : Type 0} (a b c d n : ℕ) (t : Result ℕ E) → OkIff t (n < 2 ^ 16) n → Weighs (four_of (a ∷ b ∷ c ∷ d ∷ [])) n → result_ok t ≡ four_of (a ∷ b ∷ c ∷ d ∷ [])
-four_fits a b c d n t fits weighs = fitted _ n (2 ^ 16) t fits weighs (λ x e. (four_takes _ x e).1) (omega arith)
+-- ---- fewer digits than eight, with 0 in front
 
-pub eight_fits : {E : Type 0} (a b c d e f g h n : ℕ) (t : Result ℕ E) → OkIff t (n < 2 ^ 32) n → Weighs (eight_of (a ∷ b ∷ c ∷ d ∷ e ∷ f ∷ g ∷ h ∷ [])) n
-    → result_ok t ≡ eight_of (a ∷ b ∷ c ∷ d ∷ e ∷ f ∷ g ∷ h ∷ [])
-eight_fits a b c d e f g h n t fits weighs = fitted _ n (2 ^ 32) t fits weighs (λ x is. (eight_takes _ x is).1) (omega arith)
+joined_zero : (base : ℕ) (o : Option ℕ) → joined base (Some 0) o ≡ o
+joined_zero base None = refl
+joined_zero base (Some n) = let same : 0 * base + n ≡ n = omega arith in ap Some same
+
+-- a field of another width isn't read
+other_width : (width : ℕ) (w : List ℕ) → (length w ≡ width → ⊥) → digits_of width w ≡ None
+other_width width w other = by_test (eqb (length w) width) refl
+  where
+    by_test : (b : Bool) → eqb (length w) width ≡ b → cond b (eight_of (padded w)) None ≡ None
+    by_test true e = absurd (other (eqb-true _ _ e))
+    by_test false e = refl
+
+pub two_digits : (w : List ℕ) → digits_of 2 w ≡ two_of w
+unfolding four_of two_of hex_four hex_two four two
+two_digits [] = refl
+two_digits (a ∷ []) = refl
+two_digits (a ∷ b ∷ []) = eight_joined 48 48 48 48 48 48 a b ∙ joined_zero 65536 _ ∙ four_joined 48 48 a b ∙ joined_zero 256 _
+two_digits (a ∷ b ∷ c ∷ w) = other_width 2 (a ∷ b ∷ c ∷ w) (λ e. omega (arith, e))
+
+pub four_digits : (w : List ℕ) → digits_of 4 w ≡ four_of w
+unfolding four_of hex_four hex_two four two
+four_digits [] = refl
+four_digits (a ∷ []) = refl
+four_digits (a ∷ b ∷ []) = refl
+four_digits (a ∷ b ∷ c ∷ []) = refl
+four_digits (a ∷ b ∷ c ∷ d ∷ []) = eight_joined 48 48 48 48 a b c d ∙ joined_zero 65536 _
+four_digits (a ∷ b ∷ c ∷ d ∷ e ∷ w) = other_width 4 (a ∷ b ∷ c ∷ d ∷ e ∷ w) (λ e. omega (arith, e))
+
+pub eight_digits : (w : List ℕ) → digits_of 8 w ≡ eight_of w
+eight_digits w = by_test (eqb (length w) 8) refl
+  where
+    by_test : (b : Bool) → eqb (length w) 8 ≡ b → cond b (eight_of (padded w)) None ≡ eight_of w
+    by_test true e = ap (λ (n : ℕ). eight_of (replicate (8 - n) 48 ++ w)) (eqb-true (length w) 8 e)
+    by_test false e = sym (not_some (eight_of w) (λ n is.
+        let long : length w ≡ 8 = ap length (eight_takes w n is).0 ∙ hex_eight_length n in
+        let test : eqb (length w) 8 ≡ true = eq-eqb (length w) 8 long in
+        cc))
+
+-- digits that are weighed are what is read of them
+pub weighed_read : {E : Type 0} {spell : ℕ → List ℕ} {read : List ℕ → Option ℕ} (width k : ℕ) → IsExact spell read (λ n. n < k) → ((w : List ℕ) → digits_of width w ≡ read w)
+    → k ≤ 2 ^ 32 → (w : List ℕ) (n : ℕ) (t : Result ℕ E) → OkIff t (n < k) n → Weighs (digits_of width w) n → result_ok t ≡ read w
+weighed_read {read = read} width k exact digits wide w n t fits weighs =
+    fitted (read w) n k t fits (subst (λ (o : Option ℕ). Weighs o n) (digits w) weighs) (λ x e. (exact.takes w x e).1) wide

@@ -1,5 +1,5 @@
 -- Exactly 2, 4 or 8 hexadecimal digits, the high one first.
-use Rattle.std.specs.Prelude.{ℕ, ◌+◌, ◌-◌, ◌*◌, ◌/◌, ◌%◌, nat_lt, nat_le, ◌&&◌, if◌then◌else◌, List, [], ◌∷◌, ◌++◌, Option, None}
+use Rattle.std.specs.Prelude.{ℕ, ◌+◌, ◌-◌, ◌*◌, ◌/◌, ◌%◌, nat_lt, nat_le, ◌&&◌, ◌==◌, if◌then◌else◌, length, replicate, List, [], ◌∷◌, ◌++◌, Option, None}
 use Rattle.cm_text.specs.Exact.{respelled}
 
 -- the digit that is worth this much: 0 to 9 for 0 to 9, A to F for 10 to 15 (own)
@@ -44,3 +44,11 @@ four_of _ = None
 unfoldable pub eight_of : List ℕ → Option ℕ
 eight_of (a ∷ b ∷ c ∷ d ∷ e ∷ f ∷ g ∷ h ∷ []) = respelled hex_eight (four a b c d * 65536 + four e f g h) (a ∷ b ∷ c ∷ d ∷ e ∷ f ∷ g ∷ h ∷ [])
 eight_of _ = None
+
+-- eight digits, of which these are the last, and the others 0 (own)
+abbrev pub padded : List ℕ → List ℕ
+padded w = replicate (8 - length w) 48 ++ w
+
+-- the number whose digits, so many, the field is: that of eight, with 0 in front (own)
+abbrev pub digits_of : ℕ → List ℕ → Option ℕ
+digits_of width w = if length w == width then eight_of (padded w) else None

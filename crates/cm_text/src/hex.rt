@@ -1,5 +1,5 @@
-ghost use Rattle.std.specs.Prelude.{◌≡◌, ◌≢◌, ◌<◌, ◌≤◌, ◌*◌, ◌^◌, ◌==◌, ℕ, [], ◌∷◌, Some, None, MatchOption, if◌then◌else◌};
-ghost use Rattle.cm_text.specs.Hex.{glyph, nibble, hex_two, hex_four, hex_eight, two_of, four_of, eight_of};
+ghost use Rattle.std.specs.Prelude.{◌≡◌, ◌≢◌, ◌<◌, ◌≤◌, ◌*◌, ◌^◌, ◌==◌, ℕ, [], ◌∷◌, Some, None, MatchOption, if◌then◌else◌, length};
+ghost use Rattle.cm_text.specs.Hex.{glyph, nibble, hex_two, hex_four, hex_eight, two_of, four_of, eight_of, padded, digits_of};
 
 fn digit(worth: u8) -> u8
     requires { worth < 16 }
@@ -91,6 +91,39 @@ fn quad(a: u8, b: u8, c: u8, d: u8) -> u64
     pair(a, b) * 256 + pair(c, d)
 }
 
+// The number that eight digits spell, and 2^32 or more where one of them is none.
+#[inline(always)]
+fn octet(digits: [u8; 8]) -> u64
+    ensures { MatchOption (eight_of digits) (2 ^ 32 ≤ result) (λ n. result ≡ n) }
+{
+    let [a, b, c, d, e, f, g, h] = digits;
+    quad(a, b, c, d) * 65536 + quad(e, f, g, h)
+}
+
+// Eight digits, of which these are the last, and the others 0.
+#[inline(always)]
+fn padded(word: &[u8]) -> [u8; 8]
+    requires { length word.now ≤ 8 }
+    ensures { result ≡ padded word.now }
+{
+    let mut digits = [b'0'; 8];
+    digits[8 - word.len()..].copy_from_slice(word);
+    digits
+}
+
+// The number that exactly so many digits spell, and 2^32 or more where the field is no such digits.
+#[inline(always)]
+fn number(word: &[u8], width: usize) -> u64
+    requires { width ≤ 8 }
+    ensures { MatchOption (digits_of width word.now) (2 ^ 32 ≤ result) (λ n. result ≡ n) }
+{
+    if word.len() == width {
+        octet(padded(word))
+    } else {
+        NONE
+    }
+}
+
 /// The byte that exactly two digits, `0` to `9` and `A` to `F`, spell; `None` exactly where the
 /// field is no such digits.
 pub fn read_hex2(word: &[u8]) -> Option<u8>
@@ -99,18 +132,7 @@ pub fn read_hex2(word: &[u8]) -> Option<u8>
         ((n : ℕ) → n < 2 ^ 8 → word.now ≢ hex_two n)
         (λ n. word.now ≡ hex_two n) }
 {
-    hex2_value(word)
-}
-
-#[tactic(auto, unfolding(crate::specs::Hex::two_of))]
-#[inline(always)]
-fn hex2_value(word: &[u8]) -> Option<u8>
-    ensures { result ≡ two_of word.now }
-{
-    let [a, b] = word else {
-        return None;
-    };
-    u8::try_from(pair(*a, *b)).ok()
+    u8::try_from(number(word, 2)).ok()
 }
 
 /// The number of 16 bits that exactly four digits, `0` to `9` and `A` to `F`, spell; `None`
@@ -121,18 +143,7 @@ pub fn read_hex4(word: &[u8]) -> Option<u16>
         ((n : ℕ) → n < 2 ^ 16 → word.now ≢ hex_four n)
         (λ n. word.now ≡ hex_four n) }
 {
-    hex4_value(word)
-}
-
-#[tactic(auto, unfolding(crate::specs::Hex::four_of))]
-#[inline(always)]
-fn hex4_value(word: &[u8]) -> Option<u16>
-    ensures { result ≡ four_of word.now }
-{
-    let [a, b, c, d] = word else {
-        return None;
-    };
-    u16::try_from(quad(*a, *b, *c, *d)).ok()
+    u16::try_from(number(word, 4)).ok()
 }
 
 /// The number of 32 bits that exactly eight digits, `0` to `9` and `A` to `F`, spell; `None`
@@ -143,16 +154,5 @@ pub fn read_hex8(word: &[u8]) -> Option<u32>
         ((n : ℕ) → n < 2 ^ 32 → word.now ≢ hex_eight n)
         (λ n. word.now ≡ hex_eight n) }
 {
-    hex8_value(word)
-}
-
-#[tactic(auto, unfolding(crate::specs::Hex::eight_of))]
-#[inline(always)]
-fn hex8_value(word: &[u8]) -> Option<u32>
-    ensures { result ≡ eight_of word.now }
-{
-    let [a, b, c, d, e, f, g, h] = word else {
-        return None;
-    };
-    u32::try_from(quad(*a, *b, *c, *d) * 65536 + quad(*e, *f, *g, *h)).ok()
+    u32::try_from(number(word, 8)).ok()
 }
