@@ -112,7 +112,7 @@ run net (e ∷ past) = step net (run net past) e.call
 abbrev pub said : Listing → List Entry → Machine
 said net past = record { phase = phase_of net past; own = own_of net past; begun = begun_in past; slaves = of_nodes (slave_of net past) }
 
--- only node-IDs are listed
+-- no number above 127 is listed
 abbrev pub ListsNodes : Listing → Type 0
 ListsNodes net = (i : ℕ) → 128 ≤ i → is_listed net i ≡ false
 

@@ -30,8 +30,8 @@ pub fn reads_show()
 {}
 
 /// A law of legal histories, over the definitions alone: the machine by which the manager is
-/// programmed shows its history. Run over the calls of a legal history of a network that lists only
-/// node-IDs, it keeps, after each of them, what the definitions look back for: the phase, the own
+/// programmed shows its history. Run over the calls of a legal history of a network that lists no
+/// number above 127, it keeps, after each of them, what the definitions look back for: the phase, the own
 /// state, how many sessions were begun, each slave, and the open slaves. And it answers each next
 /// call as the tables answer it after that history.
 pub fn machine_shows_its_history()

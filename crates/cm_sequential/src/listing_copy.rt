@@ -14,7 +14,7 @@ use cm_objects::{Startup, Terms};
 
 /// The manager's own copy of its network list, which never changes. The terms of node i stand at
 /// place i.
-#[derive(Clone, Copy)]
+#[derive(Clone, Copy, Debug, PartialEq, Eq)]
 pub struct ListingCopy {
     own: NodeId,
     startup: Startup,

@@ -13,7 +13,7 @@ use cm_netlist::Network;
 use cm_nmt::{NmtState, NodeId};
 
 /// The manager of one network: its copy of the network list, which never changes, and its state.
-#[derive(Clone, Copy)]
+#[derive(Clone, Copy, Debug, PartialEq, Eq)]
 pub struct Manager {
     pub(crate) listing: ListingCopy,
     pub(crate) state: NetworkState,

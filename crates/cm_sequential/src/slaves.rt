@@ -16,7 +16,7 @@ use cm_history::{MISSING, Slave, UNKNOWN};
 use cm_nmt::{Command, NodeId};
 
 /// What the manager keeps of each node, that of node i at place i.
-#[derive(Clone, Copy)]
+#[derive(Clone, Copy, Debug, PartialEq, Eq)]
 pub struct SlaveTable {
     /// As object 1F82h reads them.
     states: [u8; 128],

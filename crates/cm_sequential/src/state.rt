@@ -16,7 +16,7 @@ use cm_nmt::{NmtState, NodeId};
 /// All of the manager that changes, in a value of its own, which is copied: the phase, the
 /// manager's own state, how many sessions were begun, and of each slave its state, whether it is
 /// booted, and its session.
-#[derive(Clone, Copy)]
+#[derive(Clone, Copy, Debug, PartialEq, Eq)]
 pub struct NetworkState {
     own_id: NodeId,
     pub(crate) phase: Phase,

@@ -2,12 +2,12 @@
 
 ghost use Rattle.cm_replay.specs.Compact.{IsReplayOfSome};
 
-use crate::support::{node, terms_of};
+use crate::support::{node, sure, terms_of};
 use arrayvec::ArrayVec;
 use cm_answers::{Answers, Got, Status};
-use cm_history::{Call, Entry, Orders, Reply, Slave, abort_code};
+use cm_history::{Call, Entry, Orders, Phase, Reply, Slave, abort_code};
 use cm_netlist::{Network, SlaveEntry};
-use cm_nmt::{Frame, NodeId};
+use cm_nmt::{Frame, NmtState, NodeId};
 use cm_objects::Startup;
 use cm_replay::{Cause, CompactReplay, Untaken, replay, replay_to_fault};
 use cm_sequential::{Manager, frames};
@@ -54,15 +54,11 @@ fn entry(call: Call, reply: Reply, orders: Orders) -> Entry {
 /// report.
 fn boot(rt: &impl Abort, session: u64, status: Status, started: Option<u8>) -> [Entry; 3] {
     let id = node(rt, 2);
-    let answers = Answers {
-        device: Got::Value(0x0002_0192),
-        ..Answers::new()
-    };
     [
         entry(Call::StartNetwork, Reply::Started, Orders::ResetUnkept),
         entry(Call::Begin(id), Reply::Begun(session), Orders::None),
         entry(
-            Call::Report(id, 1, answers),
+            Call::Report(id, 1, answers()),
             Reply::Reported(status),
             start_of(rt, started),
         ),
@@ -128,6 +124,76 @@ fn sessions_are_counted_over_every_start(rt: HostRuntime) {
         manager.apply(*call);
         assert_eq!(rt; manager.begun(), *begun, "call {place}: {call:?}");
     }
+}
+
+/// Answers with which a slave of which no value is expected boots.
+fn answers() -> Answers {
+    Answers {
+        device: Got::Value(0x0002_0192),
+        ..Answers::new()
+    }
+}
+
+#[test]
+fn open_slaves_are_counted(rt: HostRuntime) {
+    let [two, three] = [node(&rt, 2), node(&rt, 3)];
+    let mut manager = Manager::new(&network(&rt, rt.alloc(), &[(2, 0x0D), (3, 0x0D)]));
+    for (call, open, phase) in [
+        (Call::StartNetwork, 2, Phase::Booting),
+        (Call::Begin(two), 2, Phase::Booting),
+        (Call::Report(two, 1, answers()), 1, Phase::Booting),
+        (Call::Lost(two), 2, Phase::Booting),
+        (Call::Signal(two, 0), 2, Phase::Booting),
+        (Call::Begin(two), 2, Phase::Booting),
+        (Call::Report(two, 2, answers()), 1, Phase::Booting),
+        (Call::Begin(three), 1, Phase::Booting),
+        (Call::Report(three, 3, answers()), 0, Phase::Ready),
+    ] {
+        assert!(rt; manager.begun() < 1000);
+        manager.apply(call);
+        sure(&rt, manager.open_mandatory() == open);
+        sure(&rt, manager.phase() == phase);
+    }
+    sure(&rt, manager.own() == NmtState::Operational);
+}
+
+#[test]
+fn every_node_but_the_manager_may_be_open(rt: HostRuntime) {
+    let mut network = Network::new(rt.alloc(), node(&rt, 127), Startup(1), 0);
+    for number in 1..127u8 {
+        sure(&rt, network.add(node(&rt, number), slave(0x0D)) == Ok(()));
+    }
+    sure(&rt, Manager::new(&network).open_mandatory() == 126);
+}
+
+#[test]
+fn a_call_is_answered_before_it_is_carried_out(rt: HostRuntime) {
+    let two = node(&rt, 2);
+    let mut asked = Manager::new(&network(&rt, rt.alloc(), &[(2, 0x0D)]));
+    let mut applied = asked;
+    for (call, shown) in [
+        (Call::Begin(two), 0),
+        (Call::StartNetwork, 0),
+        (Call::Begin(two), 0),
+        (Call::Report(two, 1, answers()), 5),
+        (Call::Report(two, 1, answers()), 5),
+        (Call::Signal(two, 4), 4),
+        (Call::Lost(two), 1),
+        (Call::Request(2, 127), 127),
+        (Call::Read(2), 127),
+        (Call::Elapsed(1), 127),
+    ] {
+        assert!(rt; asked.begun() < 1000 && applied.begun() < 1000);
+        let before = asked;
+        let (reply, orders) = asked.answer(&call);
+        sure(&rt, asked == before);
+        asked.carry_out(&call, reply, &orders);
+        sure(&rt, applied.apply(call) == (reply, orders));
+        sure(&rt, asked == applied);
+        sure(&rt, asked.shown(two) == shown);
+        sure(&rt, asked.state_now().shown(two) == shown);
+    }
+    sure(&rt, asked.shown(node(&rt, 1)) == 5);
 }
 
 #[test]
