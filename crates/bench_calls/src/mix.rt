@@ -71,7 +71,7 @@ pub fn full_network(alloc: Global) -> Option<Network> {
 }
 
 /// The answers of a boot that ends with Ok: identity and date agree, the time doesn't.
-fn agreeing(terms: &Terms) -> Answers {
+pub fn agreeing(terms: &Terms) -> Answers {
     let heard = if terms.assignment.is_kept_alive() {
         Heard::State(NmtState::PreOperational)
     } else {
