@@ -152,7 +152,7 @@ fn listed_terms(alloc: Global, net: &Network) -> Option<Vec<Terms>> {
 }
 
 /// Tenths of a nanosecond for one call of the manager under a lock, over `count` calls of each
-/// thread on a network that is started. `None` too where a thread made fewer.
+/// thread on a network that is started. `None` too where a boot was refused.
 pub fn tenths_per_call<R: Clock + Threads + Wait + Sync>(
     rt: &R,
     alloc: Global,
