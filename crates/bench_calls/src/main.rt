@@ -1,7 +1,7 @@
-//! bench_calls N: nanoseconds for one call of the sequential manager, over about N calls of operators
-//! and boots on 126 fully configured slaves; the best of seven runs. bench_calls N THREADS: the same
-//! for one call of the manager under a lock, over N calls from each of 1 to 16 threads. With no
-//! argument it prints nothing.
+//! bench_calls N: nanoseconds for one call of the sequential manager, over about N calls of
+//! operators and boots on 126 fully configured slaves; the best of seven runs. bench_calls N
+//! THREADS: the same for one call of the manager under a lock, over N calls from each of 1 to 16
+//! threads; one run. With no argument it prints nothing.
 #![tactic(auto)]
 
 mod locked;
