@@ -3,3 +3,4 @@ pub mod OpenSlaves
 pub mod PhaseSteps
 pub mod Runs
 pub mod Refused
+mod NodeSets

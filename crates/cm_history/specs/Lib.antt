@@ -5,3 +5,4 @@ pub mod Answering
 pub mod Machine
 pub mod Legal
 pub mod Frames
+pub mod NodeSets

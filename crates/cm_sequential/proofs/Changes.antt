@@ -1,11 +1,10 @@
 -- What each granted call makes of a slave: what the code does to it is what the machine does.
 use Rattle.std.proofs.Common.{◌≡◌, ℕ, ◌<◌, refl, ap, sym, subst, ◌∙◌, cond, Bool, true, false, not, ◌&&◌, ◌||◌, inl, inr, arith, Option, Some, None}
 use Rattle.std.specs.Prelude.{◌==◌, ◌%◌}
-use Rattle.std.proofs.lemmas.Bool.{cases_Bool, eqb-true, eq-eqb, ne_eqb, false≢true}
+use Rattle.std.proofs.lemmas.Bool.{cases_Bool, eqb-true, eq-eqb, ne_eqb}
 use Rattle.cm_nmt.specs.Codes.{state_left, command_of_request, state_of_code}
 use Rattle.cm_nmt.specs.declared.command.Command.{Command}
 use Rattle.cm_nmt.specs.declared.command.Command.TheVariants as command
-use Rattle.cm_nmt.specs.declared.state.NmtState.{NmtState}
 use Rattle.cm_objects.specs.Listing.{Listing, is_listed}
 use Rattle.cm_answers.specs.Status.{is_good}
 use Rattle.cm_answers.specs.declared.answers.Answers.{Answers}
@@ -22,7 +21,7 @@ use Rattle.cm_history.specs.History.{is_reset_value, state_reported, state_reque
 use Rattle.cm_history.specs.Answering.{node_named}
 use Rattle.cm_history.specs.Machine.{obeyed, slave_after}
 use Rattle.cm_history.proofs.Refused.{names_all, unreached}
-use Rattle.cm_sequential.specs.Kept.{boot_ended, cleared, in_session, in_state, obeying, obeying_alone}
+use Rattle.cm_sequential.specs.Kept.{boot_ended, cleared, in_state, obeying, obeying_alone}
 
 -- what isn't listed has no state
 abbrev pub Unlisted : Listing → ℕ → Slave → Type 0
@@ -162,16 +161,16 @@ requested v c e =
     elim (cases_Bool (v == 4)) [
       | inl a ↦ is 4 command.Stop (refl, record { resets = refl; left = refl; own = refl }) a
       | inr a ↦ elim (cases_Bool (v == 5)) [
-          | inl b ↦ is 5 command.Start (refl, record { resets = refl; left = refl; own = refl }) b
-          | inr b ↦ elim (cases_Bool (v == 6)) [
-              | inl d ↦ is 6 command.ResetNode (refl, record { resets = refl; left = refl; own = refl }) d
-              | inr d ↦ elim (cases_Bool (v == 7)) [
-                  | inl f ↦ is 7 command.ResetComm (refl, record { resets = refl; left = refl; own = refl }) f
-                  | inr f ↦ elim (cases_Bool (v == 127)) [
-                      | inl g ↦ is 127 command.EnterPre (refl, record { resets = refl; left = refl; own = refl }) g
-                      | inr g ↦ absurd (none_asked v c e a b d f g)
-                    ]
-                ]
+        | inl b ↦ is 5 command.Start (refl, record { resets = refl; left = refl; own = refl }) b
+        | inr b ↦ elim (cases_Bool (v == 6)) [
+          | inl d ↦ is 6 command.ResetNode (refl, record { resets = refl; left = refl; own = refl }) d
+          | inr d ↦ elim (cases_Bool (v == 7)) [
+            | inl f ↦ is 7 command.ResetComm (refl, record { resets = refl; left = refl; own = refl }) f
+            | inr f ↦ elim (cases_Bool (v == 127)) [
+              | inl g ↦ is 127 command.EnterPre (refl, record { resets = refl; left = refl; own = refl }) g
+              | inr g ↦ absurd (none_asked v c e a b d f g)
             ]
+          ]
         ]
+      ]
     ]

@@ -1,6 +1,6 @@
 -- A state that goes on as the machine does.
-use Rattle.std.proofs.Common.{◌≡◌, ℕ, ◌<◌, ◌≤◌, List, refl, ap, sym, subst, ◌∙◌, cond, Bool, true, false, not, ◌||◌, inl, inr, Option, Some, None}
-use Rattle.std.specs.Prelude.{nat_lt, unwrap_or, ◌==◌}
+use Rattle.std.proofs.Common.{◌≡◌, ℕ, ◌<◌, refl, ap, sym, subst, ◌∙◌, Bool, true, false, ◌||◌, inl, inr, Option, Some, None}
+use Rattle.std.specs.Prelude.{unwrap_or, ◌==◌}
 use Rattle.std.specs.Option.{option_or}
 use Rattle.std.proofs.lemmas.Bool.{cases_lt, lt-ltb, le-ltb}
 use Rattle.cm_nmt.specs.Codes.{state_left, state_of_code}
@@ -18,10 +18,10 @@ use Rattle.cm_history.specs.declared.call.Reply.TheVariants as reply
 use Rattle.cm_history.specs.Orders.{to_every}
 use Rattle.cm_history.specs.History.{becomes_operational}
 use Rattle.cm_history.proofs.Refused.{own_still}
-use Rattle.cm_history.specs.Machine.{Machine, after, begun_after, of_nodes, open_in, own_after, phase_after, slave_after, slaves_after}
-use Rattle.cm_sequential.specs.NodeSets.{members_of}
+use Rattle.cm_history.specs.Machine.{Machine, begun_after, of_nodes, open_in, own_after, phase_after, slave_after, slaves_after}
+use Rattle.cm_history.specs.NodeSets.{members_of}
 use Rattle.cm_sequential.specs.States.{kept_slave}
-use Rattle.cm_sequential.specs.Kept.{machine, Fits, Goes, IsCounted}
+use Rattle.cm_sequential.specs.Kept.{Fits, Goes, IsCounted}
 use Rattle.cm_sequential.specs.declared.slaves.SlaveTable.{SlaveTable}
 use Rattle.cm_sequential.specs.declared.state.NetworkState.{NetworkState}
 use Rattle.cm_sequential.proofs.Changes.{Unlisted}

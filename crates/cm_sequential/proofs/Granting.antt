@@ -19,8 +19,8 @@ use Rattle.cm_history.specs.declared.slave.Slave.{Slave}
 use Rattle.cm_history.specs.Orders.{to_every}
 use Rattle.cm_history.specs.History.{is_empty, is_granted, is_reset_value}
 use Rattle.cm_history.specs.Phases.{is_idle}
-use Rattle.cm_history.specs.Answering.{Seen, answer_from, blank_slave, first_refusal, granted_answer, is_late, lost_orders, node_named, refusals, refused_or, request_orders, signal_reply}
-use Rattle.cm_history.specs.Machine.{Machine, answer_in, after, seen_in}
+use Rattle.cm_history.specs.Answering.{Seen, blank_slave, first_refusal, granted_answer, is_late, lost_orders, node_named, refusals, refused_or, request_orders, signal_reply}
+use Rattle.cm_history.specs.Machine.{answer_in, after, seen_in}
 use Rattle.cm_history.proofs.Refused.{after_refused, own_still, phase_same, state_stays}
 use Rattle.cm_sequential.specs.States.{kept_slave}
 use Rattle.cm_sequential.specs.Kept.{machine, Fits, Goes, IsGranted}
@@ -118,16 +118,16 @@ pub to_all_target : (net : Listing) (s : NetworkState) (t v : ℕ) (r : Reply) (
 to_all_target net s t v r o granted other =
     let ten : (t == 0 || nat_lt 128 t) ≡ false = second_unrefused (is_idle s.phase) (t == 0 || nat_lt 128 t) 3 10
     ((11, is_none (command_of_request v)) ∷ (4, not (is_listed net t || (t == net.own || t == 128)))
-      ∷ (12, v == 5 && ((t == 128 || t == net.own) && not (is_empty (seen_in net (machine s) t).open_slaves))) ∷ (13, t == net.own && is_reset_value v) ∷ [])
+    ∷ (12, v == 5 && ((t == 128 || t == net.own) && not (is_empty (seen_in net (machine s) t).open_slaves))) ∷ (13, t == net.own && is_reset_value v) ∷ [])
     granted.unrefused in
     let parts = above_zero (t == 0) (nat_lt 128 t) ten in
     elim (cases_order t 128) [
       | inl same ↦ same
       | inr (inr more) ↦ absurd (omega (arith, more, ltb-false 128 t parts.1))
       | inr (inl less) ↦ elim (cases_lt t 1) [
-          | inl zero ↦ absurd (false≢true (sym parts.0 ∙ eq-eqb t 0 (omega (arith, zero))))
-          | inr low ↦ absurd (other (low, omega (arith, less)))
-        ]
+        | inl zero ↦ absurd (false≢true (sym parts.0 ∙ eq-eqb t 0 (omega (arith, zero))))
+        | inr low ↦ absurd (other (low, omega (arith, less)))
+      ]
     ]
 
 pub all_orders : (apart : Bool) (t : ℕ) (q : Option Command) (c : Command) → q ≡ Some c → apart ≡ false → t ≡ 128 → request_orders apart (t == 128) t q ≡ to_every c

@@ -1,4 +1,3 @@
-pub mod NodeSets
 pub mod Listings
 pub mod Resets
 pub mod Changes

@@ -52,6 +52,6 @@ none_first net ok i = elim (cases_lt i 1) [
   | inl first ↦
       let zero : i ≡ 0 = omega (arith, first) in
       rw (lt-ltb i 1 first) (ap (λ (k : ℕ). is_mandatory (listing net) k) zero
-        ∙ ap (λ (t : Option Terms). option_map_or (λ (u : Terms). has_bit u.assignment.0 3) t false) (terms_zero net ok))
+      ∙ ap (λ (t : Option Terms). option_map_or (λ (u : Terms). has_bit u.assignment.0 3) t false) (terms_zero net ok))
   | inr later ↦ rw (le-ltb i 1 later) refl
 ]

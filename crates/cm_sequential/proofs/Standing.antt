@@ -1,5 +1,5 @@
 -- A manager that stands for a history answers as the history does, and stands, after a call, for the history with it.
-use Rattle.std.proofs.Common.{◌≡◌, ℕ, ◌<◌, ◌≤◌, List, ◌∷◌, arith, refl, ap, sym, subst, ◌∙◌, cond, Bool, true, false, not, ◌&&◌, Option}
+use Rattle.std.proofs.Common.{◌≡◌, ℕ, ◌<◌, ◌≤◌, List, ◌∷◌, arith, refl, ap, sym, subst, ◌∙◌, cond, Bool, true, false, not, ◌&&◌}
 use Rattle.std.specs.Prelude.{nat_lt, ◌+◌}
 use Rattle.std.specs.Option.{is_some}
 use Rattle.std.proofs.lemmas.Bool.{lt-ltb, ltb-true, ltb-false}
@@ -15,12 +15,12 @@ use Rattle.cm_history.specs.declared.phase.Phase.{Phase}
 use Rattle.cm_history.specs.declared.slave.Slave.{Slave}
 use Rattle.cm_history.specs.History.{begun_number, open_of}
 use Rattle.cm_history.specs.Answering.{Seen, answer_from, answer_of, blank_slave, node_named, slave_of}
-use Rattle.cm_history.specs.Machine.{ListsNodes, Machine, after, answer_in, begun_after, said, seen_in}
+use Rattle.cm_history.specs.Machine.{Machine, after, answer_in, begun_after, said, seen_in}
 use Rattle.cm_history.proofs.Runs.{answer_said, machine_step}
 use Rattle.cm_sequential.specs.States.{kept_slave, Shows}
 use Rattle.cm_sequential.specs.Standing.{IsAnswer, listing_in, open_in, seen_by, Stands}
 use Rattle.cm_sequential.specs.Kept.{machine, Goes}
-use Rattle.cm_sequential.specs.NodeSets.{members_of}
+use Rattle.cm_history.specs.NodeSets.{members_of}
 use Rattle.cm_sequential.proofs.Listings.{lists_nodes}
 use Rattle.cm_sequential.specs.declared.manager.Manager.{Manager}
 use Rattle.cm_sequential.specs.declared.state.NetworkState.{NetworkState}
@@ -106,4 +106,4 @@ open_kept m = agree_on_ids _ _ (λ i small. m.fits.counted i small)
 pub open_shown : (m : Manager) (net : Network) (past : List Entry) → Stands m net past → members_of m.state.slaves.unbooted ≡ open_of (listing net) past
 open_shown m net past st =
     open_kept m ∙ agree_on_ids _ _ (λ i small. ap (λ (l : Listing). is_mandatory l i && not (kept_slave m.state.slaves i).booted) st.same_listing
-      ∙ ap (λ (b : Bool). is_mandatory (listing net) i && not b) (st.same_state.booted i small))
+    ∙ ap (λ (b : Bool). is_mandatory (listing net) i && not b) (st.same_state.booted i small))

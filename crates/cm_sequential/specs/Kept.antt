@@ -1,10 +1,8 @@
 -- Working definitions, behind `Stands`: what they hold shows in the contracts of the manager's readers.
 -- What the manager keeps, as the machine of cm_history, and what a change of its table does to each slave.
 use Rattle.std.specs.Prelude.{◌≡◌, ◌<◌, ℕ, Bool, false, ◌==◌, ◌&&◌, ◌||◌, not, if◌then◌else◌, Option, Some, None}
-use Rattle.std.specs.List.{slice_index_or}
 use Rattle.cm_nmt.specs.Codes.{state_left}
 use Rattle.cm_nmt.specs.declared.command.Command.{Command}
-use Rattle.cm_nmt.specs.declared.state.NmtState.{NmtState}
 use Rattle.cm_objects.specs.Listing.{Listing, is_listed, is_mandatory}
 use Rattle.cm_history.specs.Orders.{is_reset}
 use Rattle.cm_history.specs.Machine.{ListsNodes, Machine, after, obeyed, of_nodes, seen_in}
@@ -13,7 +11,7 @@ use Rattle.cm_history.specs.declared.call.Call.{Call}
 use Rattle.cm_history.specs.declared.call.Reply.{Reply}
 use Rattle.cm_history.specs.declared.call.Orders.{Orders}
 use Rattle.cm_history.specs.declared.slave.Slave.{Slave}
-use Rattle.cm_sequential.specs.NodeSets.{has}
+use Rattle.cm_history.specs.NodeSets.{has}
 use Rattle.cm_sequential.specs.States.{kept_slave}
 use Rattle.cm_sequential.specs.declared.slaves.SlaveTable.{SlaveTable}
 use Rattle.cm_sequential.specs.declared.state.NetworkState.{NetworkState}

@@ -5,7 +5,7 @@ use Rattle.cm_objects.specs.Listing.{Listing}
 use Rattle.cm_history.specs.History.{begun_in, is_booted, own_of, phase_of, session_of, state_of}
 use Rattle.cm_history.specs.declared.call.Entry.{Entry}
 use Rattle.cm_history.specs.declared.slave.Slave.{Slave}
-use Rattle.cm_sequential.specs.NodeSets.{has}
+use Rattle.cm_history.specs.NodeSets.{has}
 use Rattle.cm_sequential.specs.declared.listing_copy.ListingCopy.{ListingCopy}
 use Rattle.cm_sequential.specs.declared.slaves.SlaveTable.{SlaveTable}
 use Rattle.cm_sequential.specs.declared.state.NetworkState.{NetworkState}

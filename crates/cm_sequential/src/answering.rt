@@ -144,12 +144,7 @@ impl Manager {
 
     /// The answer to a report of a boot.
     #[inline(always)]
-    fn answer_report(
-        &self,
-        id: NodeId,
-        number: u64,
-        answers: &Answers,
-    ) -> (Reply, Orders)
+    fn answer_report(&self, id: NodeId, number: u64, answers: &Answers) -> (Reply, Orders)
         ensures { (result.0, result.1)
             ≡ answer_from (listing_in self.now) (seen_by self.now id)
             (call.Report id number answers.now) }

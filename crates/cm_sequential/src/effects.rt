@@ -5,7 +5,7 @@ ghost use Rattle.cm_answers.specs.Status.{is_good};
 ghost use Rattle.cm_history.specs.Orders.{is_start_of, is_stop_all, to_every, to_node};
 ghost use Rattle.cm_history.specs.History.{becomes_operational, is_empty, is_fatal, state_reported};
 ghost use Rattle.cm_history.specs.Machine.{phase_then};
-ghost use Rattle.cm_sequential.specs.NodeSets.{members_of};
+ghost use Rattle.cm_history.specs.NodeSets.{members_of};
 ghost use Rattle.cm_sequential.specs.States.{kept_listing};
 ghost use Rattle.cm_sequential.specs.Kept.{Fits, Goes, IsGranted};
 

@@ -7,7 +7,6 @@ mod answering;
 mod effects;
 mod listing_copy;
 mod manager;
-mod node_set;
 mod sending;
 mod slaves;
 mod state;

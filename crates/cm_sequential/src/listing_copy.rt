@@ -1,5 +1,5 @@
 ghost use Rattle.std.specs.Prelude.{◌≡◌, ◌<◌, ℕ, None, IsSome, IsTrue, length};
-ghost use Rattle.cm_sequential.specs.NodeSets.{has};
+ghost use Rattle.cm_history.specs.NodeSets.{has};
 ghost use Rattle.cm_sequential.specs.Listed.{listed_mandatory};
 ghost use Rattle.std.specs.List.{slice_index_or};
 ghost use Rattle.std.specs.Option.{option_copied};
@@ -7,7 +7,7 @@ ghost use Rattle.cm_netlist.specs.Network.{listing};
 ghost use Rattle.cm_objects.specs.Listing.{is_listed, is_mandatory, is_to_be_booted, is_master, starts_all_at_once, leaves_operational_to_application, starts_no_slave, resets_all_on_error, stops_all_on_error};
 ghost use Rattle.cm_netlist.specs.Network as network;
 
-use crate::node_set::NodeSet;
+use cm_history::NodeSet;
 use cm_netlist::Network;
 use cm_nmt::NodeId;
 use cm_objects::{Startup, Terms};
@@ -54,7 +54,9 @@ fn mandatory_slaves(net: &Network) -> NodeSet
     let _own = net.own_id();
     let mut slaves = NodeSet::empty();
     for node in 1..128u8 {
-        if let Some(id) = NodeId::new(node) && net.mandatory(id) {
+        if let Some(id) = NodeId::new(node)
+            && net.mandatory(id)
+        {
             slaves.insert(id);
         }
     }

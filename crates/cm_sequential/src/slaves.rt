@@ -6,13 +6,12 @@ ghost use Rattle.cm_history.specs.Answering.{blank_slave};
 ghost use Rattle.cm_history.specs.Machine.{obeyed};
 ghost use Rattle.cm_history.specs.History.{is_empty};
 ghost use Rattle.cm_history.specs.Orders.{is_reset};
-ghost use Rattle.cm_sequential.specs.NodeSets.{members_of};
+ghost use Rattle.cm_history.specs.NodeSets.{members_of};
 ghost use Rattle.cm_sequential.specs.States.{kept_listing, kept_slave, session_numbered};
 ghost use Rattle.cm_sequential.specs.Kept.{at_node, boot_ended, cleared, in_session, in_state, obeying, obeying_alone, IsCounted};
 
 use crate::listing_copy::ListingCopy;
-use crate::node_set::NodeSet;
-use cm_history::{MISSING, Slave, UNKNOWN};
+use cm_history::{MISSING, NodeSet, UNKNOWN};
 use cm_nmt::{Command, NodeId};
 
 /// What the manager keeps of each node, that of node i at place i.
@@ -68,17 +67,6 @@ impl SlaveTable {
             sessions: [0; 128],
             booted: NodeSet::empty(),
             unbooted: listing.mandatory(),
-        }
-    }
-
-    /// What is kept of the node.
-    pub fn slave(&self, id: NodeId) -> Slave
-        ensures { result ≡ kept_slave self.now id }
-    {
-        Slave {
-            state: self.state(id),
-            booted: self.booted(id),
-            session: self.session(id),
         }
     }
 

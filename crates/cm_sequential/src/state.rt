@@ -4,7 +4,7 @@ ghost use Rattle.cm_objects.specs.Listing.{Listing, is_listed};
 ghost use Rattle.cm_history.specs.History.{begun_in, is_booted, own_of, phase_of, session_of, shown, state_of};
 ghost use Rattle.cm_history.specs.Machine.{idle, ListsNodes};
 ghost use Rattle.cm_history.specs.declared.call.Entry.{Entry};
-ghost use Rattle.cm_sequential.specs.NodeSets.{members_of};
+ghost use Rattle.cm_history.specs.NodeSets.{members_of};
 ghost use Rattle.cm_sequential.specs.States.{kept_listing, kept_slave, Shows};
 ghost use Rattle.cm_sequential.specs.Kept.{machine, Fits};
 

@@ -1,6 +1,5 @@
-use Rattle.std.proofs.Common.{◌≡◌, sym, ◌∙◌, true, false}
+use Rattle.std.proofs.Common.{sym, ◌∙◌}
 use Rattle.cm_history.specs.declared.call.Entry.{Entry}
-use Rattle.cm_history.specs.History.{is_granted}
 use Rattle.cm_sequential.specs.Standing.{listing_in}
 use Rattle.cm_sequential.proofs.Granting.{goes_refused, is_granted_by}
 use Rattle.cm_sequential.proofs.Standing.{own_answer, stands_next}

@@ -17,5 +17,5 @@ returns c = λ byte.
     goes net s _ c.clear.new.self (call.Signal c.args.id byte) reply.BootAgain orders.None c.requires.fits refl refl
     c.clear.ensures.counted
     (λ i small u. c.clear.ensures.slaves i small
-      ∙ ap (λ (v : ℕ). cond (c.args.id == i) (in_state v (cleared (kept_slave s.slaves i))) (kept_slave s.slaves i)) c.code.ensures.code ∙ booted_up net c.args.id byte i (kept_slave s.slaves i) c.requires.listed u)
+    ∙ ap (λ (v : ℕ). cond (c.args.id == i) (in_state v (cleared (kept_slave s.slaves i))) (kept_slave s.slaves i)) c.code.ensures.code ∙ booted_up net c.args.id byte i (kept_slave s.slaves i) c.requires.listed u)
     (sym (phase_same s.phase)) (sym (own_still net s.phase s.own)) refl

@@ -3,7 +3,7 @@ use Rattle.cm_history.specs.declared.call.Call.{Call}
 use Rattle.cm_history.specs.declared.call.Reply.{Reply}
 use Rattle.cm_history.specs.declared.call.Orders.{Orders}
 use Rattle.cm_history.specs.declared.call.Orders.TheVariants as orders
-use Rattle.cm_history.specs.Answering.{granted_answer, is_late, node_named, shown_of}
+use Rattle.cm_history.specs.Answering.{granted_answer, node_named, shown_of}
 use Rattle.cm_history.specs.Machine.{seen_in}
 use Rattle.cm_sequential.specs.States.{kept_listing}
 use Rattle.cm_sequential.specs.Kept.{machine}

@@ -1,4 +1,4 @@
-use Rattle.std.proofs.Common.{ℕ, ap, ◌∙◌, Option}
+use Rattle.std.proofs.Common.{ap, ◌∙◌, Option}
 use Rattle.cm_nmt.specs.declared.command.Command.{Command}
 use Rattle.cm_history.specs.declared.call.Call.TheVariants as call
 use Rattle.cm_history.specs.declared.call.Reply.TheVariants as reply
@@ -16,6 +16,6 @@ returns c = λ ms.
     c.settle.ensures.own_id c.settle.ensures.slaves
     (c.obey.ensures.counted net c.requires.fits.counted)
     (λ i small u. c.obey.ensures.slaves i small
-      ∙ ap (λ (o : Option Command). obeying o (kept_slave s.slaves i)) c.to_all.ensures
-      ∙ passed net ms c.args.orders.now i (kept_slave s.slaves i) u)
+    ∙ ap (λ (o : Option Command). obeying o (kept_slave s.slaves i)) c.to_all.ensures
+    ∙ passed net ms c.args.orders.now i (kept_slave s.slaves i) u)
     c.settle.ensures.phase c.settle.ensures.own c.settle.ensures.begun

@@ -1,4 +1,4 @@
-use Rattle.std.proofs.Common.{ℕ, ap, refl, sym, ◌∙◌, arith}
+use Rattle.std.proofs.Common.{ap, refl, sym, ◌∙◌, arith}
 use Rattle.std.proofs.lemmas.Bool.{false≢true, ne_eqb}
 use Rattle.cm_objects.specs.Listing.{is_listed}
 use Rattle.cm_history.specs.declared.call.Call.TheVariants as call
@@ -18,7 +18,7 @@ returns c = λ value asks.
     goes net s _ c.obey_alone.new.self (call.Request c.args.id value) reply.Done (to_node c.args.command c.args.id) c.requires.fits refl refl
     c.obey_alone.ensures.counted
     (λ i small u. c.obey_alone.ensures.slaves i small
-      ∙ one_asked net c.args.id value c.args.command i (kept_slave s.slaves i) (omega arith) c.requires.listed fits.resets fits.left u)
+    ∙ one_asked net c.args.id value c.args.command i (kept_slave s.slaves i) (omega arith) c.requires.listed fits.resets fits.left u)
     (sym (phase_same s.phase)) (own_other net s.phase c.args.id value (to_node c.args.command c.args.id) s.own
-      (ne_eqb c.args.id net.own (λ e. false≢true (sym c.requires.fits.own_unlisted ∙ ap (is_listed net) (sym e) ∙ c.requires.listed)))
-      (ne_eqb c.args.id 128 (λ e. omega (arith, e)))) refl
+    (ne_eqb c.args.id net.own (λ e. false≢true (sym c.requires.fits.own_unlisted ∙ ap (is_listed net) (sym e) ∙ c.requires.listed)))
+    (ne_eqb c.args.id 128 (λ e. omega (arith, e)))) refl

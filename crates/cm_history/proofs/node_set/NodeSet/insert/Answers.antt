@@ -1,6 +1,6 @@
 use Rattle.std.proofs.Common.{arith, sym}
-use Rattle.cm_sequential.proofs.NodeSets.{most_counted, one_more, set_with}
-use Rattle.cm_sequential.proofs.node_set.NodeSet.insert.Goals as goal
+use Rattle.cm_history.proofs.NodeSets.{most_counted, one_more, set_with}
+use Rattle.cm_history.proofs.node_set.NodeSet.insert.Goals as goal
 
 pub overflow_add-self : goal.overflow_add-self
 overflow_add-self c = omega (arith, c.args.self.now.counted, most_counted c.args.self.now.members)

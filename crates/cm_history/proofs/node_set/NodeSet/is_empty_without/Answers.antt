@@ -1,8 +1,8 @@
 use Rattle.std.proofs.Common.{arith, ap, sym, ◌∙◌}
 use mir.Val.{bool_byte}
-use Rattle.cm_sequential.specs.NodeSets.{has}
-use Rattle.cm_sequential.proofs.NodeSets.{as_byte, none_left}
-use Rattle.cm_sequential.proofs.node_set.NodeSet.is_empty_without.Goals as goal
+use Rattle.cm_history.specs.NodeSets.{has}
+use Rattle.cm_history.proofs.NodeSets.{as_byte, none_left}
+use Rattle.cm_history.proofs.node_set.NodeSet.is_empty_without.Goals as goal
 
 pub returns : goal.returns
 returns c =

@@ -1,6 +1,6 @@
 use Rattle.std.proofs.Common.{arith, sym}
-use Rattle.cm_sequential.proofs.NodeSets.{least_counted, one_less, set_without}
-use Rattle.cm_sequential.proofs.node_set.NodeSet.remove.Goals as goal
+use Rattle.cm_history.proofs.NodeSets.{least_counted, one_less, set_without}
+use Rattle.cm_history.proofs.node_set.NodeSet.remove.Goals as goal
 
 pub overflow_sub-self : goal.overflow_sub-self
 overflow_sub-self c = omega (arith, c.args.self.now.counted, least_counted c.args.self.now.members c.get.result c.get.ensures.range.0 (omega (arith, c.get.ensures.range.1)) (rw c.get.ensures.value (sym c.if-contains.ensures)))

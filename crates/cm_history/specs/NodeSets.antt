@@ -2,7 +2,7 @@
 use Rattle.std.specs.Prelude.{ℕ, Bool, ◌==◌, List, filter}
 use Rattle.std.specs.Int.{bit_at}
 use Rattle.cm_objects.specs.Listing.{node_ids}
-use Rattle.cm_sequential.specs.declared.node_set.NodeSet.{NodeSet}
+use Rattle.cm_history.specs.declared.node_set.NodeSet.{NodeSet}
 
 -- node i is in the set
 abbrev pub has : NodeSet → ℕ → Bool

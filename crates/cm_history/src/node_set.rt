@@ -14,7 +14,7 @@ pub struct NodeSet {
 
 impl NodeSet {
     ghost use Rattle.cm_history.specs.History.{is_empty};
-    ghost use Rattle.cm_sequential.specs.NodeSets.{has, members_of};
+    ghost use Rattle.cm_history.specs.NodeSets.{has, members_of};
 
     /// The set of no node.
     pub const fn empty() -> NodeSet
