@@ -126,5 +126,5 @@ pub after_refused : (net : Listing) (m : Machine) (c : Call) (n : ℕ) → ((i :
 after_refused net m c n unlisted blank =
     let left = open_in net (slaves_after net c (reply.Refused n) orders.None m.slaves) in
     let phase : phase_after net c (reply.Refused n) left m.phase ≡ m.phase = refused_phase net c n left m.phase in
-    machine_parts phase (ap (λ p. own_after net c (reply.Refused n) orders.None m.phase p m.own) phase ∙ own_stays net c n m.phase m.own)
+    machine_parts phase (ap (λ p. own_after net c (reply.Refused n) orders.None m.phase p m.own) phase ∙ own_stays net c n m.phase m.own) refl
     (λ k i. node_stays net c n i (m.slaves i) (nat_lt i 128) refl (unlisted i) (blank i) k)

@@ -20,7 +20,7 @@ use Rattle.cm_history.specs.Orders.{is_reset, is_reset_all, is_start_of, to_all,
 use Rattle.cm_history.specs.History.{is_reset_value, state_reported, state_requested}
 use Rattle.cm_history.specs.Answering.{node_named}
 use Rattle.cm_history.specs.Machine.{obeyed, slave_after}
-use Rattle.cm_history.proofs.Refused.{names_all, unreached}
+use Rattle.cm_history.proofs.Refused.{and_false, names_all, unreached}
 use Rattle.cm_sequential.specs.Kept.{boot_ended, cleared, in_state, obeying, obeying_alone}
 
 -- what isn't listed has no state
@@ -30,14 +30,6 @@ Unlisted net i s = is_listed net i ≡ false → s.state ≡ 0
 and_true : (b : Bool) → (b && true) ≡ b
 and_true true = refl
 and_true false = refl
-
-and_false : (b : Bool) → (b && false) ≡ false
-and_false true = refl
-and_false false = refl
-
-or_true : (b : Bool) → (b || true) ≡ true
-or_true true = refl
-or_true false = refl
 
 zero_obeys : (o : Option Command) → obeyed o 0 ≡ 0
 zero_obeys None = refl

@@ -17,6 +17,7 @@ use Rattle.cm_history.specs.declared.call.Call.TheVariants as call
 use Rattle.cm_history.specs.declared.call.Reply.TheVariants as reply
 use Rattle.cm_history.specs.Orders.{to_every}
 use Rattle.cm_history.specs.History.{becomes_operational}
+use Rattle.cm_history.proofs.Runs.{machine_parts}
 use Rattle.cm_history.proofs.Refused.{own_still}
 use Rattle.cm_history.specs.Machine.{Machine, begun_after, of_nodes, open_in, own_after, phase_after, slave_after, slaves_after}
 use Rattle.cm_history.specs.NodeSets.{members_of}
@@ -29,10 +30,6 @@ use Rattle.cm_sequential.proofs.Changes.{Unlisted}
 -- the open slaves that a table counts are those of the machine
 pub open_counted : (net : Listing) (t : SlaveTable) → IsCounted net t → members_of t.unbooted ≡ open_in net (of_nodes (kept_slave t))
 open_counted net t counted = agree_on_ids _ _ (λ i small. counted i small ∙ rw (lt-ltb i 128 small) refl)
-
-parts : {p p' : Phase} {own own' : NmtState} {b b' : ℕ} {s s' : ℕ → Slave} → p ≡ p' → own ≡ own' → b ≡ b' → s ≡ s'
-    → ◌≡◌ {A = Machine} (record { phase = p; own = own; begun = b; slaves = s }) (record { phase = p'; own = own'; begun = b'; slaves = s' })
-parts e f g h = rw (e, f, g, h) refl
 
 slave_unlisted : (net : Listing) (c : Call) (r : Reply) (o : Orders) (i : ℕ) (s : Slave) → is_listed net i ≡ false → (slave_after net c r o i s).state ≡ 0
 slave_unlisted net c r o i s e = rw e refl
@@ -52,7 +49,7 @@ goes net s s' t c r o fits same_id table counted moved same_phase same_own same_
     let now : s'.phase ≡ phase_after net c r (open_in net (slaves_after net c r o (of_nodes (kept_slave s.slaves)))) s.phase =
     same_phase ∙ ap (λ l. phase_after net c r l s.phase) (open_counted net t counted ∙ ap (open_in net) all) in
     record {
-      step = parts now (same_own ∙ ap (λ p. own_after net c r o s.phase p s.own) now) same_begun (ap (λ (u : SlaveTable). of_nodes (kept_slave u)) table ∙ all);
+      step = machine_parts now (same_own ∙ ap (λ p. own_after net c r o s.phase p s.own) now) same_begun (ap (λ (u : SlaveTable). of_nodes (kept_slave u)) table ∙ all);
       fits = record {
         own_id = same_id ∙ fits.own_id;
         own_unlisted = fits.own_unlisted;

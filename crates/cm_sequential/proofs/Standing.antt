@@ -16,7 +16,7 @@ use Rattle.cm_history.specs.declared.slave.Slave.{Slave}
 use Rattle.cm_history.specs.History.{begun_number, open_of}
 use Rattle.cm_history.specs.Answering.{Seen, answer_from, answer_of, blank_slave, node_named, slave_of}
 use Rattle.cm_history.specs.Machine.{Machine, after, answer_in, begun_after, said, seen_in}
-use Rattle.cm_history.proofs.Runs.{answer_said, machine_step}
+use Rattle.cm_history.proofs.Runs.{answer_said, machine_parts, machine_step, seen_parts}
 use Rattle.cm_sequential.specs.States.{kept_slave, Shows}
 use Rattle.cm_sequential.specs.Standing.{IsAnswer, listing_in, open_in, seen_by, Stands}
 use Rattle.cm_sequential.specs.Kept.{machine, Goes}
@@ -30,10 +30,6 @@ listed_slave : (listed small : Bool) (s : Slave) → (small ≡ false → listed
 listed_slave false small s h = refl
 listed_slave true true s h = refl
 listed_slave true false s h = let wrong = h refl in cc
-
-seen_parts : {p : Phase} {own : NmtState} {b : ℕ} {l l' : List ℕ} {s s' : Slave} → l ≡ l' → s ≡ s'
-    → ◌≡◌ {A = Seen} (record { phase = p; own = own; begun = b; open_slaves = l; slave = s }) (record { phase = p; own = own; begun = b; open_slaves = l'; slave = s' })
-seen_parts h k = rw (h, k) refl
 
 pub seen_same : (m : Manager) (i : ℕ) → seen_by m i ≡ seen_in (listing_in m) (machine m.state) i
 seen_same m i =
@@ -50,12 +46,8 @@ node_said s net past i false e sh = refl
 node_said s net past i true e sh =
     let low : i < 128 = ltb-true i 128 e in λ k. record { state = sh.state i low k; booted = sh.booted i low k; session = sh.session i low k }
 
-parts : {p p' : Phase} {own own' : NmtState} {b b' : ℕ} {s s' : ℕ → Slave} → p ≡ p' → own ≡ own' → b ≡ b' → s ≡ s'
-    → ◌≡◌ {A = Machine} (record { phase = p; own = own; begun = b; slaves = s }) (record { phase = p'; own = own'; begun = b'; slaves = s' })
-parts e f g h = rw (e, f, g, h) refl
-
 pub shown_said : (s : NetworkState) (net : Listing) (past : List Entry) → Shows s net past → machine s ≡ said net past
-shown_said s net past sh = parts sh.phase sh.own sh.begun (λ k i. node_said s net past i (nat_lt i 128) refl sh k)
+shown_said s net past sh = machine_parts sh.phase sh.own sh.begun (λ k i. node_said s net past i (nat_lt i 128) refl sh k)
 
 -- and the other way
 said_at : (s : NetworkState) (net : Listing) (past : List Entry) (i : ℕ) → i < 128 → machine s ≡ said net past → kept_slave s.slaves i ≡ slave_of net past i
