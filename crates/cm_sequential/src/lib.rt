@@ -1,5 +1,5 @@
 //! The sequential NMT manager: it answers a call after any history of calls as the definitions of
-//! cm_history answer it, from a state of fixed size, which is copied; and the frames
+//! cm_history answer it, from a copy of the network list and a state of fixed size; and the frames
 //! that its orders send. It takes no memory.
 #![tactic(auto)]
 

@@ -26,7 +26,7 @@ pub struct SlaveTable {
     unbooted: NodeSet,
 }
 
-/// A state after a command to all that leaves this one: unknown and missing stay so.
+/// A state after a command to all nodes: unknown and missing stay so.
 #[inline(always)]
 fn obeyed(command: Command, state: u8) -> u8
     ensures { result ≡ obeyed (Some command) state }
@@ -38,7 +38,7 @@ fn obeyed(command: Command, state: u8) -> u8
     }
 }
 
-/// Puts every state to what a command to all leaves.
+/// Every node's state after a command to all nodes.
 fn obey_all(states: &mut [u8; 128], command: Command)
     ensures { (i : ℕ) → i < 128
         → slice_index_or states.new i 0 ≡ obeyed (Some command) (slice_index_or states.old i 0) }
