@@ -1,0 +1,3 @@
+pub mod SeatCalls
+pub mod SeatLists
+pub mod Longer

@@ -1,0 +1,30 @@
+-- When a register is opened, and what its seats are then (own).
+use Rattle.std.specs.Prelude.{◌≡◌, ◌+◌, ◌≤◌, ℕ, zero, suc, List, [], ◌∷◌, ◌++◌}
+use Rattle.cm_nmt.specs.declared.frame.Frame.{Frame}
+use Rattle.cm_register.specs.declared.fault.OpenFault.{OpenFault}
+use Rattle.cm_register.specs.declared.fault.OpenFault.TheVariants as fault
+use Rattle.cm_register.specs.Views.{SeatView}
+
+-- there are 1 to 64 seats
+abbrev pub SeatsFit : ℕ → Type 0
+SeatsFit seats = (1 ≤ seats) × (seats ≤ 64)
+
+-- 1 to 65,536 entries are allowed
+abbrev pub LimitFits : ℕ → Type 0
+LimitFits limit = (1 ≤ limit) × (limit ≤ 65536)
+
+-- nothing but memory is in the way
+abbrev pub MayOpen : ℕ → ℕ → List Frame → Type 0
+MayOpen seats limit sent = SeatsFit seats × LimitFits limit × (sent ≡ [])
+
+-- where each fault comes: the first whose condition holds
+abbrev pub IsOpenCause : ℕ → ℕ → List Frame → OpenFault → Type 0
+IsOpenCause seats limit sent fault.BadSeats = SeatsFit seats → ⊥
+IsOpenCause seats limit sent fault.BadLimit = SeatsFit seats × (LimitFits limit → ⊥)
+IsOpenCause seats limit sent fault.WireUsed = SeatsFit seats × LimitFits limit × (sent ≡ [] → ⊥)
+IsOpenCause seats limit sent fault.OutOfMemory = MayOpen seats limit sent
+
+-- the seats 1 to n in order, which have made no call
+abbrev pub fresh_seats : ℕ → List SeatView
+fresh_seats zero = []
+fresh_seats (suc n) = fresh_seats n ++ record { number = n + 1; list = [] } ∷ []

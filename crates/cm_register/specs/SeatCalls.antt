@@ -1,0 +1,26 @@
+-- The calls of one seat in a history that is given with its oldest entry first (own).
+use Rattle.std.specs.Prelude.{ℕ, ◌+◌, ◌<◌, ◌≤◌, ◌==◌, List, [], ◌∷◌, if◌then◌else◌}
+use Rattle.cm_history.specs.declared.call.Call.{Call}
+use Rattle.cm_history.specs.declared.call.Entry.{Entry}
+use Rattle.cm_history.specs.declared.call.Reply.{Reply}
+use Rattle.cm_register.specs.declared.seat.Made.{Made}
+
+-- a call with its place in the history, counted from 1, and its reply
+abbrev pub made : ℕ → Call → Reply → Made
+made n c r = record { position = n; call = c; reply = r }
+
+-- the calls of this seat among entries that stand behind n others
+abbrev pub calls_behind : ℕ → ℕ → List Entry → List Made
+calls_behind seat n [] = []
+calls_behind seat n (e ∷ es) =
+    if e.seat == seat then made (n + 1) e.call e.reply ∷ calls_behind seat (n + 1) es
+    else calls_behind seat (n + 1) es
+
+-- the calls of this seat in the history, in order
+abbrev pub calls_of : List Entry → ℕ → List Made
+calls_of entries seat = calls_behind seat 0 entries
+
+-- every entry is of one of the seats 1 to this number
+abbrev pub AreOfSeats : ℕ → List Entry → Type 0
+AreOfSeats seats [] = Unit {0}
+AreOfSeats seats (e ∷ es) = (0 < e.seat) × (e.seat ≤ seats) × AreOfSeats seats es

@@ -1,0 +1,153 @@
+ghost use Rattle.std.specs.Prelude.{◌≡◌, ◌<◌, ◌≤◌, [], vec_capacity, vec_len, IfOk, IfErr};
+ghost use Rattle.cm_register.specs.Opening.{IsOpenCause, MayOpen, fresh_seats};
+
+use crate::book::Book;
+use crate::fault::OpenFault;
+use crate::register::{Register, SeatList};
+use crate::run_name::RunName;
+use crate::seat::Seat;
+use crate::wire::Wire;
+use cm_history::Entry;
+use cm_netlist::Network;
+use std::alloc::Global;
+use std::sync::ledger::{Blank, Share};
+
+/// A register that has no name yet. Its memory for the whole history, and for what closing needs, is
+/// taken.
+#[derive(Drop)]
+pub struct Opened<'n, W: Wire> {
+    pub net: &'n Network,
+    pub seats: u16,
+    pub limit: u32,
+    pub wire: W,
+    /// The ledger that is to be, of which each seat gets a part.
+    pub blank: Blank,
+    alloc: Global,
+    history: Vec<Entry>,
+    lists: Vec<SeatList>,
+    pub ghost seats_fit: { (0 < seats) × (seats ≤ 64) },
+    pub ghost limit_fits: { (0 < limit) × (limit ≤ 65536) },
+    pub ghost parts: { blank.parts ≡ seats },
+    pub ghost unused: { W.sent wire ≡ [] },
+    ghost room: { (limit ≤ vec_capacity history) × (seats ≤ vec_capacity lists) },
+    ghost empty: { (vec_len history ≡ 0) × (vec_len lists ≡ 0) },
+}
+
+pub(crate) fn open<'n, W: Wire>(
+    alloc: Global,
+    net: &'n Network,
+    seats: u16,
+    limit: u32,
+    wire: W,
+) -> Result<Opened<'n, W>, OpenFault>
+    ensures may { IfOk result (λ o. MayOpen seats limit (W.sent wire)) }
+    ensures given { IfOk result (λ o. (o.net.now ≡ net.now) × (o.seats ≡ seats)
+        × (o.limit ≡ limit) × (o.wire ≡ wire)) }
+    ensures fault { IfErr result (λ f. IsOpenCause seats limit (W.sent wire) f) }
+{
+    if seats < 1 || seats > 64 {
+        return Err(OpenFault::BadSeats);
+    }
+    if limit < 1 || limit > 65536 {
+        return Err(OpenFault::BadLimit);
+    }
+    if wire.used() {
+        return Err(OpenFault::WireUsed);
+    }
+    let Ok(history) = Vec::with_capacity(alloc, limit as usize) else {
+        return Err(OpenFault::OutOfMemory);
+    };
+    let Ok(lists) = Vec::with_capacity(alloc, usize::from(seats)) else {
+        return Err(OpenFault::OutOfMemory);
+    };
+    Ok(Opened {
+        net,
+        seats,
+        limit,
+        wire,
+        blank: Blank::new(u64::from(seats)),
+        alloc,
+        history,
+        lists,
+    })
+}
+
+/// The seats in order, each with one part of the ledger.
+fn make_seats<K: RunName>(
+    alloc: Global,
+    seats: u16,
+    rest: &mut Share<K>,
+) -> Result<Vec<Seat<K>>, OpenFault>
+    requires share { (rest.old.parts ≡ seats) × (rest.old.amount ≡ 0) }
+    requires seats { (seats ≡ K.seats) × (seats ≤ 64) }
+    ensures seats { IfOk result (λ v. v.items ≡ fresh_seats K.seats) }
+    ensures rest { IfOk result (λ v. (rest.new.parts ≡ 0) × (rest.new.amount ≡ 0)) }
+    ensures fault { IfErr result (λ f. f ≡ OpenFault.OutOfMemory) }
+{
+    let Ok(mut all) = Vec::with_capacity(alloc, usize::from(seats)) else {
+        return Err(OpenFault::OutOfMemory);
+    };
+    for number in 0..seats {
+        let share = rest.split_off(1, 0);
+        all.push_reserved(Seat::new(alloc, number + 1, share));
+    }
+    Ok(all)
+}
+
+impl<'n, W: Wire> Opened<'n, W> {
+    /// The book, the seats in order, and the memory that closing needs.
+    fn split<K: RunName>(self) -> Result<(Book<'n, W, K>, Vec<Seat<K>>, Vec<SeatList>), OpenFault>
+        requires { (self.blank.name ≡ K.name) × (self.seats ≡ K.parts) × (self.seats ≡ K.seats)
+            × (self.limit ≡ K.limit) × (self.net.now ≡ K.net) }
+        ensures book { IfOk result (λ r. (r.0.history ≡ []) × (r.0.sent ≡ [])
+            × (r.0.room ≡ W.room_of self.entry.wire)) }
+        ensures seats { IfOk result (λ r. r.1.items ≡ fresh_seats K.seats) }
+        ensures lists { IfOk result (λ r. (vec_len r.2 ≡ 0) × (K.seats ≤ vec_capacity r.2)) }
+        ensures fault { IfErr result (λ f. f ≡ OpenFault.OutOfMemory) }
+    {
+        let Opened {
+            net,
+            seats,
+            limit,
+            wire,
+            blank,
+            alloc,
+            history,
+            lists,
+        } = self;
+        let (ledger, mut rest) = blank.open::<K>();
+        let all = make_seats(alloc, seats, &mut rest)?;
+        Ok((
+            Book::fresh(net, limit, wire, history, ledger, rest),
+            all,
+            lists,
+        ))
+    }
+
+    /// The book and the seats in order, which have made no call: a register for one thread. The
+    /// condition says that `K` names this register; [`std::marker::Brand`] is passed for it.
+    pub fn book<K: RunName>(self) -> Result<(Book<'n, W, K>, Vec<Seat<K>>), OpenFault>
+        requires { (self.blank.name ≡ K.name) × (self.seats ≡ K.parts) × (self.seats ≡ K.seats)
+            × (self.limit ≡ K.limit) × (self.net.now ≡ K.net) }
+        ensures book { IfOk result (λ r. (r.0.history ≡ []) × (r.0.sent ≡ [])
+            × (r.0.room ≡ W.room_of self.entry.wire)) }
+        ensures seats { IfOk result (λ r. r.1.items ≡ fresh_seats K.seats) }
+        ensures fault { IfErr result (λ f. f ≡ OpenFault.OutOfMemory) }
+    {
+        let (book, seats, _lists) = self.split::<K>()?;
+        Ok((book, seats))
+    }
+
+    /// The register, which threads share, and the seats in order, which have made no call. The
+    /// condition says that `K` names this register; [`std::marker::Brand`] is passed for it.
+    pub fn named<K: RunName>(self) -> Result<(Register<'n, W, K>, Vec<Seat<K>>), OpenFault>
+        requires { (self.blank.name ≡ K.name) × (self.seats ≡ K.parts) × (self.seats ≡ K.seats)
+            × (self.limit ≡ K.limit) × (self.net.now ≡ K.net) }
+        ensures seats { IfOk result (λ r. r.1.items ≡ fresh_seats K.seats) }
+        ensures fault { IfErr result (λ f. f ≡ OpenFault.OutOfMemory) }
+    {
+        let (net, count) = (self.net, self.seats);
+        let (book, seats, lists) = self.split::<K>()?;
+        Ok((Register::around(net, count, lists, book), seats))
+    }
+}
