@@ -1,29 +1,20 @@
 //! bench_calls N: nanoseconds for one call of the sequential manager, over about N calls of
-//! operators and boots on 126 fully configured slaves; the best of seven runs. bench_calls N
-//! THREADS: the same for one call of the manager under a lock, over N calls from each of 1 to 16
-//! threads; one run. With no argument it prints nothing.
+//! operators and boots on 126 fully configured slaves; the best of seven runs. With no argument it
+//! prints nothing.
 #![tactic(auto)]
 
-mod locked;
-mod mix;
-
+use bench_mix::{Random, full_network, next_call};
 use cm_history::{Call, Orders, Reply};
 use cm_netlist::Network;
 use cm_sequential::Manager;
-use locked::tenths_per_call;
-use mix::{Random, full_network, next_call};
 use std::alloc::Global;
 use std::env;
 use std::io::{self, Write};
 use std::process::ExitCode;
 use std::rt::{Clock, Env};
-use std::sync::Wait;
-use std::thread::Threads;
 use std::time::Instant;
 
 const RUNS: u32 = 7;
-
-const MOST_THREADS: usize = 16;
 
 const LONGEST: usize = 65_536;
 
@@ -131,35 +122,11 @@ fn measure<R: Clock + Print + AllocGlobal>(rt: &R, count: usize) -> Option<()> {
     .ok()
 }
 
-fn measure_locked<R: Clock + Print + AllocGlobal + Threads + Wait + Sync>(
-    rt: &R,
-    count: usize,
-    threads: usize,
-) -> Option<()> {
-    if count == 0 || threads == 0 || MOST_THREADS < threads {
-        return None;
-    }
-    let net = full_network(rt.alloc())?;
-    let tenths = tenths_per_call(rt, rt.alloc(), &net, threads, count)?;
-    let mut out = io::writer(rt);
-    writeln!(
-        out,
-        "lock: {threads} threads, {}.{} ns per call",
-        tenths / 10,
-        tenths % 10
-    )
-    .ok()
-}
-
-fn run<R: Clock + Env + Print + AllocGlobal + Threads + Wait + Sync>(rt: &R) -> Option<()> {
+fn run<R: Clock + Env + Print + AllocGlobal>(rt: &R) -> Option<()> {
     let words = env::args(rt).ok()?.collect::<Vec<String>>(rt.alloc()).ok()?;
-    let Some(word) = words.as_slice().get(1) else {
-        return Some(());
-    };
-    let count: usize = word.as_str().parse().ok()?;
-    match words.as_slice().get(2) {
-        Some(threads) => measure_locked(rt, count, threads.as_str().parse().ok()?),
-        None => measure(rt, count),
+    match words.as_slice().get(1) {
+        Some(count) => measure(rt, count.as_str().parse().ok()?),
+        None => Some(()),
     }
 }
 

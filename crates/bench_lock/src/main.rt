@@ -1,0 +1,193 @@
+//! bench_lock N THREADS: nanoseconds for one call of a register, over N calls from each of 1 to 16
+//! threads, which boot 126 fully configured slaves again and again; all calls together are 65,535 at
+//! most. bench_lock N: the same for one call of a book, by one thread with no lock. Each is the best
+//! of fifteen runs. With no argument it prints nothing.
+#![tactic(auto)]
+
+ghost use Rattle.std.specs.Prelude.{◌≡◌};
+
+mod caller;
+mod tape;
+
+use bench_mix::full_network;
+use caller::{Caller, listed_terms};
+use cm_history::Call;
+use cm_netlist::Network;
+use cm_objects::Terms;
+use cm_register::{Book, Opened, Register, RunName, Seat};
+use std::env;
+use std::io::{self, Write};
+use std::marker::Brand;
+use std::process::ExitCode;
+use std::rt::{Clock, Env};
+use std::sync::Wait;
+use std::thread::{self, Threads};
+use std::time::Instant;
+use tape::Tape;
+
+const RUNS: u32 = 15;
+
+const MOST_THREADS: u16 = 16;
+
+const MOST_ENTRIES: u32 = 65_536;
+
+/// Makes this many calls from one seat. `None` where one isn't made.
+fn call_often<R: Wait, K: RunName>(
+    rt: &R,
+    register: &Register<Tape, K>,
+    seat: &mut Seat<K>,
+    terms: &[Terms],
+    mut caller: Caller,
+    count: u32,
+) -> Option<()> {
+    for _ in 0..count {
+        let call = caller.next_call(terms)?;
+        let receipt = register.call(rt, seat, call).ok()?;
+        caller.go_on(&receipt.reply);
+    }
+    Some(())
+}
+
+/// Makes the calls in a thread for each seat, and waits for them.
+fn call_in_threads<R: Threads + Wait + Sync, K: RunName + Send + Sync>(
+    rt: &R,
+    register: &Register<Tape, K>,
+    seats: &mut [Seat<K>],
+    terms: &[Terms],
+    count: u32,
+) -> Option<()> {
+    let threads = seats.len();
+    thread::scope(thread::scope_env(), rt, |scope| {
+        for (first, seat) in seats.iter_mut().enumerate() {
+            let caller = Caller::new(first, threads);
+            scope
+                .spawn(move || call_often(rt, register, seat, terms, caller, count))
+                .ok()?;
+        }
+        Some(())
+    })
+}
+
+/// Nanoseconds of one run of a register; `None` too where it doesn't close with all calls.
+fn run_register<R: Clock + Threads + Wait + Sync, K: RunName + Send + Sync>(
+    rt: &R,
+    opened: Opened<Tape>,
+    terms: &[Terms],
+    count: u32,
+) -> Option<u128>
+    requires { (opened.blank.name ≡ K.name) × (opened.seats ≡ K.parts) × (opened.seats ≡ K.seats)
+        × (opened.limit ≡ K.limit) × (opened.net.now ≡ K.net) }
+{
+    let (register, mut seats) = opened.named::<K>().ok()?;
+    register
+        .call(rt, seats.as_mut_slice().get_mut(0)?, Call::StartNetwork)
+        .ok()?;
+    let from = Instant::now(rt).ok()?;
+    call_in_threads(rt, &register, seats.as_mut_slice(), terms, count)?;
+    let nanos = from.elapsed(rt).ok()?.as_nanos();
+    let made = (count as usize).saturating_mul(seats.len());
+    let Ok(closed) = register.close(seats) else {
+        return None;
+    };
+    if closed.history.len() == made.saturating_add(1) {
+        Some(nanos)
+    } else {
+        None
+    }
+}
+
+/// Nanoseconds of one run of a book.
+fn run_book<R: Clock + Wait, K: RunName>(
+    rt: &R,
+    opened: Opened<Tape>,
+    terms: &[Terms],
+    count: u32,
+) -> Option<u128>
+    requires { (opened.blank.name ≡ K.name) × (opened.seats ≡ K.parts) × (opened.seats ≡ K.seats)
+        × (opened.limit ≡ K.limit) × (opened.net.now ≡ K.net) }
+{
+    let (mut book, mut seats) = opened.book::<K>().ok()?;
+    let seat = seats.as_mut_slice().get_mut(0)?;
+    book.apply(seat, Call::StartNetwork).ok()?;
+    let mut caller = Caller::new(0, 1);
+    let from = Instant::now(rt).ok()?;
+    for _ in 0..count {
+        let receipt = book.apply(seat, caller.next_call(terms)?).ok()?;
+        caller.go_on(&receipt.reply);
+    }
+    let nanos = from.elapsed(rt).ok()?.as_nanos();
+    if book.history().len() == (count as usize).saturating_add(1) {
+        Some(nanos)
+    } else {
+        None
+    }
+}
+
+/// A register of this network with so many seats, and a wire with room for all of its frames.
+fn open<'n, R: AllocGlobal>(rt: &R, net: &'n Network, seats: u16) -> Option<Opened<'n, Tape>> {
+    let tape = Tape::new(rt.alloc(), MOST_ENTRIES.saturating_add(126))?;
+    Register::open(rt.alloc(), net, seats, MOST_ENTRIES, tape).ok()
+}
+
+/// Tenths of a nanosecond for one call, the best of the runs; of a book where there is no thread.
+fn best<R: Clock + AllocGlobal + Threads + Wait + Sync>(
+    rt: &R,
+    net: &Network,
+    terms: &[Terms],
+    count: u32,
+    threads: u16,
+) -> Option<u128> {
+    let mut best = u128::MAX;
+    for _ in 0..RUNS {
+        let opened = open(rt, net, threads.max(1))?;
+        let nanos = if threads == 0 {
+            run_book::<R, Brand>(rt, opened, terms, count)?
+        } else {
+            run_register::<R, Brand>(rt, opened, terms, count)?
+        };
+        best = best.min(nanos);
+    }
+    let made = u128::from(count).saturating_mul(u128::from(threads.max(1)));
+    Some(best.saturating_mul(10) / made.max(1))
+}
+
+fn measure<R: Clock + Print + AllocGlobal + Threads + Wait + Sync>(
+    rt: &R,
+    count: u32,
+    threads: u16,
+) -> Option<()> {
+    let all = count.saturating_mul(u32::from(threads.max(1)));
+    if count == 0 || MOST_THREADS < threads || MOST_ENTRIES <= all {
+        return None;
+    }
+    let net = full_network(rt.alloc())?;
+    let terms = listed_terms(rt.alloc(), &net)?;
+    let tenths = best(rt, &net, terms.as_slice(), count, threads)?;
+    let mut out = io::writer(rt);
+    writeln!(
+        out,
+        "lock: {threads} threads, {}.{} ns per call",
+        tenths / 10,
+        tenths % 10
+    )
+    .ok()
+}
+
+fn run<R: Clock + Env + Print + AllocGlobal + Threads + Wait + Sync>(rt: &R) -> Option<()> {
+    let words = env::args(rt).ok()?.collect::<Vec<String>>(rt.alloc()).ok()?;
+    let Some(count) = words.as_slice().get(1) else {
+        return Some(());
+    };
+    let threads = match words.as_slice().get(2) {
+        Some(threads) => threads.as_str().parse().ok()?,
+        None => 0,
+    };
+    measure(rt, count.as_str().parse().ok()?, threads)
+}
+
+fn main(rt: HostRuntime) -> ExitCode {
+    match run(&rt) {
+        Some(()) => ExitCode::SUCCESS,
+        None => ExitCode::FAILURE,
+    }
+}
