@@ -1,11 +1,14 @@
 //! bench_calls N: nanoseconds for one call of the sequential manager, over about N calls of
-//! operators and boots on 126 fully configured slaves; the best of seven runs. With no argument it
-//! prints nothing.
+//! operators and boots on 126 fully configured slaves, and for the start of networks of several
+//! sizes, of which every slave is booted; the best of seven runs each. With no argument it prints
+//! nothing.
 #![tactic(auto)]
 
-use bench_mix::{Random, full_network, next_call};
+use bench_mix::{Random, agreeing, full_network, next_call};
 use cm_history::{Call, Orders, Reply};
 use cm_netlist::Network;
+use cm_nmt::NodeId;
+use cm_objects::Terms;
 use cm_sequential::Manager;
 use std::alloc::Global;
 use std::env;
@@ -17,6 +20,9 @@ use std::time::Instant;
 const RUNS: u32 = 7;
 
 const LONGEST: usize = 65_536;
+
+/// How many starts there are in a run.
+const STARTS: u32 = 1_000;
 
 /// The list of calls, how many are reports, and how many are refused.
 #[derive(Drop)]
@@ -104,8 +110,58 @@ fn best(clock: &impl Clock, net: &Network, calls: &[Call], rounds: usize) -> Opt
     if sent == 0 { None } else { Some(best) }
 }
 
+/// Starts the network and boots each of its slaves, by a manager that has answered no call. `None`
+/// where one is open then.
+fn start(manager: &Manager, terms: &[Terms]) -> Option<()> {
+    let mut manager = *manager;
+    apply(&mut manager, Call::StartNetwork);
+    for (place, terms) in terms.iter().enumerate() {
+        let id = NodeId::new(u8::try_from(place).ok()?.saturating_add(1))?;
+        let (Reply::Begun(session), _) = apply(&mut manager, Call::Begin(id)) else {
+            return None;
+        };
+        apply(&mut manager, Call::Report(id, session, agreeing(terms)));
+    }
+    if manager.open_mandatory() == 0 {
+        Some(())
+    } else {
+        None
+    }
+}
+
+/// Nanoseconds for the start of a network of so many slaves, the best of the runs.
+fn best_start(clock: &impl Clock, alloc: Global, slaves: u8) -> Option<u128> {
+    let net = full_network(alloc, slaves)?;
+    let mut terms = Vec::new(alloc);
+    for number in 0..slaves {
+        terms
+            .push(net.terms(NodeId::new(number.saturating_add(1))?)?)
+            .ok()?;
+    }
+    let manager = Manager::new(&net);
+    let mut best = u128::MAX;
+    for _ in 0..RUNS {
+        let from = Instant::now(clock).ok()?;
+        for _ in 0..STARTS {
+            start(&manager, terms.as_slice())?;
+        }
+        let nanos = from.elapsed(clock).ok()?.as_nanos();
+        best = best.min(nanos / u128::from(STARTS));
+    }
+    Some(best)
+}
+
+fn measure_starts<R: Clock + Print + AllocGlobal>(rt: &R) -> Option<()> {
+    for slaves in [1, 2, 32, 63, 126u8] {
+        let nanos = best_start(rt, rt.alloc(), slaves)?;
+        let mut out = io::writer(rt);
+        writeln!(out, "start of {slaves} slaves: {nanos} ns").ok()?;
+    }
+    Some(())
+}
+
 fn measure<R: Clock + Print + AllocGlobal>(rt: &R, count: usize) -> Option<()> {
-    let net = full_network(rt.alloc())?;
+    let net = full_network(rt.alloc(), 126)?;
     let mix = draw(rt.alloc(), &net, count.min(LONGEST))?;
     let calls = mix.calls.as_slice();
     let tenths = best(rt, &net, calls, count / calls.len().max(1))?;
@@ -125,7 +181,10 @@ fn measure<R: Clock + Print + AllocGlobal>(rt: &R, count: usize) -> Option<()> {
 fn run<R: Clock + Env + Print + AllocGlobal>(rt: &R) -> Option<()> {
     let words = env::args(rt).ok()?.collect::<Vec<String>>(rt.alloc()).ok()?;
     match words.as_slice().get(1) {
-        Some(count) => measure(rt, count.as_str().parse().ok()?),
+        Some(count) => {
+            measure(rt, count.as_str().parse().ok()?)?;
+            measure_starts(rt)
+        }
         None => Some(()),
     }
 }

@@ -160,7 +160,7 @@ fn measure<R: Clock + Print + AllocGlobal + Threads + Wait + Sync>(
     if count == 0 || MOST_THREADS < threads || MOST_ENTRIES <= all {
         return None;
     }
-    let net = full_network(rt.alloc())?;
+    let net = full_network(rt.alloc(), 126)?;
     let terms = listed_terms(rt.alloc(), &net)?;
     let tenths = best(rt, &net, terms.as_slice(), count, threads)?;
     let mut out = io::writer(rt);

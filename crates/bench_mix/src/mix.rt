@@ -61,10 +61,11 @@ fn full_entry(number: u8) -> SlaveEntry {
     }
 }
 
-/// 126 fully configured slaves, all mandatory, every fourth kept alive.
-pub fn full_network(alloc: Global) -> Option<Network> {
+/// So many fully configured slaves, 126 at most, all mandatory, every fourth kept alive.
+pub fn full_network(alloc: Global, slaves: u8) -> Option<Network> {
     let mut net = Network::new(alloc, NodeId::new(127)?, Startup(1), 60_000);
-    for number in 1..127u8 {
+    for number in 0..slaves {
+        let number = number.saturating_add(1);
         net.add(NodeId::new(number)?, full_entry(number)).ok()?;
     }
     Some(net)
