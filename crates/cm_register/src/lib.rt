@@ -1,6 +1,11 @@
 //! One NMT manager that threads share under one lock: they hold the seats of one register, each call
 //! goes through the lock, gets one reply and stands once in one history, and where the register
 //! closes, its history is one thread's.
+//!
+//! [`Register::open`] takes the network list, how many seats and entries there are to be, and a
+//! [`Wire`] for the frames; [`Opened::named`] gives the register and its seats; each thread makes its
+//! calls by [`Register::call`] with a seat of its own; [`Register::close`] takes all seats back and
+//! gives the history, the seats' lists, the wire and the manager. [`Book`] is the same for one thread.
 #![tactic(auto)]
 
 mod book;
