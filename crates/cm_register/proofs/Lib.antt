@@ -1,3 +1,4 @@
 pub mod SeatCalls
 pub mod SeatLists
+pub mod Replies
 pub mod Longer

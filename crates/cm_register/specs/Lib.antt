@@ -1,5 +1,6 @@
 pub mod SeatCalls
 pub mod Views
+pub mod Replies
 pub mod Faults
 pub mod Opening
 pub mod Closing
