@@ -1,0 +1,129 @@
+//! A register that one thread has, with what it leaves where it closes.
+
+ghost use Rattle.std.specs.Prelude.{◌≡◌};
+
+use crate::support::{Tape, close, entry, frame, is_made, is_refused, lacks_seats, network, sure};
+use cm_history::{Call, Orders, Reply};
+use cm_register::{CallFault, Opened, Register, RunName, SeatList};
+use std::marker::Brand;
+use std::process::Abort;
+use std::sync::Wait;
+use std::test::Fail;
+
+#[test]
+fn a_full_wire_refuses_a_call(rt: HostRuntime) -> Result<(), Fail> {
+    let net = network(&rt, rt.alloc(), 1, &[(2, 0x05), (3, 0x15), (4, 0x05)]);
+    let wire = Tape::new(rt.alloc(), &[], 1)?;
+    let Ok(opened) = Register::open(rt.alloc(), &net, 1, 10, wire) else {
+        return Err(Fail::from("open"));
+    };
+    lacks_room::<Brand, _>(&rt, opened)
+}
+
+fn lacks_room<K: RunName, R: Wait + Abort>(rt: &R, opened: Opened<Tape>) -> Result<(), Fail>
+    requires { (opened.blank.name ≡ K.name) × (opened.seats ≡ K.parts) × (opened.seats ≡ K.seats)
+        × (opened.limit ≡ K.limit) × (opened.net.now ≡ K.net) }
+{
+    let Ok((register, mut seats)) = opened.named::<K>() else {
+        return Err(Fail::from("named"));
+    };
+    let [seat] = seats.as_mut_slice() else {
+        return Err(Fail::from("seats"));
+    };
+    let start = register.call(rt, seat, Call::StartNetwork);
+    is_refused(rt, start, CallFault::WireFull);
+    sure(rt, seat.list().is_empty());
+    is_made(
+        rt,
+        register.call(rt, seat, Call::Read(2)),
+        1,
+        Reply::Refused(3),
+    );
+    let closed = close(register, seats)?;
+    let entries = [entry(1, Call::Read(2), Reply::Refused(3), Orders::None)];
+    sure(rt, closed.history.as_slice() == entries.as_slice());
+    sure(rt, closed.wire.sent().is_empty());
+    Ok(())
+}
+
+#[test]
+fn a_call_returns_what_is_recorded(rt: HostRuntime) -> Result<(), Fail> {
+    let net = network(&rt, rt.alloc(), 1, &[]);
+    let wire = Tape::new(rt.alloc(), &[], 10)?;
+    let Ok(opened) = Register::open(rt.alloc(), &net, 2, 12, wire) else {
+        return Err(Fail::from("open"));
+    };
+    calls_in_turn::<Brand, _>(&rt, opened)
+}
+
+/// The number of a seat that comes at these places.
+fn has_places(list: &SeatList, number: u16, places: &[u32]) -> bool {
+    list.number == number
+        && list.made.len() == places.len()
+        && list
+            .made
+            .iter()
+            .zip(places.iter())
+            .all(|(made, place)| made.position == *place)
+}
+
+fn calls_in_turn<K: RunName, R: Wait + Abort>(rt: &R, opened: Opened<Tape>) -> Result<(), Fail>
+    requires { (opened.blank.name ≡ K.name) × (opened.seats ≡ K.parts) × (opened.seats ≡ K.seats)
+        × (opened.limit ≡ K.limit) × (opened.net.now ≡ K.net) }
+{
+    let Ok((register, mut seats)) = opened.named::<K>() else {
+        return Err(Fail::from("named"));
+    };
+    let [first, second] = seats.as_mut_slice() else {
+        return Err(Fail::from("seats"));
+    };
+    let started = register.call(rt, first, Call::StartNetwork);
+    let read = register.call(rt, second, Call::Read(1));
+    let elapsed = register.call(rt, first, Call::Elapsed(0));
+    is_made(rt, started, 1, Reply::Started);
+    is_made(rt, read, 2, Reply::State(127));
+    is_made(rt, elapsed, 3, Reply::InTime);
+    seats.as_mut_slice().reverse();
+    let closed = close(register, seats)?;
+    let entries = [
+        entry(1, Call::StartNetwork, Reply::Started, Orders::ResetUnkept),
+        entry(2, Call::Read(1), Reply::State(127), Orders::None),
+        entry(1, Call::Elapsed(0), Reply::InTime, Orders::None),
+    ];
+    sure(rt, closed.history.as_slice() == entries.as_slice());
+    let [one, other] = closed.lists.as_slice() else {
+        return Err(Fail::from("lists"));
+    };
+    sure(rt, has_places(one, 2, &[2]));
+    sure(rt, has_places(other, 1, &[1, 3]));
+    sure(rt, closed.wire.sent() == [frame(rt, [0x82, 0])].as_slice());
+    Ok(())
+}
+
+#[test]
+fn a_seat_that_was_dropped_is_missing(rt: HostRuntime) -> Result<(), Fail> {
+    let net = network(&rt, rt.alloc(), 1, &[]);
+    let wire = Tape::new(rt.alloc(), &[], 10)?;
+    let Ok(opened) = Register::open(rt.alloc(), &net, 2, 12, wire) else {
+        return Err(Fail::from("open"));
+    };
+    drops_a_seat::<Brand, _>(&rt, opened)
+}
+
+fn drops_a_seat<K: RunName, R: Wait + Abort>(rt: &R, opened: Opened<Tape>) -> Result<(), Fail>
+    requires { (opened.blank.name ≡ K.name) × (opened.seats ≡ K.parts) × (opened.seats ≡ K.seats)
+        × (opened.limit ≡ K.limit) × (opened.net.now ≡ K.net) }
+{
+    let Ok((register, mut seats)) = opened.named::<K>() else {
+        return Err(Fail::from("named"));
+    };
+    seats.truncate(1);
+    let (register, mut seats) = lacks_seats(rt, register, seats, 1)?;
+    let [seat] = seats.as_mut_slice() else {
+        return Err(Fail::from("seats"));
+    };
+    let start = register.call(rt, seat, Call::StartNetwork);
+    is_made(rt, start, 1, Reply::Started);
+    lacks_seats(rt, register, seats, 1)?;
+    Ok(())
+}

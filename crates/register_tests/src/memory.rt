@@ -1,0 +1,92 @@
+//! Memory that is refused once, wherever it is: nothing is lost, and the same again is made.
+
+ghost use Rattle.std.specs.Prelude.{◌≡◌};
+
+use crate::support::{Tape, close, entry, frame, is_made, network, sure};
+use cm_history::{Call, Orders, Reply};
+use cm_netlist::Network;
+use cm_register::{CallFault, OpenFault, Opened, Register, RunName, Seat};
+use std::alloc::Global;
+use std::marker::Brand;
+use std::process::Abort;
+use std::sync::Wait;
+use std::test::Fail;
+
+/// How many calls are made, for which the list of a seat is made longer several times.
+const CALLS: u32 = 20;
+
+/// Makes a call, and once more where memory is refused.
+fn insist<K: RunName, R: Wait + Abort>(
+    rt: &R,
+    register: &Register<Tape, K>,
+    seat: &mut Seat<K>,
+    call: &Call,
+    position: u32,
+    reply: Reply,
+) {
+    let before = seat.list().len();
+    let made = register.call(rt, seat, *call);
+    if made.err() != Some(CallFault::OutOfMemory) {
+        is_made(rt, made, position, reply);
+        return;
+    }
+    sure(rt, seat.list().len() == before);
+    is_made(rt, register.call(rt, seat, *call), position, reply);
+}
+
+/// Names the register, makes the calls, and closes it. Whether memory for the name was there.
+fn calls<K: RunName, R: Wait + Abort>(rt: &R, opened: Opened<Tape>) -> Result<bool, Fail>
+    requires { (opened.blank.name ≡ K.name) × (opened.seats ≡ K.parts) × (opened.seats ≡ K.seats)
+        × (opened.limit ≡ K.limit) × (opened.net.now ≡ K.net) }
+{
+    let (register, mut seats) = match opened.named::<K>() {
+        Ok(named) => named,
+        Err(fault) => {
+            sure(rt, fault == OpenFault::OutOfMemory);
+            return Ok(false);
+        }
+    };
+    let [seat] = seats.as_mut_slice() else {
+        return Err(Fail::from("seats"));
+    };
+    insist(rt, &register, seat, &Call::StartNetwork, 1, Reply::Started);
+    for position in 2..CALLS + 1 {
+        insist(
+            rt,
+            &register,
+            seat,
+            &Call::Read(1),
+            position,
+            Reply::State(127),
+        );
+    }
+    let closed = close(register, seats)?;
+    sure(rt, closed.history.len() == CALLS as usize);
+    let started = entry(1, Call::StartNetwork, Reply::Started, Orders::ResetUnkept);
+    sure(rt, closed.history.first() == Some(&started));
+    sure(rt, closed.wire.sent() == [frame(rt, [0x82, 0])].as_slice());
+    Ok(true)
+}
+
+/// Opens a register and makes the calls. Whether memory for all but the calls was there.
+fn opens_and_calls<R: Wait + Abort>(rt: &R, alloc: Global, net: &Network) -> Result<bool, Fail> {
+    let Ok(wire) = Tape::new(alloc, &[], 1) else {
+        return Ok(false);
+    };
+    match Register::open(alloc, net, 1, CALLS, wire) {
+        Ok(opened) => calls::<Brand, _>(rt, opened),
+        Err(fault) => {
+            sure(rt, fault == OpenFault::OutOfMemory);
+            Ok(false)
+        }
+    }
+}
+
+#[test]
+fn what_memory_refuses_once_is_made_again(rt: HostRuntime) -> Result<(), Fail> {
+    let net = network(&rt, rt.alloc(), 1, &[]);
+    if !opens_and_calls(&rt, rt.alloc(), &net)? {
+        sure(&rt, opens_and_calls(&rt, rt.alloc(), &net)?);
+    }
+    Ok(())
+}

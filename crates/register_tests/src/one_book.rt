@@ -1,0 +1,116 @@
+//! A register for one thread.
+
+ghost use Rattle.std.specs.Prelude.{◌≡◌};
+
+use crate::support::{Lent, Tape, answers, entry, frame, is_made, is_refused, network, node, sure};
+use cm_answers::Status;
+use cm_history::{Call, Orders, Phase, Reply};
+use cm_nmt::NmtState;
+use cm_register::{Book, CallFault, Opened, RunName, Seat};
+use std::marker::Brand;
+use std::process::Abort;
+use std::test::Fail;
+
+/// Its book, and its seat.
+fn open<'n, 'a, K: RunName>(
+    opened: Opened<'n, Lent<'a>>,
+) -> Result<(Book<'n, Lent<'a>, K>, Seat<K>), Fail>
+    requires { (opened.blank.name ≡ K.name) × (opened.seats ≡ K.parts) × (opened.seats ≡ K.seats)
+        × (opened.limit ≡ K.limit) × (opened.net.now ≡ K.net) }
+{
+    let Ok((book, mut seats)) = opened.book::<K>() else {
+        return Err(Fail::from("book"));
+    };
+    let Some(seat) = seats.pop() else {
+        return Err(Fail::from("seat"));
+    };
+    Ok((book, seat))
+}
+
+#[test]
+fn one_slave_boots(rt: HostRuntime) -> Result<(), Fail> {
+    let net = network(&rt, rt.alloc(), 1, &[(2, 0x0D)]);
+    let mut tape = Tape::new(rt.alloc(), &[], 10)?;
+    let wire = Lent(&mut tape);
+    let Ok(opened) = Book::<Lent, Brand>::open(rt.alloc(), &net, 1, 10, wire) else {
+        return Err(Fail::from("open"));
+    };
+    boots::<Brand, _>(&rt, opened)?;
+    let frames = [frame(&rt, [0x82, 0]), frame(&rt, [0x01, 2])];
+    sure(&rt, tape.sent() == frames.as_slice());
+    Ok(())
+}
+
+fn boots<K: RunName, R: Abort>(rt: &R, opened: Opened<Lent>) -> Result<(), Fail>
+    requires { (opened.blank.name ≡ K.name) × (opened.seats ≡ K.parts) × (opened.seats ≡ K.seats)
+        × (opened.limit ≡ K.limit) × (opened.net.now ≡ K.net) }
+{
+    let two = node(rt, 2);
+    let (mut book, mut seat) = open::<K>(opened)?;
+    is_made(
+        rt,
+        book.apply(&mut seat, Call::StartNetwork),
+        1,
+        Reply::Started,
+    );
+    is_made(
+        rt,
+        book.apply(&mut seat, Call::Begin(two)),
+        2,
+        Reply::Begun(1),
+    );
+    is_made(
+        rt,
+        book.apply(&mut seat, Call::Report(two, 1, answers())),
+        3,
+        Reply::Reported(Status::Ok),
+    );
+    let started = Orders::One(frame(rt, [0x01, 2]));
+    let entries = [
+        entry(1, Call::StartNetwork, Reply::Started, Orders::ResetUnkept),
+        entry(1, Call::Begin(two), Reply::Begun(1), Orders::None),
+        entry(
+            1,
+            Call::Report(two, 1, answers()),
+            Reply::Reported(Status::Ok),
+            started,
+        ),
+    ];
+    sure(rt, book.history() == entries.as_slice());
+    sure(rt, book.manager().phase() == Phase::Ready);
+    sure(rt, book.manager().own() == NmtState::Operational);
+    sure(rt, book.manager().state(two) == 5);
+    Ok(())
+}
+
+#[test]
+fn a_full_wire_refuses_a_call(rt: HostRuntime) -> Result<(), Fail> {
+    let net = network(&rt, rt.alloc(), 1, &[(2, 0x05), (3, 0x15), (4, 0x05)]);
+    let mut tape = Tape::new(rt.alloc(), &[], 1)?;
+    let wire = Lent(&mut tape);
+    let Ok(opened) = Book::<Lent, Brand>::open(rt.alloc(), &net, 1, 10, wire) else {
+        return Err(Fail::from("open"));
+    };
+    lacks_room::<Brand, _>(&rt, opened)?;
+    sure(&rt, tape.sent().is_empty());
+    Ok(())
+}
+
+fn lacks_room<K: RunName, R: Abort>(rt: &R, opened: Opened<Lent>) -> Result<(), Fail>
+    requires { (opened.blank.name ≡ K.name) × (opened.seats ≡ K.parts) × (opened.seats ≡ K.seats)
+        × (opened.limit ≡ K.limit) × (opened.net.now ≡ K.net) }
+{
+    let (mut book, mut seat) = open::<K>(opened)?;
+    let start = book.apply(&mut seat, Call::StartNetwork);
+    is_refused(rt, start, CallFault::WireFull);
+    sure(rt, seat.list().is_empty() && book.history().is_empty());
+    is_made(
+        rt,
+        book.apply(&mut seat, Call::Read(2)),
+        1,
+        Reply::Refused(3),
+    );
+    let entries = [entry(1, Call::Read(2), Reply::Refused(3), Orders::None)];
+    sure(rt, book.history() == entries.as_slice());
+    Ok(())
+}
