@@ -47,24 +47,6 @@ fn boots<K: RunName, R: Abort>(rt: &R, opened: Opened<Lent>) -> Result<(), Fail>
 {
     let two = node(rt, 2);
     let (mut book, mut seat) = open::<K>(opened)?;
-    is_made(
-        rt,
-        book.apply(&mut seat, Call::StartNetwork),
-        1,
-        Reply::Started,
-    );
-    is_made(
-        rt,
-        book.apply(&mut seat, Call::Begin(two)),
-        2,
-        Reply::Begun(1),
-    );
-    is_made(
-        rt,
-        book.apply(&mut seat, Call::Report(two, 1, answers())),
-        3,
-        Reply::Reported(Status::Ok),
-    );
     let started = Orders::One(frame(rt, [0x01, 2]));
     let entries = [
         entry(1, Call::StartNetwork, Reply::Started, Orders::ResetUnkept),
@@ -76,6 +58,10 @@ fn boots<K: RunName, R: Abort>(rt: &R, opened: Opened<Lent>) -> Result<(), Fail>
             started,
         ),
     ];
+    for (position, entry) in (1..4).zip(entries.iter()) {
+        let made = book.apply(&mut seat, entry.call);
+        is_made(rt, made, position, entry.reply);
+    }
     sure(rt, book.history() == entries.as_slice());
     sure(rt, book.manager().phase() == Phase::Ready);
     sure(rt, book.manager().own() == NmtState::Operational);

@@ -16,6 +16,7 @@ use std::sync::Wait;
 use std::test::Fail;
 use std::thread;
 use std::thread::Threads;
+use std::time::Instant;
 
 const SEATS: u16 = 64;
 
@@ -25,6 +26,9 @@ const LIMIT: u32 = 65_536;
 
 /// How many calls each seat makes.
 const CALLS: u32 = 1024;
+
+/// The time in seconds that all of it takes at most.
+const MOST_SECONDS: u64 = 30;
 
 /// How many calls the boot of one slave has, until it is lost again.
 const ROUND: u8 = 8;
@@ -161,6 +165,7 @@ fn full_network(rt: &impl Abort, alloc: Global) -> Network {
 
 #[test]
 fn teams_make_65536_calls(rt: HostRuntime) -> Result<(), Fail> {
+    let begin = Instant::now(&rt)?;
     let net = full_network(&rt, rt.alloc());
     let wire = Tape::new(rt.alloc(), &[], 100_000)?;
     let Ok(opened) = Register::open(rt.alloc(), &net, SEATS, LIMIT, wire) else {
@@ -175,5 +180,6 @@ fn teams_make_65536_calls(rt: HostRuntime) -> Result<(), Fail> {
     let mut err: Vec<u8> = Vec::new(rt.alloc());
     let status = replay_text(rt.alloc(), &mut text.as_slice(), &mut out, &mut err);
     sure(&rt, status == 0 && err.is_empty());
+    sure(&rt, begin.elapsed(&rt)?.as_secs() < MOST_SECONDS);
     Ok(())
 }
