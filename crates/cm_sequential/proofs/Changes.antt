@@ -1,5 +1,5 @@
 -- What each granted call makes of a slave: what the code does to it is what the machine does.
-use Rattle.std.proofs.Common.{◌≡◌, ℕ, ◌<◌, refl, ap, sym, subst, ◌∙◌, cond, Bool, true, false, not, ◌&&◌, ◌||◌, inl, inr, arith, Option, Some, None}
+use Rattle.std.proofs.Common.{◌≡◌, ℕ, ◌<◌, refl, ap, sym, subst, ◌∙◌, cond, Bool, true, false, not, ◌&&◌, inl, inr, arith, Option, Some, None}
 use Rattle.std.specs.Prelude.{◌==◌, ◌%◌}
 use Rattle.std.proofs.lemmas.Bool.{cases_Bool, eqb-true, eq-eqb, ne_eqb}
 use Rattle.cm_nmt.specs.Codes.{state_left, command_of_request, state_of_code}

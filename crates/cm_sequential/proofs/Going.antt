@@ -19,7 +19,7 @@ use Rattle.cm_history.specs.Orders.{to_every}
 use Rattle.cm_history.specs.History.{becomes_operational}
 use Rattle.cm_history.proofs.Runs.{machine_parts}
 use Rattle.cm_history.proofs.Refused.{own_still}
-use Rattle.cm_history.specs.Machine.{Machine, begun_after, of_nodes, open_in, own_after, phase_after, slave_after, slaves_after}
+use Rattle.cm_history.specs.Machine.{begun_after, of_nodes, open_in, own_after, phase_after, slave_after, slaves_after}
 use Rattle.cm_history.specs.NodeSets.{members_of}
 use Rattle.cm_sequential.specs.States.{kept_slave}
 use Rattle.cm_sequential.specs.Kept.{Fits, Goes, IsCounted}

@@ -3,7 +3,6 @@ use Rattle.std.proofs.Common.{◌≡◌, ℕ, ◌<◌, ◌≤◌, List, ◌∷�
 use Rattle.std.specs.Prelude.{nat_lt, ◌+◌}
 use Rattle.std.specs.Option.{is_some}
 use Rattle.std.proofs.lemmas.Bool.{lt-ltb, ltb-true, ltb-false}
-use Rattle.cm_nmt.specs.declared.state.NmtState.{NmtState}
 use Rattle.cm_netlist.specs.Network.{Network, listing}
 use Rattle.cm_objects.specs.Listing.{Listing, is_listed, is_mandatory}
 use Rattle.cm_objects.proofs.Ids.{agree_on_ids}
@@ -11,10 +10,9 @@ use Rattle.cm_history.specs.declared.call.Call.{Call}
 use Rattle.cm_history.specs.declared.call.Reply.{Reply}
 use Rattle.cm_history.specs.declared.call.Orders.{Orders}
 use Rattle.cm_history.specs.declared.call.Entry.{Entry}
-use Rattle.cm_history.specs.declared.phase.Phase.{Phase}
 use Rattle.cm_history.specs.declared.slave.Slave.{Slave}
 use Rattle.cm_history.specs.History.{begun_number, open_of}
-use Rattle.cm_history.specs.Answering.{Seen, answer_from, answer_of, blank_slave, node_named, slave_of}
+use Rattle.cm_history.specs.Answering.{answer_from, answer_of, blank_slave, node_named, slave_of}
 use Rattle.cm_history.specs.Machine.{Machine, after, answer_in, begun_after, said, seen_in}
 use Rattle.cm_history.proofs.Runs.{answer_said, machine_parts, machine_step, seen_parts}
 use Rattle.cm_sequential.specs.States.{kept_slave, Shows}

@@ -1,4 +1,4 @@
-ghost use Rattle.std.specs.Prelude.{◌≡◌, ◌<◌, ◌≤◌, length, filter, map, [], ◌∷◌, ◌++◌, if◌then◌else◌};
+ghost use Rattle.std.specs.Prelude.{◌≡◌, filter, map};
 ghost use Rattle.cm_objects.specs.Listing.{node_ids, is_kept};
 ghost use Rattle.cm_netlist.specs.Network.{listing};
 ghost use Rattle.cm_history.specs.History.{is_empty};
@@ -9,69 +9,33 @@ use cm_history::Orders;
 use cm_netlist::Network;
 use cm_nmt::{Command, Frame, NodeId, Target};
 
-/// Whether the node is a slave that is kept alive.
-fn is_kept(net: &Network, node: u8) -> bool
-    requires low { 1 ≤ node }
-    requires high { node < 128 }
-    ensures { result ≡ is_kept (listing net.now) node }
-{
-    match NodeId::new(node) {
-        Some(id) => net.kept(id),
-        None => false,
-    }
-}
-
-/// Whether the node is a slave that isn't kept alive.
-fn is_unkept(net: &Network, node: u8) -> bool
-    requires low { 1 ≤ node }
-    requires high { node < 128 }
-    ensures { result ≡ is_unkept (listing net.now) node }
-{
-    match NodeId::new(node) {
-        Some(id) => net.listed(id) && !net.kept(id),
-        None => false,
-    }
-}
-
 /// Whether no slave is kept alive.
 fn none_kept(net: &Network) -> bool
     ensures { result ≡ is_empty (filter (is_kept (listing net.now)) node_ids) }
 {
-    let mut none = true;
-    for node in 1..128u8 {
-        if is_kept(net, node) {
-            none = false;
-        }
-    }
-    none
+    let mut ids = net.listed_ids();
+    ids.retain(|id| net.kept(*id));
+    ids.is_empty()
 }
 
-/// Adds the reset of a slave that isn't kept alive.
-fn push_reset(sent: &mut ArrayVec<Frame, 127>, net: &Network, node: u8)
-    requires low { 1 ≤ node }
-    requires high { node < 128 }
-    requires room { length sent.old.items < 127 }
-    ensures { sent.new.items
-        ≡ sent.old.items ++ map reset_of
-        (if is_unkept (listing net.now) node then node ∷ [] else []) }
+/// The slaves that aren't kept alive, in rising node-ID.
+fn unkept_ids(net: &Network) -> ArrayVec<NodeId, 127>
+    ensures { result.items ≡ filter (is_unkept (listing net.now)) node_ids }
 {
-    if is_unkept(net, node) {
-        if let Some(id) = NodeId::new(node) {
-            sent.push(Frame {
-                command: Command::ResetComm,
-                target: Target::Node(id),
-            });
-        }
-    }
+    let mut ids = net.listed_ids();
+    ids.retain(|id| !net.kept(*id));
+    ids
 }
 
 /// A reset to each slave that isn't kept alive.
 fn single_resets(net: &Network) -> ArrayVec<Frame, 127>
     ensures { result.items ≡ map reset_of (filter (is_unkept (listing net.now)) node_ids) }
 {
+    let command = Command::ResetComm;
     let mut sent: ArrayVec<Frame, 127> = ArrayVec::new();
-    for node in 1..128u8 {
-        push_reset(&mut sent, net, node);
+    for id in unkept_ids(net).as_slice() {
+        let target = Target::Node(*id);
+        sent.push(Frame { command, target });
     }
     sent
 }
@@ -85,16 +49,11 @@ pub fn frames(net: &Network, orders: Orders) -> ArrayVec<Frame, 127>
     match &orders {
         Orders::None => {}
         Orders::One(frame) => sent.push(*frame),
-        Orders::ResetUnkept => {
-            if none_kept(net) {
-                sent.push(Frame {
-                    command: Command::ResetComm,
-                    target: Target::All,
-                });
-            } else {
-                sent = single_resets(net);
-            }
-        }
+        Orders::ResetUnkept if none_kept(net) => sent.push(Frame {
+            command: Command::ResetComm,
+            target: Target::All,
+        }),
+        Orders::ResetUnkept => sent = single_resets(net),
     }
     sent
 }
