@@ -64,7 +64,7 @@ impl Manager {
         ensures { (result.0, result.1)
             ≡ answer_from (listing_in self.now) (seen_by self.now 0) call.StartNetwork }
     {
-        if !self.listing.is_master() {
+        if !self.listing.startup().is_master() {
             return refused(Refusal::NotMaster);
         }
         if self.state.phase.is_booting() || self.state.phase.is_ready() {
@@ -103,9 +103,9 @@ impl Manager {
     {
         self.state.phase.is_booting()
             && none_open
-            && self.listing.starts_all_at_once()
-            && !self.listing.leaves_operational_to_application()
-            && !self.listing.starts_no_slave()
+            && self.listing.startup().starts_all_at_once()
+            && !self.listing.startup().leaves_operational_to_application()
+            && !self.listing.startup().starts_no_slave()
     }
 
     /// Whether the slave is to be started alone.
@@ -115,8 +115,9 @@ impl Manager {
     {
         status.is_ok()
             && self.listing.is_to_be_booted(id)
-            && !self.listing.starts_no_slave()
-            && (!self.listing.starts_all_at_once() || self.state.own == NmtState::Operational)
+            && !self.listing.startup().starts_no_slave()
+            && (!self.listing.startup().starts_all_at_once()
+                || self.state.own == NmtState::Operational)
     }
 
     /// The orders of a report.
@@ -189,10 +190,10 @@ impl Manager {
         ensures { result ≡ lost_orders (listing_in self.now) id }
     {
         let mandatory = self.listing.is_mandatory(id);
-        if mandatory && self.listing.stops_all_on_error() {
+        if mandatory && self.listing.startup().stops_all_on_error() {
             return Orders::to_every(Command::Stop);
         }
-        if mandatory && self.listing.resets_all_on_error() {
+        if mandatory && self.listing.startup().resets_all_on_error() {
             return Orders::to_every(Command::ResetNode);
         }
         Orders::to_node(Command::ResetNode, id)

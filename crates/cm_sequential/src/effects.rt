@@ -79,7 +79,7 @@ impl NetworkState {
             self.phase = Phase::Halted;
         } else if self.slaves.none_open() {
             self.phase = Phase::Ready;
-            if !listing.leaves_operational_to_application() {
+            if !listing.startup().leaves_operational_to_application() {
                 self.own = NmtState::Operational;
             }
         }

@@ -1,10 +1,12 @@
+#![tactic(auto, unfolding(crate::specs::States::kept_listing))]
+
 ghost use Rattle.std.specs.Prelude.{◌≡◌, ◌<◌, ℕ, None, IsSome, IsTrue, length};
 ghost use Rattle.cm_history.specs.NodeSets.{has};
 ghost use Rattle.cm_sequential.specs.Listed.{listed_mandatory};
 ghost use Rattle.std.specs.List.{slice_index_or};
 ghost use Rattle.std.specs.Option.{option_copied};
 ghost use Rattle.cm_netlist.specs.Network.{listing};
-ghost use Rattle.cm_objects.specs.Listing.{is_listed, is_mandatory, is_to_be_booted, is_master, starts_all_at_once, leaves_operational_to_application, starts_no_slave, resets_all_on_error, stops_all_on_error};
+ghost use Rattle.cm_objects.specs.Listing.{is_listed, is_mandatory, is_to_be_booted};
 ghost use Rattle.cm_netlist.specs.Network as network;
 
 use cm_history::NodeSet;
@@ -81,7 +83,6 @@ impl ListingCopy {
     }
 
     /// The mandatory slaves.
-    #[tactic(auto, unfolding(crate::specs::States::kept_listing))]
     pub fn mandatory(&self) -> NodeSet
         ensures { (i : ℕ) → i < 128 → has result i ≡ is_mandatory (kept_listing self.now) i }
     {
@@ -89,15 +90,21 @@ impl ListingCopy {
     }
 
     /// The manager's own node-ID.
-    #[tactic(auto, unfolding(crate::specs::States::kept_listing))]
     pub fn own_id(&self) -> NodeId
         ensures { result ≡ (kept_listing self.now).own }
     {
         self.own
     }
 
+    /// 1F80h.
+    #[inline(always)]
+    pub fn startup(&self) -> Startup
+        ensures { result.0 ≡ (kept_listing self.now).startup }
+    {
+        self.startup
+    }
+
     /// 1F89h, in ms.
-    #[tactic(auto, unfolding(crate::specs::States::kept_listing))]
     pub fn boot_time(&self) -> u32
         ensures { result ≡ (kept_listing self.now).boot_time }
     {
@@ -106,7 +113,6 @@ impl ListingCopy {
 
     /// What is listed of the node.
     #[inline(always)]
-    #[tactic(auto, unfolding(crate::specs::States::kept_listing))]
     pub fn terms(&self, id: NodeId) -> Option<&Terms>
         ensures { option_copied result ≡ (kept_listing self.now).terms id }
     {
@@ -115,7 +121,6 @@ impl ListingCopy {
 
     /// Whether the node is listed; false for a number that is no node-ID.
     #[inline(always)]
-    #[tactic(auto, unfolding(crate::specs::States::kept_listing))]
     pub fn is_listed(&self, node: u8) -> bool
         ensures value { result ≡ is_listed (kept_listing self.now) node }
         ensures small { IsTrue result → node < 128 }
@@ -123,7 +128,6 @@ impl ListingCopy {
         node < 128 && self.terms[node as usize].is_some()
     }
 
-    #[tactic(auto, unfolding(crate::specs::States::kept_listing))]
     pub fn is_mandatory(&self, id: NodeId) -> bool
         ensures { result ≡ is_mandatory (kept_listing self.now) id }
     {
@@ -137,47 +141,5 @@ impl ListingCopy {
             Some(terms) => terms.assignment.is_to_be_booted(),
             None => false,
         }
-    }
-
-    #[tactic(auto, unfolding(crate::specs::States::kept_listing))]
-    pub fn is_master(&self) -> bool
-        ensures { result ≡ is_master (kept_listing self.now) }
-    {
-        self.startup.is_master()
-    }
-
-    #[tactic(auto, unfolding(crate::specs::States::kept_listing))]
-    pub fn starts_all_at_once(&self) -> bool
-        ensures { result ≡ starts_all_at_once (kept_listing self.now) }
-    {
-        self.startup.starts_all_at_once()
-    }
-
-    #[tactic(auto, unfolding(crate::specs::States::kept_listing))]
-    pub fn leaves_operational_to_application(&self) -> bool
-        ensures { result ≡ leaves_operational_to_application (kept_listing self.now) }
-    {
-        self.startup.leaves_operational_to_application()
-    }
-
-    #[tactic(auto, unfolding(crate::specs::States::kept_listing))]
-    pub fn starts_no_slave(&self) -> bool
-        ensures { result ≡ starts_no_slave (kept_listing self.now) }
-    {
-        self.startup.starts_no_slave()
-    }
-
-    #[tactic(auto, unfolding(crate::specs::States::kept_listing))]
-    pub fn resets_all_on_error(&self) -> bool
-        ensures { result ≡ resets_all_on_error (kept_listing self.now) }
-    {
-        self.startup.resets_all_on_error()
-    }
-
-    #[tactic(auto, unfolding(crate::specs::States::kept_listing))]
-    pub fn stops_all_on_error(&self) -> bool
-        ensures { result ≡ stops_all_on_error (kept_listing self.now) }
-    {
-        self.startup.stops_all_on_error()
     }
 }
