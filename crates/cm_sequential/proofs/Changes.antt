@@ -1,6 +1,7 @@
 -- What each granted call makes of a slave: what the code does to it is what the machine does.
 use Rattle.std.proofs.Common.{◌≡◌, ℕ, ◌<◌, refl, ap, sym, subst, ◌∙◌, cond, Bool, true, false, not, ◌&&◌, inl, inr, arith, Option, Some, None}
-use Rattle.std.specs.Prelude.{◌==◌, ◌%◌}
+use Rattle.std.specs.Prelude.{◌==◌}
+use Rattle.std.specs.Option.{is_some}
 use Rattle.std.proofs.lemmas.Bool.{cases_Bool, eqb-true, eq-eqb, ne_eqb}
 use Rattle.cm_nmt.specs.Codes.{state_left, command_of_request, state_of_code}
 use Rattle.cm_nmt.specs.declared.command.Command.{Command}
@@ -14,7 +15,6 @@ use Rattle.cm_history.specs.declared.call.Call.TheVariants as call
 use Rattle.cm_history.specs.declared.call.Reply.{Reply}
 use Rattle.cm_history.specs.declared.call.Reply.TheVariants as reply
 use Rattle.cm_history.specs.declared.call.Orders.{Orders}
-use Rattle.cm_history.specs.declared.call.Orders.TheVariants as orders
 use Rattle.cm_history.specs.declared.slave.Slave.{Slave}
 use Rattle.cm_history.specs.Orders.{is_reset, is_reset_all, is_start_of, to_all, to_every, to_node}
 use Rattle.cm_history.specs.History.{is_reset_value, state_reported, state_requested}
@@ -63,29 +63,14 @@ reported net id n a t o i s listed u = elim (cases_Bool (id == i)) [
 named_listed : (net : Listing) (id i : ℕ) → is_listed net id ≡ true → (id == i) ≡ true → is_listed net i ≡ true
 named_listed net id i listed here = subst (λ (j : ℕ). is_listed net j ≡ true) (eqb-true id i here) listed
 
--- what holds of the named slave and of the others
-set_named : (net : Listing) (c : Call) (r : Reply) (change : Slave → Slave) (id i : ℕ) (s : Slave) → node_named c ≡ id → names_all c ≡ false → is_listed net id ≡ true
-    → Unlisted net i s → change s ≡ slave_after net c r orders.None id s → cond (id == i) (change s) s ≡ slave_after net c r orders.None i s
-set_named net c r change id i s is few listed u named = elim (cases_Bool (id == i)) [
-  | inl here ↦ ap (λ (b : Bool). cond b (change s) s) here ∙ subst (λ (j : ℕ). change s ≡ slave_after net c r orders.None j s) (eqb-true id i here) named
-  | inr there ↦ ap (λ (b : Bool). cond b (change s) s) there
-      ∙ sym (unreached net c r orders.None i s refl few (ap (λ (k : ℕ). k == i) is ∙ there) u)
+-- a call that reaches the slave that it names alone, and what it makes of that one
+pub set_named : (net : Listing) (c : Call) (r : Reply) (o : Orders) (change : Slave → Slave) (i : ℕ) (s : Slave) → is_some (to_all o) ≡ false → names_all c ≡ false
+    → is_listed net (node_named c) ≡ true → Unlisted net i s → change s ≡ slave_after net c r o (node_named c) s
+    → cond (node_named c == i) (change s) s ≡ slave_after net c r o i s
+set_named net c r o change i s one few listed u named = elim (cases_Bool (node_named c == i)) [
+  | inl here ↦ ap (λ (b : Bool). cond b (change s) s) here ∙ subst (λ (j : ℕ). change s ≡ slave_after net c r o j s) (eqb-true (node_named c) i here) named
+  | inr there ↦ ap (λ (b : Bool). cond b (change s) s) there ∙ sym (unreached net c r o i s one few there u)
 ]
-
-pub booted_up : (net : Listing) (id byte i : ℕ) (s : Slave) → is_listed net id ≡ true → Unlisted net i s
-    → cond (id == i) (in_state 127 (cleared s)) s ≡ slave_after net (call.Signal id byte) reply.BootAgain orders.None i s
-booted_up net id byte i s listed u =
-    set_named net (call.Signal id byte) reply.BootAgain (λ k. in_state 127 (cleared k)) id i s refl refl listed u (rw (eq-eqb id id refl, listed) refl)
-
-pub noted : (net : Listing) (id byte i : ℕ) (s : Slave) → is_listed net id ≡ true → Unlisted net i s
-    → cond (id == i) (in_state (byte % 128) s) s ≡ slave_after net (call.Signal id byte) reply.Noted orders.None i s
-noted net id byte i s listed u =
-    set_named net (call.Signal id byte) reply.Noted (in_state (byte % 128)) id i s refl refl listed u (rw (eq-eqb id id refl, listed) refl)
-
-pub missed : (net : Listing) (id i : ℕ) (s : Slave) → is_listed net id ≡ true → Unlisted net i s
-    → cond (id == i) (in_state 1 s) s ≡ slave_after net (call.Lost id) reply.Noted orders.None i s
-missed net id i s listed u =
-    set_named net (call.Lost id) reply.Noted (in_state 1) id i s refl refl listed u (rw (eq-eqb id id refl, listed) refl)
 
 lost_there : (all listed : Bool) (o : Option Command) (s : Slave) → (listed ≡ false → s.state ≡ 0)
     → obeying o (cond all (cleared s) s)
@@ -106,19 +91,9 @@ pub all_asked : (net : Listing) (v : ℕ) (c : Command) (i : ℕ) (s : Slave) �
 all_asked net v c i s small resets u =
     rw (resets, ne_eqb 128 i (λ e. absurd (omega (arith, e, small))), and_true (is_reset c)) (lost_there (is_reset c) (is_listed net i) (Some c) s u)
 
-pub one_asked : (net : Listing) (id v : ℕ) (c : Command) (i : ℕ) (s : Slave) → id < 128 → is_listed net id ≡ true → is_reset_value v ≡ is_reset c
-    → state_requested v ≡ state_left c → Unlisted net i s
-    → cond (id == i) (obeying_alone c s) s
-    ≡ slave_after net (call.Request id v) reply.Done (to_node c id) i s
-one_asked net id v c i s small listed resets left u = elim (cases_Bool (id == i)) [
-  | inl here ↦
-      let asked : ℕ → Bool → Slave = λ w r. record { state = w; booted = not r && s.booted; session = cond r None s.session } in
-      ap (λ (b : Bool). cond b (obeying_alone c s) s) here
-      ∙ by_reset (is_reset c) (state_left c) ∙ ap (λ w. asked w (is_reset c)) (sym left) ∙ ap (asked (state_requested v)) (sym resets)
-      ∙ sym (rw (here, named_listed net id i listed here, and_true (is_reset_value v)) refl)
-  | inr there ↦ ap (λ (b : Bool). cond b (obeying_alone c s) s) there
-      ∙ sym (unreached net (call.Request id v) reply.Done (to_node c id) i s refl (ne_eqb id 128 (λ e. absurd (omega (arith, e, small)))) there u)
-]
+pub asked_alone : (net : Listing) (id v : ℕ) (c : Command) (s : Slave) → is_listed net id ≡ true → is_reset_value v ≡ is_reset c → state_requested v ≡ state_left c
+    → obeying_alone c s ≡ slave_after net (call.Request id v) reply.Done (to_node c id) id s
+asked_alone net id v c s listed resets left = rw (eq-eqb id id refl, listed, left, resets, and_true (is_reset c)) (by_reset (is_reset c) (state_left c))
   where
     by_reset : (r : Bool) (w : ℕ) → cond r (in_state w (cleared s)) (in_state w s) ≡ record { state = w; booted = not r && s.booted; session = cond r None s.session }
     by_reset true w = refl

@@ -1,9 +1,9 @@
 -- A state that goes on as the machine does.
-use Rattle.std.proofs.Common.{◌≡◌, ℕ, ◌<◌, refl, ap, sym, subst, ◌∙◌, Bool, true, false, ◌||◌, inl, inr, Option, Some, None}
-use Rattle.std.specs.Prelude.{unwrap_or, ◌==◌}
-use Rattle.std.specs.Option.{option_or}
-use Rattle.std.proofs.lemmas.Bool.{cases_lt, lt-ltb, le-ltb}
-use Rattle.cm_nmt.specs.Codes.{state_left, state_of_code}
+use Rattle.std.proofs.Common.{◌≡◌, ℕ, ◌<◌, refl, ap, sym, subst, ◌∙◌, arith, Bool, true, false, ◌||◌, inl, inr, Option, Some, None}
+use Rattle.std.specs.Prelude.{unwrap_or, ◌==◌, ◌%◌}
+use Rattle.std.specs.Option.{is_some, option_or}
+use Rattle.std.proofs.lemmas.Bool.{cases_lt, eq-eqb, false≢true, le-ltb, lt-ltb, ne_eqb}
+use Rattle.cm_nmt.specs.Codes.{command_of_request, state_left, state_of_code}
 use Rattle.cm_nmt.specs.declared.command.Command.{Command}
 use Rattle.cm_nmt.specs.declared.state.NmtState.{NmtState}
 use Rattle.cm_objects.specs.Listing.{Listing, is_listed}
@@ -15,17 +15,19 @@ use Rattle.cm_history.specs.declared.phase.Phase.{Phase}
 use Rattle.cm_history.specs.declared.slave.Slave.{Slave}
 use Rattle.cm_history.specs.declared.call.Call.TheVariants as call
 use Rattle.cm_history.specs.declared.call.Reply.TheVariants as reply
-use Rattle.cm_history.specs.Orders.{to_every}
+use Rattle.cm_history.specs.declared.call.Orders.TheVariants as orders
+use Rattle.cm_history.specs.Orders.{to_all, to_every, to_node}
+use Rattle.cm_history.specs.Answering.{node_named}
 use Rattle.cm_history.specs.History.{becomes_operational}
 use Rattle.cm_history.proofs.Runs.{machine_parts}
-use Rattle.cm_history.proofs.Refused.{own_still}
+use Rattle.cm_history.proofs.Refused.{names_all, own_still, phase_same}
 use Rattle.cm_history.specs.Machine.{begun_after, of_nodes, open_in, own_after, phase_after, slave_after, slaves_after}
 use Rattle.cm_history.specs.NodeSets.{members_of}
 use Rattle.cm_sequential.specs.States.{kept_slave}
-use Rattle.cm_sequential.specs.Kept.{Fits, Goes, IsCounted}
+use Rattle.cm_sequential.specs.Kept.{at_node, cleared, in_state, obeying_alone, Fits, Goes, IsCounted}
 use Rattle.cm_sequential.specs.declared.slaves.SlaveTable.{SlaveTable}
 use Rattle.cm_sequential.specs.declared.state.NetworkState.{NetworkState}
-use Rattle.cm_sequential.proofs.Changes.{Unlisted}
+use Rattle.cm_sequential.proofs.Changes.{asked_alone, requested, set_named, Unlisted}
 
 -- the open slaves that a table counts are those of the machine
 pub open_counted : (net : Listing) (t : SlaveTable) → IsCounted net t → members_of t.unbooted ≡ open_in net (of_nodes (kept_slave t))
@@ -82,6 +84,41 @@ own_asked net p v c own same =
     ap (λ (q : Option NmtState). unwrap_or q own) (sym same) ∙ sym (own_given net p (state_of_code v) own)
     ∙ sym (rw (or_true (128 == net.own)) refl)
 
-pub own_other : (net : Listing) (p : Phase) (id v : ℕ) (o : Orders) (own : NmtState) → (id == net.own) ≡ false → (id == 128) ≡ false
-    → own ≡ own_after net (call.Request id v) reply.Done o p p own
-own_other net p id v o own apart one = sym (rw (apart, one) (own_still net p own))
+-- ---- calls that reach the slave that they name alone
+
+one_goes : (net : Listing) (s : NetworkState) (t : SlaveTable) (c : Call) (r : Reply) (o : Orders) (change : Slave → Slave) → Fits net s → is_some (to_all o) ≡ false → names_all c ≡ false
+    → is_listed net (node_named c) ≡ true → (IsCounted net s.slaves → IsCounted net t) → ((i : ℕ) → i < 128 → kept_slave t i ≡ at_node (node_named c) change (kept_slave s.slaves) i)
+    → ((k : Slave) → change k ≡ slave_after net c r o (node_named c) k)
+    → phase_after net c r (members_of t.unbooted) s.phase ≡ s.phase → own_after net c r o s.phase s.phase s.own ≡ s.own → begun_after r s.begun ≡ s.begun
+    → Goes net s c r o (record s { slaves = t })
+one_goes net s t c r o change fits one few listed counted moved named phase own begun =
+    goes net s (record s { slaves = t }) t c r o fits refl refl (counted fits.counted)
+    (λ i small u. moved i small ∙ set_named net c r o change i (kept_slave s.slaves i) one few listed u (named (kept_slave s.slaves i)))
+    (sym phase) (sym own) (sym begun)
+
+pub noted : (net : Listing) (s : NetworkState) (t : SlaveTable) (id byte : ℕ) → Fits net s → is_listed net id ≡ true → ((l : Listing) → IsCounted l s.slaves → IsCounted l t)
+    → ((i : ℕ) → i < 128 → kept_slave t i ≡ at_node id (in_state (byte % 128)) (kept_slave s.slaves) i) → Goes net s (call.Signal id byte) reply.Noted orders.None (record s { slaves = t })
+noted net s t id byte fits listed counted moved =
+    one_goes net s t (call.Signal id byte) reply.Noted orders.None (in_state (byte % 128)) fits refl refl listed (counted net) moved
+    (λ k. rw (eq-eqb id id refl, listed) refl) (phase_same s.phase) (own_still net s.phase s.own) refl
+
+pub missed : (net : Listing) (s : NetworkState) (t : SlaveTable) (id : ℕ) → Fits net s → is_listed net id ≡ true → ((l : Listing) → IsCounted l s.slaves → IsCounted l t)
+    → ((i : ℕ) → i < 128 → kept_slave t i ≡ at_node id (in_state 1) (kept_slave s.slaves) i) → Goes net s (call.Lost id) reply.Noted orders.None (record s { slaves = t })
+missed net s t id fits listed counted moved =
+    one_goes net s t (call.Lost id) reply.Noted orders.None (in_state 1) fits refl refl listed (counted net) moved
+    (λ k. rw (eq-eqb id id refl, listed) refl) (phase_same s.phase) (own_still net s.phase s.own) refl
+
+pub booted_up : (net : Listing) (s : NetworkState) (t : SlaveTable) (id byte v : ℕ) → Fits net s → is_listed net id ≡ true → v ≡ 127 → (IsCounted net s.slaves → IsCounted net t)
+    → ((i : ℕ) → i < 128 → kept_slave t i ≡ at_node id (λ k. in_state v (cleared k)) (kept_slave s.slaves) i) → Goes net s (call.Signal id byte) reply.BootAgain orders.None (record s { slaves = t })
+booted_up net s t id byte v fits listed is counted moved =
+    one_goes net s t (call.Signal id byte) reply.BootAgain orders.None (λ k. in_state v (cleared k)) fits refl refl listed counted moved
+    (λ k. rw (eq-eqb id id refl, listed, is) refl) (phase_same s.phase) (own_still net s.phase s.own) refl
+
+pub asked : (net : Listing) (s : NetworkState) (t : SlaveTable) (id v : ℕ) (c : Command) → Fits net s → is_listed net id ≡ true → id < 128 → command_of_request v ≡ Some c → (IsCounted net s.slaves → IsCounted net t)
+    → ((i : ℕ) → i < 128 → kept_slave t i ≡ at_node id (obeying_alone c) (kept_slave s.slaves) i) → Goes net s (call.Request id v) reply.Done (to_node c id) (record s { slaves = t })
+asked net s t id v c fits listed low asks counted moved =
+    let is = requested v c asks in
+    let few : (id == 128) ≡ false = ne_eqb id 128 (λ e. absurd (omega (arith, e, low))) in
+    let apart : (id == net.own) ≡ false = ne_eqb id net.own (λ e. false≢true (sym fits.own_unlisted ∙ ap (is_listed net) (sym e) ∙ listed)) in
+    one_goes net s t (call.Request id v) reply.Done (to_node c id) (obeying_alone c) fits refl few listed counted moved
+    (λ k. asked_alone net id v c k listed is.resets is.left) (phase_same s.phase) (rw (apart, few) (own_still net s.phase s.own)) refl

@@ -158,10 +158,10 @@ impl SlaveTable {
     /// The slave isn't booted, has no session, and is in this state.
     #[inline(always)]
     pub fn clear(&mut self, listing: &ListingCopy, id: NodeId, state: u8)
-        requires { IsCounted (kept_listing listing.now) self.old }
         ensures slaves { (i : ℕ) → i < 128 → kept_slave self.new i
             ≡ at_node id (λ slave. in_state state (cleared slave)) (kept_slave self.old) i }
-        ensures counted { IsCounted (kept_listing listing.now) self.new }
+        ensures counted { IsCounted (kept_listing listing.now) self.old
+            → IsCounted (kept_listing listing.now) self.new }
     {
         let place = id.get() as usize;
         self.states[place] = state;
@@ -174,10 +174,10 @@ impl SlaveTable {
 
     /// No slave is booted, and none has a session, where `all` says so.
     pub fn clear_all(&mut self, listing: &ListingCopy, all: bool)
-        requires { IsCounted (kept_listing listing.now) self.old }
         ensures slaves { (i : ℕ) → i < 128 → kept_slave self.new i
             ≡ (if all then cleared (kept_slave self.old i) else kept_slave self.old i) }
-        ensures counted { IsCounted (kept_listing listing.now) self.new }
+        ensures counted { IsCounted (kept_listing listing.now) self.old
+            → IsCounted (kept_listing listing.now) self.new }
     {
         if all {
             self.sessions = [0; 128];
@@ -189,10 +189,10 @@ impl SlaveTable {
     /// The slave does what a command to it alone makes it do.
     #[inline(always)]
     pub fn obey_alone(&mut self, listing: &ListingCopy, id: NodeId, command: Command)
-        requires { IsCounted (kept_listing listing.now) self.old }
         ensures slaves { (i : ℕ) → i < 128 → kept_slave self.new i
             ≡ at_node id (obeying_alone command) (kept_slave self.old) i }
-        ensures counted { IsCounted (kept_listing listing.now) self.new }
+        ensures counted { IsCounted (kept_listing listing.now) self.old
+            → IsCounted (kept_listing listing.now) self.new }
     {
         if is_reset(command) {
             self.clear(listing, id, command.state_left());

@@ -19,7 +19,7 @@ returns c =
     let s = c.args.self.now in
     let o = c.args.orders.now in
     goes net s _ c.obey.new.self (call.Lost c.args.id) reply.Handled o c.requires.fits refl refl
-    (c.obey.ensures.counted net c.clear.ensures.counted)
+    (c.obey.ensures.counted net (c.clear.ensures.counted (c.clear_all.ensures.counted c.requires.fits.counted)))
     (λ i small u. c.obey.ensures.slaves i small
     ∙ ap (λ (q : Option Command). obeying q (kept_slave c.clear.new.self i)) c.to_all.ensures
     ∙ ap (obeying (to_all o)) (c.clear.ensures.slaves i small
