@@ -3,9 +3,9 @@ use Rattle.std.proofs.Common.{◌≡◌, ℕ, ◌<◌, refl, ap, sym, subst, ◌
 use Rattle.std.specs.Prelude.{◌==◌}
 use Rattle.std.specs.Option.{is_some}
 use Rattle.std.proofs.lemmas.Bool.{cases_Bool, eqb-true, eq-eqb, ne_eqb}
+use Rattle.std.proofs.lemmas.Grind.{common_steps}
 use Rattle.cm_nmt.specs.Codes.{state_left, command_of_request, state_of_code}
 use Rattle.cm_nmt.specs.declared.command.Command.{Command}
-use Rattle.cm_nmt.specs.declared.command.Command.TheVariants as command
 use Rattle.cm_objects.specs.Listing.{Listing, is_listed}
 use Rattle.cm_answers.specs.Status.{is_good}
 use Rattle.cm_answers.specs.declared.answers.Answers.{Answers}
@@ -40,23 +40,12 @@ obeys_there : (listed : Bool) (o : Option Command) (s : Slave) → (listed ≡ f
 obeys_there true o s h = refl
 obeys_there false o s h = rw (h refl) (sym (zero_obeys o))
 
-reported_here : (net : Listing) (id n : ℕ) (a : Answers) (t : Status) (o : Orders) (s : Slave) → is_listed net id ≡ true
-    → obeying (to_all o) (boot_ended (is_good t) (cond (is_start_of o id) 5 (state_reported t a)) s) ≡ slave_after net (call.Report id n a) (reply.Reported t) o id s
-reported_here net id n a t o s listed = rw (eq-eqb id id refl, listed, and_true (is_good t)) refl
-
-reported_there : (net : Listing) (id n : ℕ) (a : Answers) (t : Status) (o : Orders) (i : ℕ) (s : Slave) → (id == i) ≡ false → Unlisted net i s
-    → obeying (to_all o) s ≡ slave_after net (call.Report id n a) (reply.Reported t) o i s
-reported_there net id n a t o i s there u = rw (there, obeys_there (is_listed net i) (to_all o) s u) (rw (and_false (is_good t)) refl)
-
 pub reported : (net : Listing) (id n : ℕ) (a : Answers) (t : Status) (o : Orders) (i : ℕ) (s : Slave) → is_listed net id ≡ true → Unlisted net i s
     → obeying (to_all o) (cond (id == i) (boot_ended (is_good t) (cond (is_start_of o id) 5 (state_reported t a)) s) s)
     ≡ slave_after net (call.Report id n a) (reply.Reported t) o i s
 reported net id n a t o i s listed u = elim (cases_Bool (id == i)) [
-  | inl here ↦ ap (λ (b : Bool). obeying (to_all o) (cond b (boot_ended (is_good t) (cond (is_start_of o id) 5 (state_reported t a)) s) s)) here
-      ∙ (subst (λ (j : ℕ). obeying (to_all o) (boot_ended (is_good t) (cond (is_start_of o id) 5 (state_reported t a)) s)
-      ≡ slave_after net (call.Report id n a) (reply.Reported t) o j s) (eqb-true id i here) (reported_here net id n a t o s listed))
-  | inr there ↦ ap (λ (b : Bool). obeying (to_all o) (cond b (boot_ended (is_good t) (cond (is_start_of o id) 5 (state_reported t a)) s) s)) there
-      ∙ (reported_there net id n a t o i s there u)
+  | inl here ↦ let same : i ≡ id = sym (eqb-true id i here) in rw (same, eq-eqb id id refl, listed, and_true (is_good t)) refl
+  | inr there ↦ rw (there, obeys_there (is_listed net i) (to_all o) s u) (rw (and_false (is_good t)) refl)
 ]
 
 -- the slave that a call names is listed
@@ -111,33 +100,5 @@ pub record IsRequest (v : ℕ) (c : Command) : Type 0 where
   pub left : state_requested v ≡ state_left c
   pub own : state_of_code v ≡ state_of_code (state_left c)
 
--- the value asks for this command, and does what it does
-abbrev Asks : ℕ → Command → Type 0
-Asks v c = (command_of_request v ≡ Some c) × IsRequest v c
-
-asks_once : (v : ℕ) (c d : Command) → command_of_request v ≡ Some c → Asks v d → IsRequest v c
-asks_once v c d e asks = let same : Some d ≡ Some c = sym asks.0 ∙ e in let this : d ≡ c = cc in subst (IsRequest v) this asks.1
-
-none_asked : (v : ℕ) (c : Command) → command_of_request v ≡ Some c → (v == 4) ≡ false → (v == 5) ≡ false → (v == 6) ≡ false → (v == 7) ≡ false → (v == 127) ≡ false → ⊥
-none_asked v c e a b d f g = let none : command_of_request v ≡ None = rw (a, b, d, f, g) refl in let wrong : None ≡ Some c = sym none ∙ e in cc
-
 pub requested : (v : ℕ) (c : Command) → command_of_request v ≡ Some c → IsRequest v c
-requested v c e =
-    let is : (k : ℕ) (d : Command) → Asks k d → (v == k) ≡ true → IsRequest v c =
-    λ k d asks here. asks_once v c d e (subst (λ (n : ℕ). Asks n d) (sym (eqb-true v k here)) asks) in
-    elim (cases_Bool (v == 4)) [
-      | inl a ↦ is 4 command.Stop (refl, record { resets = refl; left = refl; own = refl }) a
-      | inr a ↦ elim (cases_Bool (v == 5)) [
-        | inl b ↦ is 5 command.Start (refl, record { resets = refl; left = refl; own = refl }) b
-        | inr b ↦ elim (cases_Bool (v == 6)) [
-          | inl d ↦ is 6 command.ResetNode (refl, record { resets = refl; left = refl; own = refl }) d
-          | inr d ↦ elim (cases_Bool (v == 7)) [
-            | inl f ↦ is 7 command.ResetComm (refl, record { resets = refl; left = refl; own = refl }) f
-            | inr f ↦ elim (cases_Bool (v == 127)) [
-              | inl g ↦ is 127 command.EnterPre (refl, record { resets = refl; left = refl; own = refl }) g
-              | inr g ↦ absurd (none_asked v c e a b d f g)
-            ]
-          ]
-        ]
-      ]
-    ]
+requested v c e = record { resets = grind (arith, common_steps); left = grind (arith, common_steps); own = grind (arith, common_steps) }
