@@ -1,13 +1,10 @@
 -- What the answer to a call is, where it is granted and where it is refused.
-use Rattle.std.proofs.Common.{◌≡◌, ℕ, ◌<◌, ◌≤◌, inl, inr, List, [], ◌∷◌, arith, refl, ap, sym, ◌∙◌, cond, Bool, true, false, not, ◌&&◌, ◌||◌, Option, Some, None}
-use Rattle.std.specs.Prelude.{◌==◌, nat_lt}
-use Rattle.std.specs.Option.{is_none}
-use Rattle.std.proofs.lemmas.Bool.{false≢true, ltb-false, eq-eqb, le-ltb, lt-ltb, cases_lt, cases_order}
+use Rattle.std.proofs.Common.{◌≡◌, ℕ, ◌<◌, ◌≤◌, List, ◌∷◌, arith, refl, ap, sym, ◌∙◌, cond, Bool, true, false, not, ◌||◌, Option, Some, None}
+use Rattle.std.specs.Prelude.{◌==◌}
+use Rattle.std.proofs.lemmas.Bool.{false≢true, le-ltb, lt-ltb}
+use Rattle.std.proofs.lemmas.Grind.{common_steps}
 use Rattle.cm_nmt.specs.NodeId.{IsNodeId}
-use Rattle.cm_nmt.specs.Codes.{command_of_request, signal_of}
 use Rattle.cm_nmt.specs.declared.command.Command.{Command}
-use Rattle.cm_nmt.specs.declared.signal.Signal.{Signal}
-use Rattle.cm_nmt.specs.declared.signal.Signal.TheVariants as signal
 use Rattle.cm_objects.specs.Listing.{Listing, is_listed}
 use Rattle.cm_history.specs.declared.call.Call.{Call}
 use Rattle.cm_history.specs.declared.call.Call.TheVariants as call
@@ -17,9 +14,8 @@ use Rattle.cm_history.specs.declared.call.Orders.{Orders}
 use Rattle.cm_history.specs.declared.call.Orders.TheVariants as orders
 use Rattle.cm_history.specs.declared.slave.Slave.{Slave}
 use Rattle.cm_history.specs.Orders.{to_every}
-use Rattle.cm_history.specs.History.{is_empty, is_granted, is_reset_value}
-use Rattle.cm_history.specs.Phases.{is_idle}
-use Rattle.cm_history.specs.Answering.{Seen, blank_slave, first_refusal, granted_answer, is_late, lost_orders, node_named, refusals, refused_or, request_orders, signal_reply}
+use Rattle.cm_history.specs.History.{is_granted}
+use Rattle.cm_history.specs.Answering.{Seen, blank_slave, first_refusal, granted_answer, node_named, refusals, refused_or, request_orders}
 use Rattle.cm_history.specs.Machine.{answer_in, after, seen_in}
 use Rattle.cm_history.proofs.Refused.{after_refused, own_still, phase_same, state_stays}
 use Rattle.cm_sequential.specs.States.{kept_slave}
@@ -29,28 +25,15 @@ use Rattle.cm_sequential.proofs.Going.{goes}
 
 -- ---- replies
 
-signal_granted : (q : Option Signal) → is_granted (signal_reply q) ≡ true
-signal_granted None = refl
-signal_granted (Some signal.BootUp) = refl
-signal_granted (Some (signal.State s)) = refl
-
-lost_granted : (b : Bool) (o : Orders) → is_granted (cond {A = Reply × Orders} b (reply.Handled, o) (reply.Noted, orders.None)).0 ≡ true
-lost_granted true o = refl
-lost_granted false o = refl
-
-elapsed_granted : (b : Bool) (o : Orders) → is_granted (cond {A = Reply × Orders} b (reply.TimeUp, orders.None) (reply.InTime, o)).0 ≡ true
-elapsed_granted true o = refl
-elapsed_granted false o = refl
-
 granted_reply : (net : Listing) (s : Seen) (c : Call) → is_granted (granted_answer net s c).0 ≡ true
 granted_reply net s call.StartNetwork = refl
 granted_reply net s (call.Begin id) = refl
 granted_reply net s (call.Report id number a) = refl
-granted_reply net s (call.Signal id b) = signal_granted (signal_of b)
-granted_reply net s (call.Lost id) = lost_granted s.slave.booted (lost_orders net id)
+granted_reply net s (call.Signal id b) = grind (arith, common_steps)
+granted_reply net s (call.Lost id) = grind (arith, common_steps)
 granted_reply net s (call.Request t v) = refl
 granted_reply net s (call.Read t) = refl
-granted_reply net s (call.Elapsed ms) = elapsed_granted (is_late net s.phase s.open_slaves ms) _
+granted_reply net s (call.Elapsed ms) = grind (arith, common_steps)
 
 -- an answer that isn't a refusal is that of a granted call
 unrefused : (q : Option ℕ) (granted : Reply × Orders) (r : Reply) (o : Orders) → (r, o) ≡ refused_or q granted → is_granted r ≡ true
@@ -97,8 +80,7 @@ goes_read net s t n fits =
 -- ---- time, and requests to all
 
 pub late_orders : (late : Bool) (r : Reply) (o x : Orders) → (r, o) ≡ cond {A = Reply × Orders} late (reply.TimeUp, orders.None) (reply.InTime, x) → r ≡ reply.TimeUp → o ≡ orders.None
-late_orders true r o x e is = ap (λ (p : Reply × Orders). p.1) e
-late_orders false r o x e is = let wrong : reply.TimeUp ≡ reply.InTime = sym is ∙ ap (λ (p : Reply × Orders). p.0) e in cc
+late_orders late r o x e is = grind (arith, common_steps, e, is)
 
 pub in_time_reply : (late : Bool) (r : Reply) (o x : Orders) → (r, o) ≡ cond {A = Reply × Orders} late (reply.TimeUp, orders.None) (reply.InTime, x) → (r ≡ reply.TimeUp → ⊥) → r ≡ reply.InTime
 in_time_reply true r o x e not = absurd (not (ap (λ (p : Reply × Orders). p.0) e))
@@ -115,20 +97,7 @@ above_zero false b e = (refl, e)
 
 -- a request whose target is no node-ID is one to all
 pub to_all_target : (net : Listing) (s : NetworkState) (t v : ℕ) (r : Reply) (o : Orders) → IsGranted net s (call.Request t v) r o → (IsNodeId t → ⊥) → t ≡ 128
-to_all_target net s t v r o granted other =
-    let ten : (t == 0 || nat_lt 128 t) ≡ false = second_unrefused (is_idle s.phase) (t == 0 || nat_lt 128 t) 3 10
-    ((11, is_none (command_of_request v)) ∷ (4, not (is_listed net t || (t == net.own || t == 128)))
-    ∷ (12, v == 5 && ((t == 128 || t == net.own) && not (is_empty (seen_in net (machine s) t).open_slaves))) ∷ (13, t == net.own && is_reset_value v) ∷ [])
-    granted.unrefused in
-    let parts = above_zero (t == 0) (nat_lt 128 t) ten in
-    elim (cases_order t 128) [
-      | inl same ↦ same
-      | inr (inr more) ↦ absurd (omega (arith, more, ltb-false 128 t parts.1))
-      | inr (inl less) ↦ elim (cases_lt t 1) [
-        | inl zero ↦ absurd (false≢true (sym parts.0 ∙ eq-eqb t 0 (omega (arith, zero))))
-        | inr low ↦ absurd (other (low, omega (arith, less)))
-      ]
-    ]
+to_all_target net s t v r o granted other = grind (arith, common_steps, granted.unrefused, other)
 
 pub all_orders : (apart : Bool) (t : ℕ) (q : Option Command) (c : Command) → q ≡ Some c → apart ≡ false → t ≡ 128 → request_orders apart (t == 128) t q ≡ to_every c
 all_orders apart t q c e f is = rw (e, f, is) refl
