@@ -1,8 +1,8 @@
 -- What the answer to a call is, where it is granted and where it is refused.
-use Rattle.std.proofs.Common.{◌≡◌, ℕ, ◌<◌, ◌≤◌, List, ◌∷◌, arith, refl, ap, sym, ◌∙◌, cond, Bool, true, false, not, ◌||◌, Option, Some, None}
-use Rattle.std.specs.Prelude.{◌==◌}
+use Rattle.std.proofs.Common.{◌≡◌, ℕ, ◌<◌, ◌≤◌, arith, refl, ap, sym, ◌∙◌, true, false, Option, Some, None}
 use Rattle.std.proofs.lemmas.Bool.{false≢true, le-ltb, lt-ltb}
 use Rattle.std.proofs.lemmas.Grind.{common_steps}
+use Rattle.cm_nmt.specs.Codes.{command_of_request}
 use Rattle.cm_nmt.specs.NodeId.{IsNodeId}
 use Rattle.cm_nmt.specs.declared.command.Command.{Command}
 use Rattle.cm_objects.specs.Listing.{Listing, is_listed}
@@ -15,7 +15,7 @@ use Rattle.cm_history.specs.declared.call.Orders.TheVariants as orders
 use Rattle.cm_history.specs.declared.slave.Slave.{Slave}
 use Rattle.cm_history.specs.Orders.{to_every}
 use Rattle.cm_history.specs.History.{is_granted}
-use Rattle.cm_history.specs.Answering.{Seen, blank_slave, first_refusal, granted_answer, node_named, refusals, refused_or, request_orders}
+use Rattle.cm_history.specs.Answering.{Seen, blank_slave, first_refusal, granted_answer, node_named, refusals, refused_or}
 use Rattle.cm_history.specs.Machine.{answer_in, after, seen_in}
 use Rattle.cm_history.proofs.Refused.{after_refused, own_still, phase_same, state_stays}
 use Rattle.cm_sequential.specs.States.{kept_slave}
@@ -79,25 +79,15 @@ goes_read net s t n fits =
 
 -- ---- time, and requests to all
 
-pub late_orders : (late : Bool) (r : Reply) (o x : Orders) → (r, o) ≡ cond {A = Reply × Orders} late (reply.TimeUp, orders.None) (reply.InTime, x) → r ≡ reply.TimeUp → o ≡ orders.None
-late_orders late r o x e is = grind (arith, common_steps, e, is)
+pub late_orders : (net : Listing) (s : NetworkState) (ms : ℕ) (r : Reply) (o : Orders) → IsGranted net s (call.Elapsed ms) r o → r ≡ reply.TimeUp → o ≡ orders.None
+late_orders net s ms r o granted is = grind (arith, common_steps, granted.answer, is)
 
-pub in_time_reply : (late : Bool) (r : Reply) (o x : Orders) → (r, o) ≡ cond {A = Reply × Orders} late (reply.TimeUp, orders.None) (reply.InTime, x) → (r ≡ reply.TimeUp → ⊥) → r ≡ reply.InTime
-in_time_reply true r o x e not = absurd (not (ap (λ (p : Reply × Orders). p.0) e))
-in_time_reply false r o x e not = ap (λ (p : Reply × Orders). p.0) e
-
-second_unrefused : (a b : Bool) (m n : ℕ) (rest : List (ℕ × Bool)) → first_refusal ((m, a) ∷ (n, b) ∷ rest) ≡ None → b ≡ false
-second_unrefused true b m n rest e = cc
-second_unrefused false true m n rest e = cc
-second_unrefused false false m n rest e = refl
-
-above_zero : (a b : Bool) → (a || b) ≡ false → (a ≡ false) × (b ≡ false)
-above_zero true b e = cc
-above_zero false b e = (refl, e)
+pub in_time_reply : (net : Listing) (s : NetworkState) (ms : ℕ) (r : Reply) (o : Orders) → IsGranted net s (call.Elapsed ms) r o → (r ≡ reply.TimeUp → ⊥) → r ≡ reply.InTime
+in_time_reply net s ms r o granted other = grind (arith, common_steps, granted.answer, other)
 
 -- a request whose target is no node-ID is one to all
 pub to_all_target : (net : Listing) (s : NetworkState) (t v : ℕ) (r : Reply) (o : Orders) → IsGranted net s (call.Request t v) r o → (IsNodeId t → ⊥) → t ≡ 128
 to_all_target net s t v r o granted other = grind (arith, common_steps, granted.unrefused, other)
 
-pub all_orders : (apart : Bool) (t : ℕ) (q : Option Command) (c : Command) → q ≡ Some c → apart ≡ false → t ≡ 128 → request_orders apart (t == 128) t q ≡ to_every c
-all_orders apart t q c e f is = rw (e, f, is) refl
+pub all_orders : (net : Listing) (s : NetworkState) (v : ℕ) (c : Command) (r : Reply) (o : Orders) → IsGranted net s (call.Request 128 v) r o → (128 ≡ net.own → ⊥) → command_of_request v ≡ Some c → o ≡ to_every c
+all_orders net s v c r o granted apart asks = grind (arith, common_steps, granted.answer, apart, asks)
