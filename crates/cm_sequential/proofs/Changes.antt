@@ -82,11 +82,7 @@ all_asked net v c i s small resets u =
 
 pub asked_alone : (net : Listing) (id v : ℕ) (c : Command) (s : Slave) → is_listed net id ≡ true → is_reset_value v ≡ is_reset c → state_requested v ≡ state_left c
     → obeying_alone c s ≡ slave_after net (call.Request id v) reply.Done (to_node c id) id s
-asked_alone net id v c s listed resets left = rw (eq-eqb id id refl, listed, left, resets, and_true (is_reset c)) (by_reset (is_reset c) (state_left c))
-  where
-    by_reset : (r : Bool) (w : ℕ) → cond r (in_state w (cleared s)) (in_state w s) ≡ record { state = w; booted = not r && s.booted; session = cond r None s.session }
-    by_reset true w = refl
-    by_reset false w = refl
+asked_alone net id v c s listed resets left = grind (arith, common_steps, listed, resets, left)
 
 pub passed : (net : Listing) (ms : ℕ) (o : Orders) (i : ℕ) (s : Slave) → Unlisted net i s
     → obeying (to_all o) s ≡ slave_after net (call.Elapsed ms) reply.InTime o i s
