@@ -24,7 +24,7 @@ use Rattle.cm_history.proofs.Refused.{names_all, own_still, phase_same}
 use Rattle.cm_history.specs.Machine.{begun_after, of_nodes, open_in, own_after, phase_after, slave_after, slaves_after}
 use Rattle.cm_history.specs.NodeSets.{members_of}
 use Rattle.cm_sequential.specs.States.{kept_slave}
-use Rattle.cm_sequential.specs.Kept.{at_node, cleared, in_state, obeying_alone, Fits, Goes, IsCounted}
+use Rattle.cm_sequential.specs.Kept.{at_node, cleared, in_state, obeying_alone, Goes, IsCounted}
 use Rattle.cm_sequential.specs.declared.slaves.SlaveTable.{SlaveTable}
 use Rattle.cm_sequential.specs.declared.state.NetworkState.{NetworkState}
 use Rattle.cm_sequential.proofs.Changes.{asked_alone, requested, set_named, Unlisted}
@@ -38,28 +38,30 @@ slave_unlisted net c r o i s e = rw e refl
 
 -- a state goes on, where each of its parts does; its table is t
 pub goes : (net : Listing) (s s' : NetworkState) (t : SlaveTable) (c : Call) (r : Reply) (o : Orders)
-    → Fits net s → s'.own_id ≡ s.own_id → s'.slaves ≡ t
-    → IsCounted net t
+    → s'.own_id ≡ s.own_id → s'.slaves ≡ t → (IsCounted net s.slaves → IsCounted net t)
     → ((i : ℕ) → i < 128 → Unlisted net i (kept_slave s.slaves i) → kept_slave t i ≡ slave_after net c r o i (kept_slave s.slaves i))
     → s'.phase ≡ phase_after net c r (members_of t.unbooted) s.phase
     → s'.own ≡ own_after net c r o s.phase s'.phase s.own
     → s'.begun ≡ begun_after r s.begun
     → Goes net s c r o s'
-goes net s s' t c r o fits same_id table counted moved same_phase same_own same_begun =
-    let at : (i : ℕ) → i < 128 → kept_slave t i ≡ slave_after net c r o i (kept_slave s.slaves i) = λ i small. moved i small (fits.unlisted i small) in
-    let all : of_nodes (kept_slave t) ≡ slaves_after net c r o (of_nodes (kept_slave s.slaves)) = λ k i. node i at k in
-    let now : s'.phase ≡ phase_after net c r (open_in net (slaves_after net c r o (of_nodes (kept_slave s.slaves)))) s.phase =
-    same_phase ∙ ap (λ l. phase_after net c r l s.phase) (open_counted net t counted ∙ ap (open_in net) all) in
-    record {
-      step = machine_parts now (same_own ∙ ap (λ p. own_after net c r o s.phase p s.own) now) same_begun (ap (λ (u : SlaveTable). of_nodes (kept_slave u)) table ∙ all);
-      fits = record {
-        own_id = same_id ∙ fits.own_id;
-        own_unlisted = fits.own_unlisted;
-        nodes = fits.nodes;
-        counted = subst (IsCounted net) (sym table) counted;
-        unlisted = λ i small none. ap (λ (u : SlaveTable). (kept_slave u i).state) table ∙ ap (λ (k : Slave). k.state) (at i small) ∙ slave_unlisted net c r o i (kept_slave s.slaves i) none;
+goes net s s' t c r o same_id table counts moved same_phase same_own same_begun = record {
+  on = λ fits.
+      let counted : IsCounted net t = counts fits.counted in
+      let at : (i : ℕ) → i < 128 → kept_slave t i ≡ slave_after net c r o i (kept_slave s.slaves i) = λ i small. moved i small (fits.unlisted i small) in
+      let all : of_nodes (kept_slave t) ≡ slaves_after net c r o (of_nodes (kept_slave s.slaves)) = λ k i. node i at k in
+      let now : s'.phase ≡ phase_after net c r (open_in net (slaves_after net c r o (of_nodes (kept_slave s.slaves)))) s.phase =
+      same_phase ∙ ap (λ l. phase_after net c r l s.phase) (open_counted net t counted ∙ ap (open_in net) all) in
+      record {
+        step = machine_parts now (same_own ∙ ap (λ p. own_after net c r o s.phase p s.own) now) same_begun (ap (λ (u : SlaveTable). of_nodes (kept_slave u)) table ∙ all);
+        fits = record {
+          own_id = same_id ∙ fits.own_id;
+          own_unlisted = fits.own_unlisted;
+          nodes = fits.nodes;
+          counted = subst (IsCounted net) (sym table) counted;
+          unlisted = λ i small none. ap (λ (u : SlaveTable). (kept_slave u i).state) table ∙ ap (λ (k : Slave). k.state) (at i small) ∙ slave_unlisted net c r o i (kept_slave s.slaves i) none;
+        };
       };
-    }
+}
   where
     node : (i : ℕ) → ((i : ℕ) → i < 128 → kept_slave t i ≡ slave_after net c r o i (kept_slave s.slaves i))
         → of_nodes (kept_slave t) i ≡ slaves_after net c r o (of_nodes (kept_slave s.slaves)) i
@@ -86,39 +88,41 @@ own_asked net p v c own same =
 
 -- ---- calls that reach the slave that they name alone
 
-one_goes : (net : Listing) (s : NetworkState) (t : SlaveTable) (c : Call) (r : Reply) (o : Orders) (change : Slave → Slave) → Fits net s → is_some (to_all o) ≡ false → names_all c ≡ false
+one_goes : (net : Listing) (s : NetworkState) (t : SlaveTable) (c : Call) (r : Reply) (o : Orders) (change : Slave → Slave) → is_some (to_all o) ≡ false → names_all c ≡ false
     → is_listed net (node_named c) ≡ true → (IsCounted net s.slaves → IsCounted net t) → ((i : ℕ) → i < 128 → kept_slave t i ≡ at_node (node_named c) change (kept_slave s.slaves) i)
     → ((k : Slave) → change k ≡ slave_after net c r o (node_named c) k)
     → phase_after net c r (members_of t.unbooted) s.phase ≡ s.phase → own_after net c r o s.phase s.phase s.own ≡ s.own → begun_after r s.begun ≡ s.begun
     → Goes net s c r o (record s { slaves = t })
-one_goes net s t c r o change fits one few listed counted moved named phase own begun =
-    goes net s (record s { slaves = t }) t c r o fits refl refl (counted fits.counted)
+one_goes net s t c r o change one few listed counted moved named phase own begun =
+    goes net s (record s { slaves = t }) t c r o refl refl counted
     (λ i small u. moved i small ∙ set_named net c r o change i (kept_slave s.slaves i) one few listed u (named (kept_slave s.slaves i)))
     (sym phase) (sym own) (sym begun)
 
-pub noted : (net : Listing) (s : NetworkState) (t : SlaveTable) (id byte : ℕ) → Fits net s → is_listed net id ≡ true → ((l : Listing) → IsCounted l s.slaves → IsCounted l t)
+pub noted : (net : Listing) (s : NetworkState) (t : SlaveTable) (id byte : ℕ) → is_listed net id ≡ true → ((l : Listing) → IsCounted l s.slaves → IsCounted l t)
     → ((i : ℕ) → i < 128 → kept_slave t i ≡ at_node id (in_state (byte % 128)) (kept_slave s.slaves) i) → Goes net s (call.Signal id byte) reply.Noted orders.None (record s { slaves = t })
-noted net s t id byte fits listed counted moved =
-    one_goes net s t (call.Signal id byte) reply.Noted orders.None (in_state (byte % 128)) fits refl refl listed (counted net) moved
+noted net s t id byte listed counted moved =
+    one_goes net s t (call.Signal id byte) reply.Noted orders.None (in_state (byte % 128)) refl refl listed (counted net) moved
     (λ k. rw (eq-eqb id id refl, listed) refl) (phase_same s.phase) (own_still net s.phase s.own) refl
 
-pub missed : (net : Listing) (s : NetworkState) (t : SlaveTable) (id : ℕ) → Fits net s → is_listed net id ≡ true → ((l : Listing) → IsCounted l s.slaves → IsCounted l t)
+pub missed : (net : Listing) (s : NetworkState) (t : SlaveTable) (id : ℕ) → is_listed net id ≡ true → ((l : Listing) → IsCounted l s.slaves → IsCounted l t)
     → ((i : ℕ) → i < 128 → kept_slave t i ≡ at_node id (in_state 1) (kept_slave s.slaves) i) → Goes net s (call.Lost id) reply.Noted orders.None (record s { slaves = t })
-missed net s t id fits listed counted moved =
-    one_goes net s t (call.Lost id) reply.Noted orders.None (in_state 1) fits refl refl listed (counted net) moved
+missed net s t id listed counted moved =
+    one_goes net s t (call.Lost id) reply.Noted orders.None (in_state 1) refl refl listed (counted net) moved
     (λ k. rw (eq-eqb id id refl, listed) refl) (phase_same s.phase) (own_still net s.phase s.own) refl
 
-pub booted_up : (net : Listing) (s : NetworkState) (t : SlaveTable) (id byte v : ℕ) → Fits net s → is_listed net id ≡ true → v ≡ 127 → (IsCounted net s.slaves → IsCounted net t)
+pub booted_up : (net : Listing) (s : NetworkState) (t : SlaveTable) (id byte v : ℕ) → is_listed net id ≡ true → v ≡ 127 → (IsCounted net s.slaves → IsCounted net t)
     → ((i : ℕ) → i < 128 → kept_slave t i ≡ at_node id (λ k. in_state v (cleared k)) (kept_slave s.slaves) i) → Goes net s (call.Signal id byte) reply.BootAgain orders.None (record s { slaves = t })
-booted_up net s t id byte v fits listed is counted moved =
-    one_goes net s t (call.Signal id byte) reply.BootAgain orders.None (λ k. in_state v (cleared k)) fits refl refl listed counted moved
+booted_up net s t id byte v listed is counted moved =
+    one_goes net s t (call.Signal id byte) reply.BootAgain orders.None (λ k. in_state v (cleared k)) refl refl listed counted moved
     (λ k. rw (eq-eqb id id refl, listed, is) refl) (phase_same s.phase) (own_still net s.phase s.own) refl
 
-pub asked : (net : Listing) (s : NetworkState) (t : SlaveTable) (id v : ℕ) (c : Command) → Fits net s → is_listed net id ≡ true → id < 128 → command_of_request v ≡ Some c → (IsCounted net s.slaves → IsCounted net t)
+pub asked : (net : Listing) (s : NetworkState) (t : SlaveTable) (id v : ℕ) (c : Command) → is_listed net id ≡ true → id < 128 → command_of_request v ≡ Some c → (IsCounted net s.slaves → IsCounted net t)
     → ((i : ℕ) → i < 128 → kept_slave t i ≡ at_node id (obeying_alone c) (kept_slave s.slaves) i) → Goes net s (call.Request id v) reply.Done (to_node c id) (record s { slaves = t })
-asked net s t id v c fits listed low asks counted moved =
-    let is = requested v c asks in
-    let few : (id == 128) ≡ false = ne_eqb id 128 (λ e. absurd (omega (arith, e, low))) in
-    let apart : (id == net.own) ≡ false = ne_eqb id net.own (λ e. false≢true (sym fits.own_unlisted ∙ ap (is_listed net) (sym e) ∙ listed)) in
-    one_goes net s t (call.Request id v) reply.Done (to_node c id) (obeying_alone c) fits refl few listed counted moved
-    (λ k. asked_alone net id v c k listed is.resets is.left) (phase_same s.phase) (rw (apart, few) (own_still net s.phase s.own)) refl
+asked net s t id v c listed low asks counted moved = record {
+  on = λ fits.
+      let is = requested v c asks in
+      let few : (id == 128) ≡ false = ne_eqb id 128 (λ e. absurd (omega (arith, e, low))) in
+      let apart : (id == net.own) ≡ false = ne_eqb id net.own (λ e. false≢true (sym fits.own_unlisted ∙ ap (is_listed net) (sym e) ∙ listed)) in
+      (one_goes net s t (call.Request id v) reply.Done (to_node c id) (obeying_alone c) refl few listed counted moved
+      (λ k. asked_alone net id v c k listed is.resets is.left) (phase_same s.phase) (rw (apart, few) (own_still net s.phase s.own)) refl).on fits;
+}

@@ -19,7 +19,7 @@ use Rattle.cm_history.specs.Answering.{Seen, blank_slave, first_refusal, granted
 use Rattle.cm_history.specs.Machine.{answer_in, after, seen_in}
 use Rattle.cm_history.proofs.Refused.{after_refused, own_still, phase_same, state_stays}
 use Rattle.cm_sequential.specs.States.{kept_slave}
-use Rattle.cm_sequential.specs.Kept.{machine, Fits, Goes, IsGranted}
+use Rattle.cm_sequential.specs.Kept.{machine, Fits, Goes, GoneOn, IsGranted}
 use Rattle.cm_sequential.specs.declared.state.NetworkState.{NetworkState}
 use Rattle.cm_sequential.proofs.Going.{goes}
 
@@ -61,7 +61,7 @@ above_blank s i high = rw (le-ltb i 128 high) refl
 below_kept : (s : NetworkState) (i : ℕ) → i < 128 → (machine s).slaves i ≡ kept_slave s.slaves i
 below_kept s i low = rw (lt-ltb i 128 low) refl
 
-pub goes_refused : (net : Listing) (s : NetworkState) (c : Call) (r : Reply) (o : Orders) → Fits net s → (r, o) ≡ answer_in net (machine s) c → is_granted r ≡ false → Goes net s c r o s
+pub goes_refused : (net : Listing) (s : NetworkState) (c : Call) (r : Reply) (o : Orders) → Fits net s → (r, o) ≡ answer_in net (machine s) c → is_granted r ≡ false → GoneOn net s c r o s
 goes_refused net s c r o fits e f =
     let seen = seen_in net (machine s) (node_named c) in
     let facts = refused_parts net seen c (first_refusal (refusals net seen c)) r o e f in
@@ -71,9 +71,9 @@ goes_refused net s c r o fits e f =
       fits = fits;
     }
 
-pub goes_read : (net : Listing) (s : NetworkState) (t n : ℕ) → Fits net s → Goes net s (call.Read t) (reply.State n) orders.None s
-goes_read net s t n fits =
-    goes net s s s.slaves (call.Read t) (reply.State n) orders.None fits refl refl fits.counted
+pub goes_read : (net : Listing) (s : NetworkState) (t n : ℕ) → Goes net s (call.Read t) (reply.State n) orders.None s
+goes_read net s t n =
+    goes net s s s.slaves (call.Read t) (reply.State n) orders.None refl refl (λ counted. counted)
     (λ i small u. rw (state_stays (is_listed net i) (kept_slave s.slaves i) u) refl)
     (sym (phase_same s.phase)) (sym (own_still net s.phase s.own)) refl
 

@@ -17,7 +17,7 @@ use Rattle.cm_history.specs.Machine.{Machine, after, answer_in, begun_after, sai
 use Rattle.cm_history.proofs.Runs.{answer_said, machine_parts, machine_step, seen_parts}
 use Rattle.cm_sequential.specs.States.{kept_slave, Shows}
 use Rattle.cm_sequential.specs.Standing.{IsAnswer, listing_in, open_in, seen_by, Stands}
-use Rattle.cm_sequential.specs.Kept.{machine, Goes}
+use Rattle.cm_sequential.specs.Kept.{machine, GoneOn}
 use Rattle.cm_history.specs.NodeSets.{members_of}
 use Rattle.cm_sequential.proofs.Listings.{lists_nodes}
 use Rattle.cm_sequential.specs.declared.manager.Manager.{Manager}
@@ -71,20 +71,20 @@ stands_answer m net past c r o st is =
     ∙ answer_said (listing net) past c (lists_nodes net st.network)
 
 -- the state after an answered call shows the history with that entry
-pub shows_next : (net : Listing) (s s' : NetworkState) (past : List Entry) (e : Entry) → Shows s net past → Goes net s e.call e.reply e.orders s' → Shows s' net (e ∷ past)
+pub shows_next : (net : Listing) (s s' : NetworkState) (past : List Entry) (e : Entry) → Shows s net past → GoneOn net s e.call e.reply e.orders s' → Shows s' net (e ∷ past)
 shows_next net s s' past e sh goes =
     said_shown s' net (e ∷ past) goes.fits.own_id
     (goes.step ∙ ap (λ m. after net m e.call e.reply e.orders) (shown_said s net past sh) ∙ sym (machine_step net past e))
 
 pub stands_next : (m : Manager) (s' : NetworkState) (net : Network) (past : List Entry) (e : Entry) → Stands m net past
-    → Goes (listing_in m) m.state e.call e.reply e.orders s' → Shows s' (listing net) (e ∷ past)
+    → GoneOn (listing_in m) m.state e.call e.reply e.orders s' → Shows s' (listing net) (e ∷ past)
 stands_next m s' net past e st goes =
-    shows_next (listing net) m.state s' past e st.same_state (subst (λ (l : Listing). Goes l m.state e.call e.reply e.orders s') st.same_listing goes)
+    shows_next (listing net) m.state s' past e st.same_state (subst (λ (l : Listing). GoneOn l m.state e.call e.reply e.orders s') st.same_listing goes)
 
 begun_most : (r : Reply) (n : ℕ) → begun_after r n ≤ n + 1
 begun_most r n = elim (is_some (begun_number r)) as (λ b. cond b (n + 1) n ≤ n + 1) [ true ↦ omega arith | false ↦ omega arith ]
 
-pub begun_few : (net : Listing) (s s' : NetworkState) (c : Call) (r : Reply) (o : Orders) → Goes net s c r o s' → s'.begun ≤ s.begun + 1
+pub begun_few : (net : Listing) (s s' : NetworkState) (c : Call) (r : Reply) (o : Orders) → GoneOn net s c r o s' → s'.begun ≤ s.begun + 1
 begun_few net s s' c r o goes =
     let same : s'.begun ≡ begun_after r s.begun = ap (λ (m : Machine). m.begun) goes.step in
     omega (arith, same, begun_most r s.begun)

@@ -40,10 +40,14 @@ pub record IsGranted (net : Listing) (s : NetworkState) (c : Call) (r : Reply) (
   pub unrefused : first_refusal (refusals net (seen_in net (machine s) (node_named c)) c) ≡ None
   pub answer : (r, o) ≡ granted_answer net (seen_in net (machine s) (node_named c)) c
 
--- the state goes on as the machine does, and still fits
-pub record Goes (net : Listing) (s : NetworkState) (c : Call) (r : Reply) (o : Orders) (s' : NetworkState) : Type 0 where
+-- the state has gone on as the machine does, and fits
+pub record GoneOn (net : Listing) (s : NetworkState) (c : Call) (r : Reply) (o : Orders) (s' : NetworkState) : Type 0 where
   pub step : machine s' ≡ after net (machine s) c r o
   pub fits : Fits net s'
+
+-- a state that fits goes on
+pub record Goes (net : Listing) (s : NetworkState) (c : Call) (r : Reply) (o : Orders) (s' : NetworkState) : Type 0 where
+  pub on : Fits net s → GoneOn net s c r o s'
 
 -- ---- changes of a slave
 

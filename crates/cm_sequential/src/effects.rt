@@ -7,7 +7,7 @@ ghost use Rattle.cm_history.specs.History.{becomes_operational, is_empty, is_fat
 ghost use Rattle.cm_history.specs.Machine.{phase_then};
 ghost use Rattle.cm_history.specs.NodeSets.{members_of};
 ghost use Rattle.cm_sequential.specs.States.{kept_listing};
-ghost use Rattle.cm_sequential.specs.Kept.{Fits, Goes, IsGranted};
+ghost use Rattle.cm_sequential.specs.Kept.{Goes, IsGranted};
 
 use crate::listing_copy::ListingCopy;
 use crate::slaves::{SlaveTable, is_reset};
@@ -87,7 +87,6 @@ impl NetworkState {
 
     /// The network is started: every slave is cleared, and its state unknown.
     fn start(&mut self, listing: &ListingCopy)
-        requires { Fits (kept_listing listing.now) self.old }
         ensures { Goes (kept_listing listing.now) self.old Call.StartNetwork Reply.Started
             Orders.ResetUnkept self.new }
     {
@@ -99,8 +98,7 @@ impl NetworkState {
     /// The boot of a slave begins.
     #[inline(always)]
     fn begin(&mut self, listing: &ListingCopy, id: NodeId)
-        requires few { self.old.begun < 2 ^ 64 - 1 }
-        requires fits { Fits (kept_listing listing.now) self.old }
+        requires { self.old.begun < 2 ^ 64 - 1 }
         ensures { Goes (kept_listing listing.now) self.old (Call.Begin id)
             (Reply.Begun (self.old.begun + 1)) Orders.None self.new }
     {
@@ -118,8 +116,7 @@ impl NetworkState {
         answers: &Answers,
         orders: &Orders,
     )
-        requires listed { IsTrue (is_listed (kept_listing listing.now) id) }
-        requires fits { Fits (kept_listing listing.now) self.old }
+        requires { IsTrue (is_listed (kept_listing listing.now) id) }
         ensures { (number : ℕ) → Goes (kept_listing listing.now) self.old
             (Call.Report id number answers.now) (Reply.Reported status) orders.now self.new }
     {
@@ -131,8 +128,7 @@ impl NetworkState {
 
     /// A slave sent its boot-up message.
     fn boot_up(&mut self, listing: &ListingCopy, id: NodeId)
-        requires listed { IsTrue (is_listed (kept_listing listing.now) id) }
-        requires fits { Fits (kept_listing listing.now) self.old }
+        requires { IsTrue (is_listed (kept_listing listing.now) id) }
         ensures { (byte : ℕ) → Goes (kept_listing listing.now) self.old (Call.Signal id byte)
             Reply.BootAgain Orders.None self.new }
     {
@@ -143,8 +139,7 @@ impl NetworkState {
     /// A slave sent its state.
     #[inline(always)]
     fn note(&mut self, listing: &ListingCopy, id: NodeId, byte: u8)
-        requires listed { IsTrue (is_listed (kept_listing listing.now) id) }
-        requires fits { Fits (kept_listing listing.now) self.old }
+        requires { IsTrue (is_listed (kept_listing listing.now) id) }
         ensures { Goes (kept_listing listing.now) self.old (Call.Signal id byte) Reply.Noted
             Orders.None self.new }
     {
@@ -153,8 +148,7 @@ impl NetworkState {
 
     /// A booted slave is lost, and the error handler gave these orders.
     fn lose(&mut self, listing: &ListingCopy, id: NodeId, orders: &Orders)
-        requires listed { IsTrue (is_listed (kept_listing listing.now) id) }
-        requires fits { Fits (kept_listing listing.now) self.old }
+        requires { IsTrue (is_listed (kept_listing listing.now) id) }
         ensures { Goes (kept_listing listing.now) self.old (Call.Lost id) Reply.Handled orders.now
             self.new }
     {
@@ -166,8 +160,7 @@ impl NetworkState {
 
     /// A slave that isn't booted is lost.
     fn miss(&mut self, listing: &ListingCopy, id: NodeId)
-        requires listed { IsTrue (is_listed (kept_listing listing.now) id) }
-        requires fits { Fits (kept_listing listing.now) self.old }
+        requires { IsTrue (is_listed (kept_listing listing.now) id) }
         ensures { Goes (kept_listing listing.now) self.old (Call.Lost id) Reply.Noted Orders.None
             self.new }
     {
@@ -176,7 +169,6 @@ impl NetworkState {
 
     /// A request to the manager itself.
     fn request_own(&mut self, listing: &ListingCopy, state: NmtState)
-        requires fits { Fits (kept_listing listing.now) self.old }
         ensures { (value : ℕ) → state_of_code value ≡ Some state
             → Goes (kept_listing listing.now) self.old
             (Call.Request (kept_listing listing.now).own value) Reply.Done Orders.None self.new }
@@ -186,7 +178,6 @@ impl NetworkState {
 
     /// A request to all nodes.
     fn request_all(&mut self, listing: &ListingCopy, command: Command)
-        requires fits { Fits (kept_listing listing.now) self.old }
         ensures { (value : ℕ) → command_of_request value ≡ Some command
             → Goes (kept_listing listing.now) self.old (Call.Request 128 value) Reply.Done
             (to_every command) self.new }
@@ -199,8 +190,7 @@ impl NetworkState {
     /// A request to a slave.
     #[inline(always)]
     fn request_one(&mut self, listing: &ListingCopy, id: NodeId, command: Command)
-        requires listed { IsTrue (is_listed (kept_listing listing.now) id) }
-        requires fits { Fits (kept_listing listing.now) self.old }
+        requires { IsTrue (is_listed (kept_listing listing.now) id) }
         ensures { (value : ℕ) → command_of_request value ≡ Some command
             → Goes (kept_listing listing.now) self.old (Call.Request id value) Reply.Done
             (to_node command id) self.new }
@@ -211,8 +201,7 @@ impl NetworkState {
     /// A request is carried out.
     #[inline(always)]
     fn request(&mut self, listing: &ListingCopy, target: u8, value: u8, orders: &Orders)
-        requires fits { Fits (kept_listing listing.now) self.old }
-        requires answered { IsGranted (kept_listing listing.now) self.old (Call.Request target value)
+        requires { IsGranted (kept_listing listing.now) self.old (Call.Request target value)
             Reply.Done orders.now }
         ensures { Goes (kept_listing listing.now) self.old (Call.Request target value) Reply.Done
             orders.now self.new }
@@ -234,7 +223,6 @@ impl NetworkState {
 
     /// The time was up.
     fn time_up(&mut self, listing: &ListingCopy)
-        requires fits { Fits (kept_listing listing.now) self.old }
         ensures { (ms : ℕ) → Goes (kept_listing listing.now) self.old (Call.Elapsed ms)
             Reply.TimeUp Orders.None self.new }
     {
@@ -244,7 +232,6 @@ impl NetworkState {
     /// The time wasn't up, and led to these orders.
     #[inline(always)]
     fn in_time(&mut self, listing: &ListingCopy, orders: &Orders)
-        requires fits { Fits (kept_listing listing.now) self.old }
         ensures { (ms : ℕ) → Goes (kept_listing listing.now) self.old (Call.Elapsed ms)
             Reply.InTime orders.now self.new }
     {
@@ -262,7 +249,6 @@ impl NetworkState {
         orders: &Orders,
     )
         requires few { self.old.begun < 2 ^ 64 - 1 }
-        requires fits { Fits (kept_listing listing.now) self.old }
         requires answered { IsGranted (kept_listing listing.now) self.old call.now reply orders.now }
         ensures { Goes (kept_listing listing.now) self.old call.now reply orders.now self.new }
     {

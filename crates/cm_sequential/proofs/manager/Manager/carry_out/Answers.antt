@@ -17,7 +17,7 @@ returns-then-is_granted-clause-stands c = λ net past seat st.
     record {
       network = st.network;
       same_listing = st.same_listing;
-      same_state = stands_next c.args.self.now c.carry_out.new.self net past e st c.carry_out.ensures;
+      same_state = stands_next c.args.self.now c.carry_out.new.self net past e st (c.carry_out.ensures.on c.args.self.now.fits);
     }
 
 pub returns-else-is_granted-clause-stands : goal.returns-else-is_granted-clause-stands

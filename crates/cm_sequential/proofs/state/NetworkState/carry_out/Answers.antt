@@ -22,7 +22,7 @@ returns-in-Read c =
     let shown = shown_of (kept_listing c.args.listing.now) (seen_in (kept_listing c.args.listing.now) (machine c.args.self.now) c.in-Read._target) c.in-Read._target in
     let is : c.args.reply ≡ reply.State shown = grind (arith, common_steps, c.requires.answered.answer, c.in-Read.is) in
     let none : c.args.orders.now ≡ orders.None = grind (arith, common_steps, c.requires.answered.answer, c.in-Read.is) in
-    rw (c.in-Read.is, is, none) (goes_read _ c.args.self.now c.in-Read._target shown c.requires.fits)
+    rw (c.in-Read.is, is, none) (goes_read _ c.args.self.now c.in-Read._target shown)
 
 pub returns-in-TimeUp : goal.returns-in-TimeUp
 returns-in-TimeUp c =

@@ -12,9 +12,9 @@ pub returns : goal.returns
 returns c = λ ms.
     let net = kept_listing c.args.listing.now in
     let s = c.args.self.now in
-    goes net s c.settle.new.self c.obey.new.self (call.Elapsed ms) reply.InTime c.args.orders.now c.requires.fits
+    goes net s c.settle.new.self c.obey.new.self (call.Elapsed ms) reply.InTime c.args.orders.now
     c.settle.ensures.own_id c.settle.ensures.slaves
-    (c.obey.ensures.counted net c.requires.fits.counted)
+    (c.obey.ensures.counted net)
     (λ i small u. c.obey.ensures.slaves i small
     ∙ ap (λ (o : Option Command). obeying o (kept_slave s.slaves i)) c.to_all.ensures
     ∙ passed net ms c.args.orders.now i (kept_slave s.slaves i) u)

@@ -18,14 +18,14 @@ returns c =
     let net = kept_listing c.args.listing.now in
     let s = c.args.self.now in
     let o = c.args.orders.now in
-    goes net s _ c.obey.new.self (call.Lost c.args.id) reply.Handled o c.requires.fits refl refl
-    (c.obey.ensures.counted net (c.clear.ensures.counted (c.clear_all.ensures.counted c.requires.fits.counted)))
+    goes net s _ c.obey.new.self (call.Lost c.args.id) reply.Handled o refl refl
+    (λ counted. c.obey.ensures.counted net (c.clear.ensures.counted (c.clear_all.ensures.counted counted)))
     (λ i small u. c.obey.ensures.slaves i small
     ∙ ap (λ (q : Option Command). obeying q (kept_slave c.clear.new.self i)) c.to_all.ensures
     ∙ ap (obeying (to_all o)) (c.clear.ensures.slaves i small
     ∙ ap (λ (k : Slave). cond (c.args.id == i) (in_state 1 (cleared k)) k) (c.clear_all.ensures.slaves i small
     ∙ ap (λ (b : Bool). cond b (cleared (kept_slave s.slaves i)) (kept_slave s.slaves i)) c.is_reset_all.ensures))
-    ∙ lost net c.args.id o i (kept_slave s.slaves i) c.requires.listed u)
+    ∙ lost net c.args.id o i (kept_slave s.slaves i) c.requires u)
     (sym (phase_same s.phase))
     (c.own_after_loss-self.ensures ∙ sym (own_given net s.phase (cond (is_stop_all o) (Some state.Stopped) None) s.own))
     refl

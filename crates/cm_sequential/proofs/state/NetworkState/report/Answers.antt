@@ -19,14 +19,14 @@ pub returns : goal.returns
 returns c = λ number.
     let net = kept_listing c.args.listing.now in
     let s = c.args.self.now in
-    goes net s c.settle.new.self c.obey.new.self (call.Report c.args.id number c.args.answers.now) (reply.Reported c.args.status) c.args.orders.now c.requires.fits
+    goes net s c.settle.new.self c.obey.new.self (call.Report c.args.id number c.args.answers.now) (reply.Reported c.args.status) c.args.orders.now
     c.settle.ensures.own_id c.settle.ensures.slaves
-    (c.obey.ensures.counted net (c.end_boot.ensures.counted net c.requires.fits.counted))
+    (λ counted. c.obey.ensures.counted net (c.end_boot.ensures.counted net counted))
     (λ i small u. c.obey.ensures.slaves i small
     ∙ ap (λ (o : Option Command). obeying o (kept_slave c.end_boot.new.self i)) c.to_all.ensures
     ∙ ap (obeying (to_all c.args.orders.now)) (c.end_boot.ensures.slaves i small
     ∙ ap (λ (good : Bool). cond (c.args.id == i) (boot_ended good c.state_left-left.result (kept_slave s.slaves i)) (kept_slave s.slaves i)) c.is_good.ensures
     ∙ ap (λ (left : ℕ). cond (c.args.id == i) (boot_ended (is_good c.args.status) left (kept_slave s.slaves i)) (kept_slave s.slaves i)) c.state_left-left.ensures)
-    ∙ reported net c.args.id number c.args.answers.now c.args.status c.args.orders.now i (kept_slave s.slaves i) c.requires.listed u)
+    ∙ reported net c.args.id number c.args.answers.now c.args.status c.args.orders.now i (kept_slave s.slaves i) c.requires u)
     (c.settle.ensures.phase ∙ ap (λ (failed : Bool). phase_then s.phase (cond failed (Some phase.Halted) (cond (is_empty (members_of c.obey.new.self.unbooted)) (Some phase.Ready) None))) c.is_fatal.ensures)
     c.settle.ensures.own c.settle.ensures.begun

@@ -14,8 +14,8 @@ returns c = λ value asks.
     let net = kept_listing c.args.listing.now in
     let s = c.args.self.now in
     let fits = requested value c.args.command asks in
-    goes net s _ c.obey.new.self (call.Request 128 value) reply.Done (to_every c.args.command) c.requires.fits refl refl
-    (c.obey.ensures.counted net (c.clear_all.ensures.counted c.requires.fits.counted))
+    goes net s _ c.obey.new.self (call.Request 128 value) reply.Done (to_every c.args.command) refl refl
+    (λ counted. c.obey.ensures.counted net (c.clear_all.ensures.counted counted))
     (λ i small u. c.obey.ensures.slaves i small
     ∙ ap (obeying (Some c.args.command)) (c.clear_all.ensures.slaves i small
     ∙ ap (λ (b : Bool). cond b (cleared (kept_slave s.slaves i)) (kept_slave s.slaves i)) c.is_reset.ensures)
