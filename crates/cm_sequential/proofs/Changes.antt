@@ -40,13 +40,13 @@ obeys_there : (listed : Bool) (o : Option Command) (s : Slave) → (listed ≡ f
 obeys_there true o s h = refl
 obeys_there false o s h = rw (h refl) (sym (zero_obeys o))
 
-pub reported : (net : Listing) (id n : ℕ) (a : Answers) (t : Status) (o : Orders) (i : ℕ) (s : Slave) → is_listed net id ≡ true → Unlisted net i s
-    → obeying (to_all o) (cond (id == i) (boot_ended (is_good t) (cond (is_start_of o id) 5 (state_reported t a)) s) s)
-    ≡ slave_after net (call.Report id n a) (reply.Reported t) o i s
-reported net id n a t o i s listed u = elim (cases_Bool (id == i)) [
+pub reported : (net : Listing) (id n : ℕ) (a : Answers) (t : Status) (o : Orders) (i : ℕ) (s ended s' : Slave) (good : Bool) (left : ℕ) (q : Option Command)
+    → is_listed net id ≡ true → Unlisted net i s → good ≡ is_good t → left ≡ cond (is_start_of o id) 5 (state_reported t a) → q ≡ to_all o
+    → ended ≡ cond (id == i) (boot_ended good left s) s → s' ≡ obeying q ended → s' ≡ slave_after net (call.Report id n a) (reply.Reported t) o i s
+reported net id n a t o i s ended s' good left q listed u e1 e2 e3 ends obeys = obeys ∙ rw (e3, ends, e1, e2) (elim (cases_Bool (id == i)) [
   | inl here ↦ let same : i ≡ id = sym (eqb-true id i here) in rw (same, eq-eqb id id refl, listed, and_true (is_good t)) refl
   | inr there ↦ rw (there, obeys_there (is_listed net i) (to_all o) s u) (rw (and_false (is_good t)) refl)
-]
+])
 
 -- the slave that a call names is listed
 named_listed : (net : Listing) (id i : ℕ) → is_listed net id ≡ true → (id == i) ≡ true → is_listed net i ≡ true
@@ -67,26 +67,26 @@ lost_there : (all listed : Bool) (o : Option Command) (s : Slave) → (listed �
 lost_there true listed o s h = rw (obeys_there listed o s h) refl
 lost_there false listed o s h = rw (obeys_there listed o s h) refl
 
-pub lost : (net : Listing) (id : ℕ) (o : Orders) (i : ℕ) (s : Slave) → is_listed net id ≡ true → Unlisted net i s
-    → obeying (to_all o) (cond (id == i) (in_state 1 (cleared (cond (is_reset_all o) (cleared s) s))) (cond (is_reset_all o) (cleared s) s))
-    ≡ slave_after net (call.Lost id) reply.Handled o i s
-lost net id o i s listed u = elim (cases_Bool (id == i)) [
+pub lost : (net : Listing) (id : ℕ) (o : Orders) (i : ℕ) (s first gone s' : Slave) (all : Bool) (q : Option Command) → is_listed net id ≡ true → Unlisted net i s
+    → all ≡ is_reset_all o → q ≡ to_all o → first ≡ cond all (cleared s) s → gone ≡ cond (id == i) (in_state 1 (cleared first)) first → s' ≡ obeying q gone
+    → s' ≡ slave_after net (call.Lost id) reply.Handled o i s
+lost net id o i s first gone s' all q listed u e1 e2 clears goes obeys = obeys ∙ rw (e2, goes, clears, e1) (elim (cases_Bool (id == i)) [
   | inl here ↦ rw (here, named_listed net id i listed here) refl
   | inr there ↦ rw there (lost_there (is_reset_all o) (is_listed net i) (to_all o) s u)
-]
+])
 
-pub all_asked : (net : Listing) (v : ℕ) (c : Command) (i : ℕ) (s : Slave) → i < 128 → is_reset_value v ≡ is_reset c → Unlisted net i s
-    → obeying (Some c) (cond (is_reset c) (cleared s) s) ≡ slave_after net (call.Request 128 v) reply.Done (to_every c) i s
-all_asked net v c i s small resets u =
-    rw (resets, ne_eqb 128 i (λ e. absurd (omega (arith, e, small))), and_true (is_reset c)) (lost_there (is_reset c) (is_listed net i) (Some c) s u)
+pub all_asked : (net : Listing) (v : ℕ) (c : Command) (i : ℕ) (s first s' : Slave) (all : Bool) → i < 128 → is_reset_value v ≡ is_reset c → Unlisted net i s
+    → all ≡ is_reset c → first ≡ cond all (cleared s) s → s' ≡ obeying (Some c) first → s' ≡ slave_after net (call.Request 128 v) reply.Done (to_every c) i s
+all_asked net v c i s first s' all small resets u e clears obeys = obeys ∙ rw (clears, e)
+    (rw (resets, ne_eqb 128 i (λ e. absurd (omega (arith, e, small))), and_true (is_reset c)) (lost_there (is_reset c) (is_listed net i) (Some c) s u))
 
 pub asked_alone : (net : Listing) (id v : ℕ) (c : Command) (s : Slave) → is_listed net id ≡ true → is_reset_value v ≡ is_reset c → state_requested v ≡ state_left c
     → obeying_alone c s ≡ slave_after net (call.Request id v) reply.Done (to_node c id) id s
 asked_alone net id v c s listed resets left = grind (arith, common_steps, listed, resets, left)
 
-pub passed : (net : Listing) (ms : ℕ) (o : Orders) (i : ℕ) (s : Slave) → Unlisted net i s
-    → obeying (to_all o) s ≡ slave_after net (call.Elapsed ms) reply.InTime o i s
-passed net ms o i s u = rw (obeys_there (is_listed net i) (to_all o) s u) refl
+pub passed : (net : Listing) (ms : ℕ) (o : Orders) (i : ℕ) (s s' : Slave) (q : Option Command) → Unlisted net i s → q ≡ to_all o → s' ≡ obeying q s
+    → s' ≡ slave_after net (call.Elapsed ms) reply.InTime o i s
+passed net ms o i s s' q u e obeys = obeys ∙ rw (e, obeys_there (is_listed net i) (to_all o) s u) refl
 
 -- ---- the values of a request
 
