@@ -38,8 +38,7 @@ granted_reply net s (call.Elapsed ms) = grind (arith, common_steps)
 -- an answer that isn't a refusal is that of a granted call
 unrefused : (q : Option ℕ) (granted : Reply × Orders) (r : Reply) (o : Orders) → (r, o) ≡ refused_or q granted → is_granted r ≡ true
     → (q ≡ None) × ((r, o) ≡ granted)
-unrefused None granted r o e g = (refl, e)
-unrefused (Some n) granted r o e g = absurd (false≢true (sym (ap (λ (p : Reply × Orders). is_granted p.0) e) ∙ g))
+unrefused q granted r o e g = grind (arith, common_steps, e, g)
 
 pub is_granted_by : (net : Listing) (s : NetworkState) (c : Call) (r : Reply) (o : Orders) → (r, o) ≡ answer_in net (machine s) c → is_granted r ≡ true → IsGranted net s c r o
 is_granted_by net s c r o e g =

@@ -41,6 +41,7 @@ fn request_orders(to_own: bool, target: u8, command: Command) -> Orders
 impl Manager {
     /// Whether every mandatory slave is booted.
     #[inline(always)]
+    #[tactic(auto, using(crate::proofs::Standing::open_kept))]
     fn none_open(&self) -> bool
         ensures { result ≡ is_empty (open_in self.now) }
     {
@@ -49,6 +50,7 @@ impl Manager {
 
     /// Whether every mandatory slave is booted, once a boot of this one came to the status.
     #[inline(always)]
+    #[tactic(auto, using(crate::proofs::Standing::open_kept))]
     fn none_left(&self, id: NodeId, status: Status) -> bool
         ensures { result ≡ is_empty (open_less (open_in self.now) id status) }
     {

@@ -128,6 +128,7 @@ impl Manager {
     }
 
     /// How many mandatory slaves aren't booted.
+    #[tactic(auto, using(crate::proofs::Standing::open_shown))]
     pub fn open_mandatory(&self) -> u8
         ensures { (net : AnyNetwork) (past : List Entry) → Stands self.now net past
             → result ≡ length (open_of (listing net) past) }
