@@ -7,7 +7,7 @@ ghost use Rattle.cm_text.specs.Ends.{IsOfOtherWidth, IsFirst};
 
 use crate::decimal::read_decimal;
 use crate::hex::{read_hex2, read_hex4, read_hex8};
-use crate::near::{behind_any_text, behind_text, first, near_decimal, near_field};
+use crate::near::{behind_text, first, near_decimal, near_field};
 use crate::places::cut;
 
 /// The parts of some bytes that are still to be read: the fields of a line, with a space as
@@ -62,13 +62,7 @@ impl<'a> Fields<'a> {
         ensures taken { IfSome result (λ u. left self.old ≡ text.now ∷ left self.new) }
         ensures stays { IfNone result (left self.new ≡ left self.old) }
     {
-        let bytes = self.rest?;
-        let rest = if self.separator == b' ' {
-            behind_text(bytes, text, b' ')?
-        } else {
-            behind_any_text(bytes, text, self.separator)?
-        };
-        self.rest = rest;
+        self.rest = behind_text(self.rest?, text, self.separator)?;
         Some(())
     }
 
@@ -114,6 +108,7 @@ impl<'a> Fields<'a> {
     }
 
     /// As `hex8`; and where it gives `None`, nothing was read.
+    #[inline(always)]
     pub fn hex8_or_stay(&mut self) -> Option<u32>
         ensures value { field_at eight_of (left self.old) ≡ with_rest result (left self.new) }
         ensures stays { IfNone result (left self.new ≡ left self.old) }

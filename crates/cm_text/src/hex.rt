@@ -117,10 +117,14 @@ fn number(word: &[u8], width: usize) -> u64
     requires { width ≤ 8 }
     ensures { MatchOption (digits_of width word.now) (2 ^ 32 ≤ result) (λ n. result ≡ n) }
 {
-    if word.len() == width {
-        octet(padded(word))
+    if word.len() != width {
+        return NONE;
+    }
+    // Eight digits are read where they stand, with no copy.
+    if let [a, b, c, d, e, f, g, h] = word {
+        octet([*a, *b, *c, *d, *e, *f, *g, *h])
     } else {
-        NONE
+        octet(padded(word))
     }
 }
 
@@ -148,6 +152,7 @@ pub fn read_hex4(word: &[u8]) -> Option<u16>
 
 /// The number of 32 bits that exactly eight digits, `0` to `9` and `A` to `F`, spell; `None`
 /// exactly where the field is no such digits.
+#[inline(always)]
 pub fn read_hex8(word: &[u8]) -> Option<u32>
     ensures value { result ≡ eight_of word.now }
     ensures exact { MatchOption result

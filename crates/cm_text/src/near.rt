@@ -55,18 +55,40 @@ pub(crate) fn near_field(bytes: &[u8], width: usize) -> Option<(&[u8], &[u8])>
     }
 }
 
-// Whether the separator is in the text. With no way out at the first one, this is known of a
-// constant text.
+// Whether the byte is in the text. With no way out at the first one, this is known of a constant
+// text.
+#[inline(always)]
+fn has_byte(text: &[u8], byte: u8) -> bool
+    ensures lacks { result ≡ false → Lacks byte text.now }
+    ensures holds { result ≡ true → Holds byte text.now }
+{
+    let mut held = false;
+    for at in 0..text.len() {
+        held |= text[at] == byte;
+    }
+    held
+}
+
+// As `has_byte`, where the byte is no constant.
+#[inline(never)]
+fn has_any_byte(text: &[u8], byte: u8) -> bool
+    ensures lacks { result ≡ false → Lacks byte text.now }
+    ensures holds { result ≡ true → Holds byte text.now }
+{
+    has_byte(text, byte)
+}
+
+// Whether the separator is in the text; most are spaces, of which it is known of a constant text.
 #[inline(always)]
 fn holds(text: &[u8], separator: u8) -> bool
     ensures lacks { result ≡ false → Lacks separator text.now }
     ensures holds { result ≡ true → Holds separator text.now }
 {
-    let mut held = false;
-    for at in 0..text.len() {
-        held |= text[at] == separator;
+    if separator == b' ' {
+        has_byte(text, b' ')
+    } else {
+        has_any_byte(text, separator)
     }
-    held
 }
 
 /// What is left behind the text, if it is the first part of these bytes.
@@ -91,20 +113,6 @@ pub(crate) fn behind_text<'a>(
         return None;
     }
     behind(tail, separator)
-}
-
-/// As [`behind_text`], where the separator is no constant.
-#[inline(never)]
-pub(crate) fn behind_any_text<'a>(
-    bytes: &'a [u8],
-    text: &[u8],
-    separator: u8,
-) -> Option<Option<&'a [u8]>>
-    ensures { MatchOption result
-        (field_at (word_is text.now) (split separator bytes.now) ≡ None)
-        (λ rest. split separator bytes.now ≡ text.now ∷ parts separator rest) }
-{
-    behind_text(bytes, text, separator)
 }
 
 // What a digit is worth, and 10 or more for any other byte.
