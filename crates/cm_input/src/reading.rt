@@ -5,7 +5,7 @@ use std::alloc::Global;
 use std::io::Read;
 
 /// Room for the bytes of one read.
-pub type Block = [u8; 65536];
+pub type Block = [u8; 16384];
 
 /// Why an input was not read.
 #[derive(Clone, Copy, Debug, PartialEq, Eq)]
@@ -76,7 +76,7 @@ pub fn read_input<R: Read>(
         ReadsAll most (R.remaining reader.old) (R.remaining reader.new) v.items) }
 {
     let mut bytes: Vec<u8> = Vec::new(alloc);
-    let mut block: Block = [0u8; 65536];
+    let mut block: Block = [0u8; 16384];
     if read_until(reader, &mut block, &mut bytes, usize::MAX, most)? {
         Ok(bytes)
     } else {
