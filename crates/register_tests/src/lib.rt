@@ -11,6 +11,8 @@ mod one_book;
 #[cfg(test)]
 mod opening;
 #[cfg(test)]
+mod rounds;
+#[cfg(test)]
 mod support;
 #[cfg(test)]
 mod teams;

@@ -1,0 +1,44 @@
+ghost use Rattle.std.specs.Prelude.{◌≡◌, ◌≤◌, length, take, vec_len, IfOk, IfErr};
+ghost use Rattle.cm_run.specs.Operating.{HasGrown, HasSome};
+
+use cm_history::Call;
+use cm_register::{CallFault, Receipt, Register, RunName, Seat, Wire};
+use std::alloc::Global;
+use std::sync::Wait;
+
+/// The first call that wasn't made, and how many were made before it.
+#[derive(Clone, Copy, Debug, PartialEq, Eq)]
+pub struct OperateFault {
+    pub done: usize,
+    pub fault: CallFault,
+}
+
+/// Makes the calls in order, up to the first that isn't made; a refusal of the manager is a reply like
+/// any other. Room for the receipts is taken first: where it is refused, no call was made.
+pub fn operate<'n, W: Wire, K: RunName, R: Wait>(
+    rt: &R,
+    alloc: Global,
+    register: &Register<'n, W, K>,
+    seat: &mut Seat<K>,
+    calls: &[Call],
+) -> Result<Vec<Receipt>, OperateFault>
+    ensures number { seat.new.number ≡ seat.old.number }
+    ensures all { IfOk result (λ r. (vec_len r ≡ length calls.now)
+        × HasGrown seat.old.list calls.now r.items seat.new.list) }
+    ensures part { IfErr result (λ f. (f.done ≤ length calls.now)
+        × HasSome seat.old.list (take f.done calls.now) seat.new.list) }
+{
+    let Ok(mut receipts) = Vec::with_capacity(alloc, calls.len()) else {
+        return Err(OperateFault {
+            done: 0,
+            fault: CallFault::OutOfMemory,
+        });
+    };
+    for i in 0..calls.len() {
+        match register.call(rt, seat, calls[i]) {
+            Ok(receipt) => receipts.push_reserved(receipt),
+            Err(fault) => return Err(OperateFault { done: i, fault }),
+        }
+    }
+    Ok(receipts)
+}

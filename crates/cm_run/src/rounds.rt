@@ -1,0 +1,98 @@
+ghost use Rattle.std.specs.Prelude.{◌≡◌, ◌++◌, ◌<◌};
+ghost use Rattle.cm_run.specs.Rounds.{Gives, HasRound, calls_in, is_followed, last_of};
+
+use crate::outcome::{Attempt, Last, Outcome};
+use cm_answers::Status;
+use cm_boot::{Bus, boot_slave};
+use cm_history::{Call, Reply};
+use cm_nmt::NodeId;
+use cm_register::{Register, RunName, Seat, Wire};
+use std::sync::Wait;
+
+/// One attempt to boot a slave: the begin, the boot over the bus, the report.
+pub fn attempt<'n, W: Wire, K: RunName, R: Wait, B: Bus>(
+    rt: &R,
+    register: &Register<'n, W, K>,
+    seat: &mut Seat<K>,
+    bus: &mut B,
+    id: NodeId,
+) -> Attempt
+    ensures number { seat.new.number ≡ seat.old.number }
+    ensures list { seat.new.list ≡ seat.old.list ++ calls_in id result }
+    ensures gives { Gives B.step K.net id bus.old result bus.new }
+{
+    let begin = match register.call(rt, seat, Call::Begin(id)) {
+        Ok(receipt) => receipt,
+        Err(fault) => return Attempt::NotBegun(fault),
+    };
+    let session = match begin.reply {
+        Reply::Begun(session) => session,
+        Reply::Refused(reason) => return Attempt::Refused(begin, reason),
+        _ => unreachable!(),
+    };
+    let answers = boot_slave(bus, register.network(), id);
+    let report = match register.call(rt, seat, Call::Report(id, session, answers)) {
+        Ok(receipt) => receipt,
+        Err(fault) => return Attempt::NotReported(begin, session, answers, fault),
+    };
+    let last = match report.reply {
+        Reply::Reported(status) => Last::Status(status),
+        Reply::Refused(reason) => Last::Refused(reason),
+        _ => unreachable!(),
+    };
+    Attempt::Ended(begin, session, answers, report, last)
+}
+
+/// How the attempt ended.
+fn last_of(attempt: &Attempt) -> Last
+    ensures { result ≡ last_of attempt.now }
+{
+    match attempt {
+        Attempt::NotBegun(fault) | Attempt::NotReported(_, _, _, fault) => Last::Fault(*fault),
+        Attempt::Refused(_, reason) => Last::Refused(*reason),
+        Attempt::Ended(_, _, _, _, last) => *last,
+    }
+}
+
+/// Whether another attempt follows: the slave gave no device type, or its session was dropped.
+fn is_followed(attempt: &Attempt) -> bool
+    ensures { result ≡ is_followed attempt.now }
+{
+    match attempt {
+        Attempt::Ended(_, _, _, _, Last::Status(status)) => *status == Status::B,
+        Attempt::Ended(_, _, _, _, Last::Refused(reason)) => *reason == 7,
+        _ => false,
+    }
+}
+
+/// The attempts at one slave, `most` at most.
+pub fn round<'n, W: Wire, K: RunName, R: Wait, B: Bus>(
+    rt: &R,
+    register: &Register<'n, W, K>,
+    seat: &mut Seat<K>,
+    bus: &mut B,
+    id: NodeId,
+    most: u8,
+) -> Outcome
+    requires { 0 < most }
+    ensures number { seat.new.number ≡ seat.old.number }
+    ensures round { HasRound B.step K.net id most result seat.old.list seat.new.list bus.old
+        bus.new }
+{
+    for failed in 0..most - 1 {
+        let tried = attempt(rt, register, seat, bus, id);
+        if !is_followed(&tried) {
+            return Outcome {
+                id,
+                attempts: failed + 1,
+                last: last_of(&tried),
+            };
+        }
+    }
+    let tried = attempt(rt, register, seat, bus, id);
+    Outcome {
+        id,
+        attempts: most,
+        last: last_of(&tried),
+    }
+}

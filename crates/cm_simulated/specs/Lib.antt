@@ -1,0 +1,2 @@
+pub mod Slaves
+pub mod Buses
