@@ -10,6 +10,7 @@ use crate::wire::Wire;
 use cm_history::Entry;
 use cm_netlist::Network;
 use std::alloc::Global;
+use std::marker::Brand;
 use std::sync::ledger::{Blank, Share};
 
 /// A register that has no name yet. Its memory for the whole history, and for what closing needs, is
@@ -33,43 +34,47 @@ pub struct Opened<'n, W: Wire> {
     ghost empty: { (vec_len history ≡ 0) × (vec_len lists ≡ 0) },
 }
 
-pub(crate) fn open<'n, W: Wire>(
-    alloc: Global,
-    net: &'n Network,
-    seats: u16,
-    limit: u32,
-    wire: W,
-) -> Result<Opened<'n, W>, OpenFault>
-    ensures may { IfOk result (λ o. MayOpen seats limit (W.sent wire)) }
-    ensures given { IfOk result (λ o. (o.net.now ≡ net.now) × (o.seats ≡ seats)
-        × (o.limit ≡ limit) × (o.wire ≡ wire)) }
-    ensures fault { IfErr result (λ f. IsOpenCause seats limit (W.sent wire) f) }
-{
-    if seats < 1 || seats > 64 {
-        return Err(OpenFault::BadSeats);
+impl<'n, W: Wire> Book<'n, W, Brand> {
+    /// Opens a register for one thread, which [`Opened::book`] then names: with this many seats, 1 to
+    /// 64, and at most `limit` entries in its history, 1 to 65,536. After a refusal the wire is dropped.
+    pub fn open(
+        alloc: Global,
+        net: &'n Network,
+        seats: u16,
+        limit: u32,
+        wire: W,
+    ) -> Result<Opened<'n, W>, OpenFault>
+        ensures may { IfOk result (λ o. MayOpen seats limit (W.sent wire)) }
+        ensures given { IfOk result (λ o. (o.net.now ≡ net.now) × (o.seats ≡ seats)
+            × (o.limit ≡ limit) × (o.wire ≡ wire)) }
+        ensures fault { IfErr result (λ f. IsOpenCause seats limit (W.sent wire) f) }
+    {
+        if seats < 1 || seats > 64 {
+            return Err(OpenFault::BadSeats);
+        }
+        if limit < 1 || limit > 65536 {
+            return Err(OpenFault::BadLimit);
+        }
+        if wire.used() {
+            return Err(OpenFault::WireUsed);
+        }
+        let Ok(history) = Vec::with_capacity(alloc, limit as usize) else {
+            return Err(OpenFault::OutOfMemory);
+        };
+        let Ok(lists) = Vec::with_capacity(alloc, usize::from(seats)) else {
+            return Err(OpenFault::OutOfMemory);
+        };
+        Ok(Opened {
+            net,
+            seats,
+            limit,
+            wire,
+            blank: Blank::new(u64::from(seats)),
+            alloc,
+            history,
+            lists,
+        })
     }
-    if limit < 1 || limit > 65536 {
-        return Err(OpenFault::BadLimit);
-    }
-    if wire.used() {
-        return Err(OpenFault::WireUsed);
-    }
-    let Ok(history) = Vec::with_capacity(alloc, limit as usize) else {
-        return Err(OpenFault::OutOfMemory);
-    };
-    let Ok(lists) = Vec::with_capacity(alloc, usize::from(seats)) else {
-        return Err(OpenFault::OutOfMemory);
-    };
-    Ok(Opened {
-        net,
-        seats,
-        limit,
-        wire,
-        blank: Blank::new(u64::from(seats)),
-        alloc,
-        history,
-        lists,
-    })
 }
 
 /// The seats in order, each with one part of the ledger.
