@@ -1,15 +1,17 @@
 -- What is handed in where a register closes, and why it doesn't (own).
-use Rattle.std.specs.Prelude.{◌≡◌, ◌≢◌, ◌+◌, ◌<◌, ◌≤◌, ℕ, List, [], ◌∷◌, length, All}
+use Rattle.std.specs.Prelude.{◌≡◌, ◌≢◌, ◌+◌, ◌<◌, ◌≤◌, ℕ, List, [], ◌∷◌, length, reverse, All}
+use Rattle.cm_objects.specs.Listing.{Listing}
+use Rattle.cm_history.specs.Legal.{IsLegal}
 use Rattle.cm_history.specs.declared.call.Entry.{Entry}
-use Rattle.cm_register.specs.declared.register.CloseKind.{CloseKind}
-use Rattle.cm_register.specs.declared.register.CloseKind.TheVariants as kind
-use Rattle.cm_register.specs.declared.register.SeatList.{SeatList}
-use Rattle.cm_register.specs.SeatCalls.{calls_of}
+use Rattle.cm_register.specs.declared.closing.CloseKind.{CloseKind}
+use Rattle.cm_register.specs.declared.closing.CloseKind.TheVariants as kind
+use Rattle.cm_register.specs.declared.closing.SeatList.{SeatList}
+use Rattle.cm_register.specs.SeatCalls.{AreOfSeats, calls_of}
 use Rattle.cm_register.specs.Views.{SeatView}
 
--- the list of a seat, as a contract sees the seat
+-- the list of a seat, as a contract sees the seat, whose share counts its calls
 abbrev pub seat_of : SeatList → SeatView
-seat_of list = record { number = list.number; list = list.made.items }
+seat_of list = record { number = list.number; list = list.made.items; amount = length list.made.items }
 
 -- no number comes twice
 abbrev pub AreApart : List SeatView → Type 0
@@ -25,7 +27,20 @@ abbrev pub count_calls : List SeatView → ℕ
 count_calls [] = 0
 count_calls (s ∷ ss) = length s.list + count_calls ss
 
--- where each refusal comes: n seats of this many are missing, or none is
-abbrev pub IsCloseCause : ℕ → List SeatView → CloseKind → Type 0
-IsCloseCause seats given (kind.SeatsMissing n) = (0 < n) × (length given + n ≡ seats)
-IsCloseCause seats given kind.SeatDiffers = seats ≤ length given
+-- where a book with these entries isn't closed: n seats of this many are missing, or none is, and the list of one isn't its
+-- calls or a number comes twice
+abbrev pub IsBookCause : List Entry → ℕ → List SeatView → CloseKind → Type 0
+IsBookCause entries seats given (kind.SeatsMissing n) = (0 < n) × (length given + n ≡ seats)
+IsBookCause entries seats given kind.SeatDiffers = (seats ≤ length given) × ((HaveTheirCalls entries given × AreApart given) → ⊥)
+
+-- a history as a register may hold it: legal, of its seats alone, with no more entries than are allowed
+pub record MayHold (net : Listing) (seats limit : ℕ) (entries : List Entry) : Type 0 where
+  pub legal : IsLegal net (reverse entries)
+  pub seated : AreOfSeats seats entries
+  pub few : length entries ≤ limit
+
+-- where a register isn't closed: its book, with some history, isn't
+pub record IsCloseCause (net : Listing) (seats limit : ℕ) (given : List SeatView) (kind : CloseKind) : Type 0 where
+  pub entries : List Entry
+  pub held : MayHold net seats limit entries
+  pub cause : IsBookCause entries seats given kind

@@ -27,4 +27,4 @@ IsOpenCause seats limit sent fault.OutOfMemory = MayOpen seats limit sent
 -- the seats 1 to n in order, which have made no call
 abbrev pub fresh_seats : ℕ → List SeatView
 fresh_seats zero = []
-fresh_seats (suc n) = fresh_seats n ++ record { number = n + 1; list = [] } ∷ []
+fresh_seats (suc n) = fresh_seats n ++ record { number = n + 1; list = []; amount = 0 } ∷ []

@@ -9,6 +9,7 @@
 #![tactic(auto)]
 
 mod book;
+mod closing;
 mod compare;
 mod fault;
 mod opened;
@@ -18,9 +19,10 @@ mod seat;
 mod wire;
 
 pub use book::Book;
+pub use closing::{BookFault, CloseKind, Closed, SeatList};
 pub use fault::{CallFault, OpenFault};
 pub use opened::Opened;
-pub use register::{CloseFault, CloseKind, Closed, Register, SeatList};
+pub use register::{CloseFault, Register};
 pub use run_name::RunName;
 pub use seat::{Made, Receipt, Seat};
 pub use wire::Wire;

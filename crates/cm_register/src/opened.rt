@@ -2,8 +2,9 @@ ghost use Rattle.std.specs.Prelude.{◌≡◌, ◌<◌, ◌≤◌, [], vec_capac
 ghost use Rattle.cm_register.specs.Opening.{IsOpenCause, MayOpen, fresh_seats};
 
 use crate::book::Book;
+use crate::closing::SeatList;
 use crate::fault::OpenFault;
-use crate::register::{Register, SeatList};
+use crate::register::Register;
 use crate::run_name::RunName;
 use crate::seat::Seat;
 use crate::wire::Wire;
@@ -100,14 +101,14 @@ fn make_seats<K: RunName>(
 }
 
 impl<'n, W: Wire> Opened<'n, W> {
-    /// The book, the seats in order, and the memory that closing needs.
-    fn split<K: RunName>(self) -> Result<(Book<'n, W, K>, Vec<Seat<K>>, Vec<SeatList>), OpenFault>
+    /// The book and the seats in order, which have made no call: a register for one thread. The
+    /// condition says that `K` names this register; [`std::marker::Brand`] is passed for it.
+    pub fn book<K: RunName>(self) -> Result<(Book<'n, W, K>, Vec<Seat<K>>), OpenFault>
         requires { (self.blank.name ≡ K.name) × (self.seats ≡ K.parts) × (self.seats ≡ K.seats)
             × (self.limit ≡ K.limit) × (self.net.now ≡ K.net) }
         ensures book { IfOk result (λ r. (r.0.history ≡ []) × (r.0.sent ≡ [])
             × (r.0.room ≡ W.room_of self.entry.wire)) }
         ensures seats { IfOk result (λ r. r.1.items ≡ fresh_seats K.seats) }
-        ensures lists { IfOk result (λ r. (vec_len r.2 ≡ 0) × (K.seats ≤ vec_capacity r.2)) }
         ensures fault { IfErr result (λ f. f ≡ OpenFault.OutOfMemory) }
     {
         let Opened {
@@ -123,24 +124,9 @@ impl<'n, W: Wire> Opened<'n, W> {
         let (ledger, mut rest) = blank.open::<K>();
         let all = make_seats(alloc, seats, &mut rest)?;
         Ok((
-            Book::fresh(net, limit, wire, history, ledger, rest),
+            Book::fresh(net, seats, limit, wire, history, lists, ledger, rest),
             all,
-            lists,
         ))
-    }
-
-    /// The book and the seats in order, which have made no call: a register for one thread. The
-    /// condition says that `K` names this register; [`std::marker::Brand`] is passed for it.
-    pub fn book<K: RunName>(self) -> Result<(Book<'n, W, K>, Vec<Seat<K>>), OpenFault>
-        requires { (self.blank.name ≡ K.name) × (self.seats ≡ K.parts) × (self.seats ≡ K.seats)
-            × (self.limit ≡ K.limit) × (self.net.now ≡ K.net) }
-        ensures book { IfOk result (λ r. (r.0.history ≡ []) × (r.0.sent ≡ [])
-            × (r.0.room ≡ W.room_of self.entry.wire)) }
-        ensures seats { IfOk result (λ r. r.1.items ≡ fresh_seats K.seats) }
-        ensures fault { IfErr result (λ f. f ≡ OpenFault.OutOfMemory) }
-    {
-        let (book, seats, _lists) = self.split::<K>()?;
-        Ok((book, seats))
     }
 
     /// The register, which threads share, and the seats in order, which have made no call. The
@@ -151,8 +137,8 @@ impl<'n, W: Wire> Opened<'n, W> {
         ensures seats { IfOk result (λ r. r.1.items ≡ fresh_seats K.seats) }
         ensures fault { IfErr result (λ f. f ≡ OpenFault.OutOfMemory) }
     {
-        let (net, count) = (self.net, self.seats);
-        let (book, seats, lists) = self.split::<K>()?;
-        Ok((Register::around(net, count, lists, book), seats))
+        let net = self.net;
+        let (book, seats) = self.book::<K>()?;
+        Ok((Register::around(net, book), seats))
     }
 }

@@ -36,7 +36,11 @@ impl<K: RunName> Model for Seat<K> {
 
     ghost Value = { SeatView };
 
-    ghost view = { λ s. record { number = s.number; list = s.list.items } };
+    ghost view = { λ s. record {
+      number = s.number;
+      list = s.list.items;
+      amount = s.share.amount;
+    } };
 
     ghost invariant = { λ s. (0 < s.number) × (s.number ≤ K.seats) × (s.number ≤ 64)
         × (s.share.parts ≡ 1) × (s.share.amount ≡ length s.list.items) };
@@ -47,7 +51,7 @@ impl<K: RunName> Seat<K> {
     pub(crate) fn new(alloc: Global, number: u16, share: Share<K>) -> Seat<K>
         requires number { (0 < number) × (number ≤ K.seats) × (number ≤ 64) }
         requires share { (share.parts ≡ 1) × (share.amount ≡ 0) }
-        ensures { (result.number ≡ number) × (result.list ≡ []) }
+        ensures { (result.number ≡ number) × (result.list ≡ []) × (result.amount ≡ 0) }
     {
         Seat {
             number,
@@ -73,7 +77,8 @@ impl<K: RunName> Seat<K> {
     /// Its share of the register's ledger: one part, which counts the calls that it made.
     pub fn share(&self) -> &Share<K>
         ensures part { result.now.parts ≡ 1 }
-        ensures amount { result.now.amount ≡ length self.now.list }
+        ensures amount { result.now.amount ≡ self.now.amount }
+        ensures count { self.now.amount ≡ length self.now.list }
     {
         &self.share
     }

@@ -1,11 +1,9 @@
-use Rattle.std.proofs.Common.{◌≡◌, ◌++◌, ◌∷◌, [], List, map, sym, ap, ◌∙◌, append_assoc, arith, length, length-append}
-use Rattle.std.proofs.lemmas.List.{map-append}
+use Rattle.std.proofs.Common.{◌≡◌, ◌++◌, ◌∷◌, [], List, sym, ap, ◌∙◌, append_assoc, arith, length, length-append}
 use Rattle.std.specs.Vec.Iter.{into_iter_items}
 use Rattle.cm_register.specs.Views.{SeatView}
-use Rattle.cm_register.specs.declared.register.SeatList.{SeatList}
-use Rattle.cm_register.specs.Closing.{seat_of}
-use Rattle.cm_register.proofs.SeatLists.{count_calls_push}
-use Rattle.cm_register.proofs.register.gather.Goals as goal
+use Rattle.cm_register.specs.declared.closing.SeatList.{SeatList}
+use Rattle.cm_register.proofs.SeatLists.{count_calls_push, shows_seat, shows_seats_push}
+use Rattle.cm_register.proofs.closing.gather.Goals as goal
 
 pub loop-seat-preserved : goal.loop-seat-preserved
 loop-seat-preserved g c =
@@ -19,7 +17,7 @@ loop-seat-preserved g c =
       can = tt;
       ends = tt;
       left = append_assoc more (seat ∷ []) (into_iter_items c.next.new.self) ∙ (ap (λ (w : List SeatView). more ++ w) (sym c.in-Some.ensures.steps.0) ∙ was.left);
-      lists = ap (map seat_of) c.push_reserved.ensures.items ∙ (map-append seat_of c.loop-seat.lists.items (one ∷ []) ∙ (ap (λ (w : List SeatView). w ++ seat_of one ∷ []) was.lists ∙ ap (λ (s : SeatView). more ++ s ∷ []) c.seat.view_is));
+      lists = shows_seats_push c.loop-seat.lists.items c.push_reserved.new.self.items more one seat c.push_reserved.ensures.items was.lists (shows_seat one c.seat.inside.share.amount seat c.seat.invariant.4 c.seat.view_is);
       count = omega (arith, c.push_reserved.ensures.len, was.count, number);
       room = c.push_reserved.ensures.capacity ∙ was.room;
       parts = omega (arith, c.merge.ensures.parts, c.seat.invariant.3, was.parts, number);

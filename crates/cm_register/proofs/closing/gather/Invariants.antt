@@ -1,7 +1,7 @@
 use Rattle.std.proofs.Common.{◌≡◌, ◌≤◌, ◌++◌, length, map, vec_len, vec_capacity}
 use Rattle.std.specs.Vec.Iter.{into_iter_items}
 use Rattle.cm_register.specs.Closing.{seat_of, count_calls}
-use Rattle.cm_register.proofs.register.gather.Given as goal
+use Rattle.cm_register.proofs.closing.gather.Given as goal
 
 abbrev pub invariant-loop-seat : goal.invariant-loop-seat
 invariant-loop-seat g l = record {

@@ -1,0 +1,161 @@
+ghost use Rattle.std.specs.Prelude.{◌≡◌, ◌≤◌, [], length, map, reverse, vec_capacity, vec_len, IfOk, IfErr, IsTrue, ◌↔◌};
+ghost use Rattle.cm_netlist.specs.Network.{listing};
+ghost use Rattle.cm_history.specs.Frames.{frames_in};
+ghost use Rattle.cm_history.specs.Legal.{IsLegal};
+ghost use Rattle.cm_sequential.specs.Standing.{Stands};
+ghost use Rattle.cm_register.specs.Closing.{AreApart, HaveTheirCalls, IsBookCause, count_calls, seat_of};
+ghost use Rattle.cm_register.specs.SeatCalls.{AreOfSeats};
+
+use crate::book::Book;
+use crate::compare::{are_apart, have_their_calls};
+use crate::run_name::RunName;
+use crate::seat::{Made, Seat};
+use crate::wire::Wire;
+use cm_history::Entry;
+use cm_sequential::Manager;
+use std::sync::ledger::Share;
+use thiserror::Error;
+
+/// The calls of one seat, once the register is closed.
+#[derive(Drop)]
+pub struct SeatList {
+    pub number: u16,
+    pub made: Vec<Made>,
+}
+
+/// What a closed register leaves: the history of all calls, the calls of each seat in the order in
+/// which the seats were handed in, the wire, and the manager.
+#[derive(Drop)]
+pub struct Closed<W: Wire> {
+    pub history: Vec<Entry>,
+    pub lists: Vec<SeatList>,
+    pub wire: W,
+    pub manager: Manager,
+}
+
+/// Why a register isn't closed, the first that applies.
+#[derive(Clone, Copy, Debug, PartialEq, Eq, Error)]
+pub enum CloseKind {
+    /// So many of the register's seats weren't handed in.
+    #[error("{0} seats are missing")]
+    SeatsMissing(u16),
+    /// A seat's list isn't its entries, or a number comes twice.
+    #[error("a seat's list isn't its entries")]
+    SeatDiffers,
+}
+
+/// Why a book isn't closed, with the book and the seats, which go on working.
+#[derive(Drop)]
+pub struct BookFault<'n, W: Wire, K: RunName> {
+    pub kind: CloseKind,
+    pub book: Book<'n, W, K>,
+    pub seats: Vec<Seat<K>>,
+}
+
+/// The lists of the seats, in order, whose shares are merged.
+#[tactic(auto, using(crate::proofs::SeatLists::count_calls_push))]
+fn gather<K: RunName>(
+    mut lists: Vec<SeatList>,
+    seats: Vec<Seat<K>>,
+    rest: &mut Share<K>,
+) -> Vec<SeatList>
+    requires room { (vec_len lists ≡ 0) × (K.parts ≤ vec_capacity lists) }
+    requires share { (rest.old.parts ≡ 0) × (rest.old.amount ≡ 0) }
+    ensures lists { map seat_of result.items ≡ seats.items }
+    ensures share { (rest.new.parts ≡ length seats.items) × (rest.new.parts ≤ K.parts)
+        × (rest.new.amount ≡ count_calls seats.items) }
+{
+    for seat in seats {
+        let Seat {
+            number,
+            list,
+            share,
+        } = seat;
+        rest.merge(share);
+        lists.push_reserved(SeatList { number, made: list });
+    }
+    lists
+}
+
+impl<'n, W: Wire, K: RunName> Book<'n, W, K> {
+    /// Why this book can't be closed with these seats, if anything is in the way.
+    fn close_cause(&self, seats: &[Seat<K>]) -> Result<(), CloseKind>
+        ensures may { IfOk result (λ u. (K.seats ≤ length seats.now)
+            × HaveTheirCalls self.now.history seats.now × AreApart seats.now) }
+        ensures fault { IfErr result (λ f. IsBookCause self.now.history K.seats seats.now f) }
+    {
+        let given = seats.len();
+        let wanted = usize::from(self.seats);
+        if given < wanted {
+            return Err(CloseKind::SeatsMissing((wanted - given) as u16));
+        }
+        if !have_their_calls(self.history.as_slice(), seats) || !are_apart(seats) {
+            return Err(CloseKind::SeatDiffers);
+        }
+        Ok(())
+    }
+
+    /// Takes the book apart, and the seats.
+    fn finish(self, seats: Vec<Seat<K>>) -> Closed<W>
+        requires all { K.seats ≤ length seats.items }
+        ensures history { result.history.items ≡ self.entry.history }
+        ensures legal { IsLegal (listing K.net) (reverse result.history.items) }
+        ensures seated { AreOfSeats K.seats result.history.items }
+        ensures frames { W.sent result.wire ≡ frames_in (listing K.net) result.history.items }
+        ensures stands { Stands result.manager K.net (reverse result.history.items) }
+        ensures lists { map seat_of result.lists.items ≡ seats.items }
+        ensures total { count_calls seats.items ≡ length result.history.items }
+        ensures all { length seats.items ≡ K.seats }
+    {
+        let Book {
+            net: _,
+            seats: _,
+            limit: _,
+            manager,
+            history,
+            counts: _,
+            wire,
+            mut ledger,
+            mut rest,
+            lists,
+        } = self;
+        let lists = gather(lists, seats, &mut rest);
+        ledger.audit(&mut rest);
+        Closed {
+            history,
+            lists,
+            wire,
+            manager,
+        }
+    }
+
+    /// Closes the book of one thread, as [`crate::Register::close`] closes that of several. It is
+    /// refused just where a seat is missing, where the list of one isn't its calls in the history, and
+    /// where a number comes twice.
+    pub fn close(self, seats: Vec<Seat<K>>) -> Result<Closed<W>, BookFault<'n, W, K>>
+        ensures history { IfOk result (λ c. c.history.items ≡ self.entry.history) }
+        ensures legal { IfOk result (λ c. IsLegal (listing K.net) (reverse c.history.items)) }
+        ensures calls { IfOk result (λ c. HaveTheirCalls c.history.items seats.items) }
+        ensures seats { IfOk result (λ c. (length seats.items ≡ K.seats) × AreApart seats.items) }
+        ensures seated { IfOk result (λ c. AreOfSeats K.seats c.history.items) }
+        ensures total { IfOk result (λ c. count_calls seats.items ≡ length c.history.items) }
+        ensures lists { IfOk result (λ c. map seat_of c.lists.items ≡ seats.items) }
+        ensures frames { IfOk result
+            (λ c. W.sent c.wire ≡ frames_in (listing K.net) c.history.items) }
+        ensures stands { IfOk result
+            (λ c. Stands c.manager K.net (reverse c.history.items)) }
+        ensures fault { IfErr result
+            (λ f. IsBookCause self.entry.history K.seats seats.items f.kind) }
+        ensures back { IfErr result
+            (λ f. (f.book ≡ self.entry) × (f.seats.items ≡ seats.items)) }
+    {
+        match self.close_cause(seats.as_slice()) {
+            Ok(()) => Ok(self.finish(seats)),
+            Err(kind) => Err(BookFault {
+                kind,
+                book: self,
+                seats,
+            }),
+        }
+    }
+}
