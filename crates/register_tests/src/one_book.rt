@@ -4,9 +4,10 @@ ghost use Rattle.std.specs.Prelude.{◌≡◌};
 
 use crate::support::{Lent, Tape, answers, entry, frame, is_made, is_refused, network, node, sure};
 use cm_answers::Status;
-use cm_history::{Call, Orders, Phase, Reply};
+use cm_history::{Call, Entry, Orders, Phase, Reply};
 use cm_nmt::NmtState;
-use cm_register::{Book, CallFault, Opened, RunName, Seat};
+use cm_register::{Book, BookFault, CallFault, CloseKind, Opened, RunName, Seat, Wire};
+use std::alloc::Global;
 use std::marker::Brand;
 use std::process::Abort;
 use std::test::Fail;
@@ -77,12 +78,12 @@ fn a_full_wire_refuses_a_call(rt: HostRuntime) -> Result<(), Fail> {
     let Ok(opened) = Book::<Lent, Brand>::open(rt.alloc(), &net, 1, 10, wire) else {
         return Err(Fail::from("open"));
     };
-    lacks_room::<Brand, _>(&rt, opened)?;
+    lacks_room::<Brand, _>(&rt, rt.alloc(), opened)?;
     sure(&rt, tape.sent().is_empty());
     Ok(())
 }
 
-fn lacks_room<K: RunName, R: Abort>(rt: &R, opened: Opened<Lent>) -> Result<(), Fail>
+fn lacks_room<K: RunName, R: Abort>(rt: &R, alloc: Global, opened: Opened<Lent>) -> Result<(), Fail>
     requires { (opened.blank.name ≡ K.name) × (opened.seats ≡ K.parts) × (opened.seats ≡ K.seats)
         × (opened.limit ≡ K.limit) × (opened.net.now ≡ K.net) }
 {
@@ -98,5 +99,37 @@ fn lacks_room<K: RunName, R: Abort>(rt: &R, opened: Opened<Lent>) -> Result<(), 
     );
     let entries = [entry(1, Call::Read(2), Reply::Refused(3), Orders::None)];
     sure(rt, book.history() == entries.as_slice());
+    closes_with_its_seat_alone(rt, alloc, book, seat, &entries)
+}
+
+/// Asserts that a book isn't closed without its seat; both are handed back.
+fn lacks_its_seat<'n, W: Wire, K: RunName>(
+    rt: &impl Abort,
+    book: Book<'n, W, K>,
+    seats: Vec<Seat<K>>,
+) -> Result<(Book<'n, W, K>, Vec<Seat<K>>), Fail> {
+    match book.close(seats) {
+        Ok(_) => Err(Fail::from("closed")),
+        Err(fault) => {
+            sure(rt, fault.kind == CloseKind::SeatsMissing(1));
+            Ok((fault.book, fault.seats))
+        }
+    }
+}
+
+/// A book stays open where its seat is missing, and is closed with it.
+fn closes_with_its_seat_alone<W: Wire, K: RunName, R: Abort>(
+    rt: &R,
+    alloc: Global,
+    book: Book<W, K>,
+    seat: Seat<K>,
+    entries: &[Entry],
+) -> Result<(), Fail> {
+    let (book, mut seats) = lacks_its_seat(rt, book, Vec::new(alloc))?;
+    seats.push(seat)?;
+    match book.close(seats) {
+        Ok(closed) => sure(rt, closed.history.as_slice() == entries),
+        Err(_) => return Err(Fail::from("not closed")),
+    }
     Ok(())
 }
