@@ -100,6 +100,7 @@ impl<'n, W: Wire, K: RunName> Book<'n, W, K> {
         requires all { K.seats ≤ length seats.items }
         ensures history { result.history.items ≡ self.entry.history }
         ensures legal { IsLegal (listing K.net) (reverse result.history.items) }
+        ensures few { length result.history.items ≤ K.limit }
         ensures seated { AreOfSeats K.seats result.history.items }
         ensures frames { W.sent result.wire ≡ frames_in (listing K.net) result.history.items }
         ensures stands { Stands result.manager K.net (reverse result.history.items) }
@@ -137,6 +138,7 @@ impl<'n, W: Wire, K: RunName> Book<'n, W, K> {
         ensures legal { IfOk result (λ c. IsLegal (listing K.net) (reverse c.history.items)) }
         ensures calls { IfOk result (λ c. HaveTheirCalls c.history.items seats.items) }
         ensures seats { IfOk result (λ c. (length seats.items ≡ K.seats) × AreApart seats.items) }
+        ensures few { IfOk result (λ c. length c.history.items ≤ K.limit) }
         ensures seated { IfOk result (λ c. AreOfSeats K.seats c.history.items) }
         ensures total { IfOk result (λ c. count_calls seats.items ≡ length c.history.items) }
         ensures lists { IfOk result (λ c. map seat_of c.lists.items ≡ seats.items) }
