@@ -3,6 +3,8 @@
 #![tactic(auto)]
 
 #[cfg(test)]
+mod runs;
+#[cfg(test)]
 mod streams;
 #[cfg(test)]
 mod written;

@@ -20,7 +20,7 @@ const LINE: &[u8] = b"ok slaves 1 mandatory 1 kept 0\n";
 
 const READ_FAILED: &[u8] = b"canboot: read failed\n";
 
-const WRITE_FAILED: &[u8] = b"canboot: write failed\n";
+pub(crate) const WRITE_FAILED: &[u8] = b"canboot: write failed\n";
 
 /// The first bytes, up to a length.
 fn front(bytes: &[u8], length: usize) -> &[u8] {
@@ -76,9 +76,9 @@ impl Read for Many {
 
 /// Takes this many writes and one flush, and fails at the next one.
 #[derive(Drop)]
-struct Failing {
-    writes: usize,
-    flushes: bool,
+pub(crate) struct Failing {
+    pub(crate) writes: usize,
+    pub(crate) flushes: bool,
 }
 
 impl Write for Failing {

@@ -1,0 +1,218 @@
+//! Networks that are booted by workers, and what canboot does where their report or their journal
+//! can't be written.
+
+ghost use Rattle.std.specs.Prelude.{◌≡◌};
+
+use crate::streams::{Failing, WRITE_FAILED};
+use canboot::{Options, replay_text, run_text};
+use cm_nmt::NodeId;
+use std::alloc::{AllocError, Global};
+use std::io::Write;
+use std::process::Abort;
+use std::sync::Wait;
+use std::test::Fail;
+use std::thread::Threads;
+
+const LIST: &[u8] =
+    b"own = 1\nstartup = 1\n\n[[slave]]\nid = 2\nassignment = 13\ndevice_type = 0x00020192\n";
+
+/// The report of that list, where slave 2 is silent.
+const REPORT: &[u8] =
+    b"phase booting\nown preoperational\nentries 4\nopen 1\nframe 82 00\nslave 2 state 1 booted no session 0 last B\n";
+
+/// Its journal.
+const JOURNAL: &[u8] =
+    b"canboot journal 1\nnetwork own 1 startup 00000001 boottime 0 seats 2 limit 4096\nslave 2 assign 0000000D type 00020192 vendor 00000000 product 00000000 revision 00000000 serial 00000000 heartbeat 0 date 00000000 time 00000000 writes 0\nentry 1 start = started / reset-unkept\nentry 2 begin 2 = begun 1 / none\nentry 2 report 2 1 silent - - - - - - - 0 - - = status B / none\nentry 1 elapsed 0 = in-time / none\nend 4\n";
+
+/// How often 126 slaves are booted by 16 workers.
+const RUNS: u32 = 200;
+
+/// One worker, one attempt, slave 2 silent.
+fn one_silent() -> Options
+    ensures { (result.workers ≡ 1) × (result.attempts ≡ 1) }
+{
+    Options {
+        workers: 1,
+        attempts: 1,
+        silent: NodeId::new(2),
+    }
+}
+
+/// A list of 126 mandatory slaves.
+fn full_list(alloc: Global) -> Result<Vec<u8>, Fail> {
+    let mut list: Vec<u8> = Vec::new(alloc);
+    writeln!(list, "own = 127\nstartup = 1")?;
+    for id in 1..127 {
+        writeln!(list, "[[slave]]\nid = {id}\nassignment = 13")?;
+    }
+    Ok(list)
+}
+
+/// Runs on that list with 16 workers, and asserts that the journal is one, whose report is the one
+/// that was written, and that all slaves were booted.
+fn is_replayed<R: Wait + Threads + Abort + Sync>(rt: &R, alloc: Global, list: &[u8]) {
+    let options = Options {
+        workers: 16,
+        attempts: 2,
+        silent: None,
+    };
+    let mut input = list;
+    let mut out: Vec<u8> = Vec::new(alloc);
+    let mut err: Vec<u8> = Vec::new(alloc);
+    let mut journal: Option<Vec<u8>> = Some(Vec::new(alloc));
+    let status = run_text(rt, alloc, &mut input, options, &mut out, &mut err, &mut journal);
+    assert_eq!(rt; status, 0);
+    assert_eq!(rt; err.len(), 0);
+    let Some(journal) = journal else {
+        panic!(rt; "no journal");
+    };
+    let mut entries = journal.as_slice();
+    let mut report: Vec<u8> = Vec::new(alloc);
+    let status = replay_text(alloc, &mut entries, &mut report, &mut err);
+    assert_eq!(rt; status, 0);
+    assert_eq!(rt; report.as_slice(), out.as_slice());
+    let start = b"phase ready\nown operational\nentries 254\nopen 0\nframe 82 00\n";
+    assert!(rt; out.as_slice().starts_with(start));
+}
+
+#[test]
+fn sixteen_workers_leave_journals_that_are_replayed(rt: HostRuntime) -> Result<(), Fail> {
+    let list = full_list(rt.alloc())?;
+    for _ in 0..RUNS {
+        is_replayed(&rt, rt.alloc(), list.as_slice());
+    }
+    Ok(())
+}
+
+#[test]
+fn a_silent_slave_is_reported_and_recorded(rt: HostRuntime) -> Result<(), Fail> {
+    let mut input = LIST;
+    let mut out: Vec<u8> = Vec::new(rt.alloc());
+    let mut err: Vec<u8> = Vec::new(rt.alloc());
+    let mut journal: Option<Vec<u8>> = Some(Vec::new(rt.alloc()));
+    let options = one_silent();
+    let status = run_text(
+        &rt,
+        rt.alloc(),
+        &mut input,
+        options,
+        &mut out,
+        &mut err,
+        &mut journal,
+    );
+    assert_eq!(&rt; status, 0);
+    assert_eq!(&rt; err.len(), 0);
+    assert_eq!(&rt; out.as_slice(), REPORT);
+    match journal {
+        Some(journal) => assert_eq!(&rt; journal.as_slice(), JOURNAL),
+        None => panic!(&rt; "no journal"),
+    }
+    Ok(())
+}
+
+/// Without the bit of 1F80h by which the device is the NMT master, nothing is written but the line of
+/// fault.
+#[test]
+fn the_start_is_refused_where_there_is_no_master(rt: HostRuntime) -> Result<(), Fail> {
+    let mut input = b"own = 1\nstartup = 0\n".as_slice();
+    let mut out: Vec<u8> = Vec::new(rt.alloc());
+    let mut err: Vec<u8> = Vec::new(rt.alloc());
+    let mut journal: Option<Vec<u8>> = Some(Vec::new(rt.alloc()));
+    let options = one_silent();
+    let status = run_text(
+        &rt,
+        rt.alloc(),
+        &mut input,
+        options,
+        &mut out,
+        &mut err,
+        &mut journal,
+    );
+    assert_eq!(&rt; status, 1);
+    assert_eq!(&rt; err.as_slice(), b"canboot: start refused: 1 NotMaster\n");
+    assert_eq!(&rt; out.len(), 0);
+    match journal {
+        Some(journal) => assert_eq!(&rt; journal.len(), 0),
+        None => panic!(&rt; "no journal"),
+    }
+    Ok(())
+}
+
+/// The status of the run with a journal that takes so many writes; the report is written.
+fn status_with_journal<R: Wait + Threads + Abort + Sync>(
+    rt: &R,
+    alloc: Global,
+    journal: Failing,
+) -> u8 {
+    let mut input = LIST;
+    let mut out: Vec<u8> = Vec::new(alloc);
+    let mut err: Vec<u8> = Vec::new(alloc);
+    let mut journal = Some(journal);
+    let options = one_silent();
+    let status = run_text(rt, alloc, &mut input, options, &mut out, &mut err, &mut journal);
+    assert_eq!(rt; out.as_slice(), REPORT);
+    let line = if status == 0 { b"".as_slice() } else { WRITE_FAILED };
+    assert_eq!(rt; err.as_slice(), line);
+    status
+}
+
+/// The status of the run with an output that takes so many writes; no journal is written where it
+/// fails.
+fn status_with_output<R: Wait + Threads + Abort + Sync>(
+    rt: &R,
+    alloc: Global,
+    mut out: Failing,
+) -> u8 {
+    let mut input = LIST;
+    let mut err: Vec<u8> = Vec::new(alloc);
+    let mut journal: Option<Vec<u8>> = Some(Vec::new(alloc));
+    let options = one_silent();
+    let status = run_text(rt, alloc, &mut input, options, &mut out, &mut err, &mut journal);
+    let line = if status == 0 { b"".as_slice() } else { WRITE_FAILED };
+    assert_eq!(rt; err.as_slice(), line);
+    let wanted = if status == 0 { JOURNAL } else { b"".as_slice() };
+    match journal {
+        Some(journal) => assert_eq!(rt; journal.as_slice(), wanted),
+        None => panic!(rt; "no journal"),
+    }
+    status
+}
+
+/// Asserts that from 0 writes on each is a failed write, up to one that all fit in.
+fn fails_up_to_one<F: FnMut(usize) -> u8>(rt: &impl Abort, mut status: F) {
+    let mut failures = 0;
+    for writes in 0..500 {
+        let ended = status(writes);
+        if ended == 3 {
+            assert_eq!(rt; failures, writes, "a write failed after one that didn't");
+            failures = writes.saturating_add(1);
+        } else {
+            assert_eq!(rt; ended, 0);
+        }
+    }
+    assert!(rt; 5 < failures && failures < 500, "{failures} writes failed");
+}
+
+#[test]
+fn a_failing_journal_is_a_failed_write(rt: HostRuntime) -> Result<(), Fail> {
+    fails_up_to_one(&rt, |writes| {
+        let flushes = true;
+        status_with_journal(&rt, rt.alloc(), Failing { writes, flushes })
+    });
+    let (writes, flushes) = (1000, false);
+    let status = status_with_journal(&rt, rt.alloc(), Failing { writes, flushes });
+    assert_eq!(&rt; status, 3);
+    Ok(())
+}
+
+#[test]
+fn a_report_that_fails_is_a_failed_write(rt: HostRuntime) -> Result<(), Fail> {
+    fails_up_to_one(&rt, |writes| {
+        let flushes = true;
+        status_with_output(&rt, rt.alloc(), Failing { writes, flushes })
+    });
+    let (writes, flushes) = (1000, false);
+    let status = status_with_output(&rt, rt.alloc(), Failing { writes, flushes });
+    assert_eq!(&rt; status, 3);
+    Ok(())
+}
