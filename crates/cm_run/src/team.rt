@@ -1,0 +1,203 @@
+//! One thread for each worker.
+ghost use Rattle.std.specs.Prelude.{◌≡◌, ◌<◌, ◌≤◌, ℕ, vec_capacity, vec_len, slice_index_or, IfErr, IfOk, IsTrue};
+ghost use Rattle.cm_run.specs.Running.{HasBooted, HasBootedOrStopped};
+ghost use Rattle.cm_run.specs.Jobs.{HasRun};
+
+use crate::jobs::Job;
+use crate::working::{Plan, work};
+use cm_boot::Bus;
+use cm_register::{Register, RunName, Wire};
+use std::snapshot::Snapshot;
+use std::sync::Wait;
+use std::sync::atomic::{AtomicUsize, Ordering};
+use std::thread;
+use std::thread::{Promise, PromisedHandle, Scope, Threads};
+
+/// A job that comes back, and whether it was run.
+#[derive(Drop)]
+struct Back<B: Bus, K: RunName> {
+    job: Job<B, K>,
+    was_run: bool,
+}
+
+/// What a worker's thread is given, by which is known what it hands back.
+#[derive(Drop)]
+struct Given<B: Bus, K: RunName> {
+    plan: Plan,
+    worker: usize,
+    job: Snapshot<Job<B, K>>,
+}
+
+impl<B: Bus, K: RunName> Promise<Back<B, K>> for Given<B, K> {
+    ghost use Rattle.cm_run.specs.Jobs.{HasRun};
+
+    ghost kept_by = { λ g r. HasRun B.step K.net g.plan.attempts g.plan.workers g.worker r.was_run
+        r.job.outcomes.items g.job.value.seat r.job.seat g.job.value.bus r.job.bus };
+}
+
+/// Runs the job, unless it was this worker's thread that was refused.
+fn run_unless_refused<'n, W: Wire, K: RunName, R: Wait, B: Bus>(
+    rt: &R,
+    register: &Register<'n, W, K>,
+    plan: Plan,
+    refused: &AtomicUsize,
+    worker: usize,
+    job: Job<B, K>,
+) -> Back<B, K>
+    ensures { HasRun B.step K.net plan.attempts plan.workers worker result.was_run
+        result.job.outcomes.items job.seat result.job.seat job.bus result.job.bus }
+{
+    if refused.load(Ordering::SeqCst) == worker {
+        return Back {
+            job,
+            was_run: false,
+        };
+    }
+    Back {
+        job: work(rt, register, plan, worker, job),
+        was_run: true,
+    }
+}
+
+/// Starts a worker's thread. Where it is refused, the job comes back at once.
+fn start<
+    's,
+    'n,
+    E,
+    W: Wire + Send,
+    K: RunName + Send + Sync + 's,
+    R: Wait + Threads + Sync,
+    B: Bus + Drop + Send + 's,
+>(
+    scope: &Scope<'s, E>,
+    rt: &'s R,
+    register: &'s Register<'n, W, K>,
+    plan: Plan,
+    refused: &'s AtomicUsize,
+    worker: usize,
+    job: Job<B, K>,
+) -> Result<PromisedHandle<Back<B, K>, Given<B, K>>, Back<B, K>>
+    ensures plan { IfOk result (λ h. (h.promise.plan ≡ plan) × (h.promise.worker ≡ worker)) }
+    ensures job { IfOk result (λ h. h.promise.job.value ≡ job) }
+    ensures back { IfErr result (λ r. HasRun B.step K.net plan.attempts plan.workers worker r.was_run
+        r.job.outcomes.items job.seat r.job.seat job.bus r.job.bus) }
+{
+    let given = Given {
+        plan,
+        worker,
+        job: Snapshot::of(&job),
+    };
+    match scope.spawn_with(
+        given,
+        move || run_unless_refused(rt, register, plan, refused, worker, job),
+    ) {
+        Ok(handle) => Ok(handle),
+        Err(error) => {
+            refused.store(worker, Ordering::SeqCst);
+            Err((error.value)())
+        }
+    }
+}
+
+/// Runs these jobs, those of the first workers, each in a thread of its own, and says whether all
+/// were run. The threads are started from the last one to the first; where one is refused, those
+/// that would follow aren't started, and the others finish.
+fn run_first<
+    's,
+    'n,
+    E,
+    W: Wire + Send,
+    K: RunName + Send + Sync + 's,
+    R: Wait + Threads + Sync,
+    B: Bus + Drop + Send + 's,
+>(
+    scope: &Scope<'s, E>,
+    rt: &'s R,
+    register: &'s Register<'n, W, K>,
+    plan: Plan,
+    refused: &'s AtomicUsize,
+    jobs: &mut Vec<Job<B, K>>,
+) -> bool
+    ensures len { vec_len jobs.new ≡ vec_len jobs.old }
+    ensures capacity { vec_capacity jobs.new ≡ vec_capacity jobs.old }
+    ensures each { (k : ℕ) (d : _) → k < vec_len jobs.old
+        → HasBootedOrStopped B.step K.net plan.attempts plan.workers k
+        (slice_index_or jobs.old.items k d).seat (slice_index_or jobs.new.items k d).seat
+        (slice_index_or jobs.old.items k d).bus (slice_index_or jobs.new.items k d).bus }
+    ensures all { IsTrue result → (k : ℕ) (d : _) → k < vec_len jobs.old
+        → HasBooted B.step K.net plan.attempts plan.workers k
+        (slice_index_or jobs.new.items k d).outcomes.items
+        (slice_index_or jobs.old.items k d).seat (slice_index_or jobs.new.items k d).seat
+        (slice_index_or jobs.old.items k d).bus (slice_index_or jobs.new.items k d).bus }
+{
+    let Some(job) = jobs.pop() else {
+        return true;
+    };
+    let worker = jobs.len();
+    match start(scope, rt, register, plan, refused, worker, job) {
+        Ok(handle) => {
+            let others = run_first(scope, rt, register, plan, refused, jobs);
+            let Back { job, was_run } = handle.join(rt);
+            jobs.push_reserved(job);
+            was_run && others
+        }
+        Err(back) => {
+            let Back { job, was_run: _ } = back;
+            jobs.push_reserved(job);
+            false
+        }
+    }
+}
+
+/// Runs all jobs, each in a thread of its own. `Err` where a thread was refused.
+pub(crate) fn run_jobs<
+    'n,
+    W: Wire + Send,
+    K: RunName + Send + Sync,
+    R: Wait + Threads + Sync,
+    B: Bus + Drop + Send,
+>(
+    rt: &R,
+    register: &Register<'n, W, K>,
+    plan: Plan,
+    jobs: Vec<Job<B, K>>,
+) -> Result<Vec<Job<B, K>>, Vec<Job<B, K>>>
+    ensures done_len { IfOk result (λ v. vec_len v ≡ vec_len jobs) }
+    ensures done { IfOk result (λ v. (k : ℕ) (d : _) → k < vec_len jobs
+        → HasBooted B.step K.net plan.attempts plan.workers k
+        (slice_index_or v.items k d).outcomes.items
+        (slice_index_or jobs.items k d).seat (slice_index_or v.items k d).seat
+        (slice_index_or jobs.items k d).bus (slice_index_or v.items k d).bus) }
+    ensures stopped_len { IfErr result (λ v. vec_len v ≡ vec_len jobs) }
+    ensures stopped { IfErr result (λ v. (k : ℕ) (d : _) → k < vec_len jobs
+        → HasBootedOrStopped B.step K.net plan.attempts plan.workers k
+        (slice_index_or jobs.items k d).seat (slice_index_or v.items k d).seat
+        (slice_index_or jobs.items k d).bus (slice_index_or v.items k d).bus) }
+{
+    let refused = AtomicUsize::new(plan.workers);
+    let refused = &refused;
+    thread::scope(
+        thread::scope_env(),
+        rt,
+        |scope| -> Result<Vec<Job<B, K>>, Vec<Job<B, K>>>
+            ensures done_len { IfOk result (λ v. vec_len v ≡ vec_len jobs) }
+            ensures done { IfOk result (λ v. (k : ℕ) (d : _) → k < vec_len jobs
+                → HasBooted B.step K.net plan.attempts plan.workers k
+                (slice_index_or v.items k d).outcomes.items
+                (slice_index_or jobs.items k d).seat (slice_index_or v.items k d).seat
+                (slice_index_or jobs.items k d).bus (slice_index_or v.items k d).bus) }
+            ensures stopped_len { IfErr result (λ v. vec_len v ≡ vec_len jobs) }
+            ensures stopped { IfErr result (λ v. (k : ℕ) (d : _) → k < vec_len jobs
+                → HasBootedOrStopped B.step K.net plan.attempts plan.workers k
+                (slice_index_or jobs.items k d).seat (slice_index_or v.items k d).seat
+                (slice_index_or jobs.items k d).bus (slice_index_or v.items k d).bus) }
+        {
+            let mut jobs = jobs;
+            if run_first(scope, rt, register, plan, refused, &mut jobs) {
+                Ok(jobs)
+            } else {
+                Err(jobs)
+            }
+        },
+    )
+}

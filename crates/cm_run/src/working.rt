@@ -1,0 +1,83 @@
+//! The work of one worker.
+ghost use Rattle.std.specs.Prelude.{◌≡◌, ◌<◌, ◌≤◌, length, map, vec_capacity, vec_len, IfErr, IfOk};
+ghost use Rattle.cm_netlist.specs.Network.{listed_ids};
+ghost use Rattle.cm_run.specs.Rounds.{HasRounds};
+ghost use Rattle.cm_run.specs.Running.{HasBooted, id_of};
+ghost use Rattle.cm_run.specs.Shares.{share};
+
+use crate::jobs::Job;
+use crate::outcome::Outcome;
+use crate::rounds::round;
+use cm_boot::Bus;
+use cm_register::{Register, RunName, Seat, Wire};
+use std::sync::Wait;
+
+/// How many workers there are, and how many attempts at each slave at most.
+#[derive(Clone, Copy)]
+pub(crate) struct Plan {
+    pub(crate) workers: usize,
+    pub(crate) attempts: u8,
+    pub(crate) ghost workers_fit: { 0 < workers },
+    pub(crate) ghost attempts_fit: { 0 < attempts },
+}
+
+/// The rounds of the worker's slaves, in order.
+fn make_rounds<'n, W: Wire, K: RunName, R: Wait, B: Bus>(
+    rt: &R,
+    register: &Register<'n, W, K>,
+    plan: Plan,
+    worker: usize,
+    seat: &mut Seat<K>,
+    bus: &mut B,
+    outcomes: &mut Vec<Outcome>,
+)
+    requires empty { vec_len outcomes.old ≡ 0 }
+    requires room { length (listed_ids K.net) ≤ vec_capacity outcomes.old }
+    ensures slaves { map id_of outcomes.new.items ≡ share plan.workers worker (listed_ids K.net) }
+    ensures number { seat.new.number ≡ seat.old.number }
+    ensures rounds { HasRounds B.step K.net plan.attempts outcomes.new.items seat.old.list
+        seat.new.list bus.old bus.new }
+    ensures capacity { vec_capacity outcomes.new ≡ vec_capacity outcomes.old }
+{
+    let listed = register.network().listed_ids();
+    let ids = listed.as_slice();
+    for place in 0..ids.len() {
+        let id = ids[place];
+        if place % plan.workers == worker {
+            outcomes.push_reserved(round(rt, register, seat, bus, id, plan.attempts));
+        }
+    }
+}
+
+/// Boots the slaves of a worker, with its job.
+pub(crate) fn work<'n, W: Wire, K: RunName, R: Wait, B: Bus>(
+    rt: &R,
+    register: &Register<'n, W, K>,
+    plan: Plan,
+    worker: usize,
+    job: Job<B, K>,
+) -> Job<B, K>
+    ensures { HasBooted B.step K.net plan.attempts plan.workers worker result.outcomes.items job.seat
+        result.seat job.bus result.bus }
+{
+    let Job {
+        mut seat,
+        mut bus,
+        mut outcomes,
+    } = job;
+    outcomes.clear();
+    make_rounds(
+        rt,
+        register,
+        plan,
+        worker,
+        &mut seat,
+        &mut bus,
+        &mut outcomes,
+    );
+    Job {
+        seat,
+        bus,
+        outcomes,
+    }
+}
