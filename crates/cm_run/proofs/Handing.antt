@@ -1,5 +1,6 @@
 -- What holds of the jobs, once the seats and buses are back in their order.
-use Rattle.std.proofs.Common.{◌≡◌, ℕ, ◌<◌, List, get_or, length, map, sym, ap, ◌∙◌, arith}
+use Rattle.std.proofs.Common.{◌≡◌, ℕ, suc, ◌+◌, ◌<◌, List, [], ◌∷◌, ◌++◌, All, get_or, take, drop, length, map, sym, ap, subst, ◌∙◌, arith, append_assoc}
+use Rattle.std.proofs.lemmas.List.{map-append}
 use Rattle.cm_register.specs.Views.{SeatView}
 use Rattle.cm_run.proofs.Merging.{at_map}
 
@@ -18,3 +19,17 @@ handed Q seat_of bus_of before after seats now buses left k s b ps pb ns nb size
     let p3 : get_or buses k b ≡ bus_of (get_or before k d) = ap (λ v. get_or v k b) (sym pb) ∙ map_at bus_of before k b d lt in
     let p4 : get_or left k b ≡ bus_of (get_or after k d) = ap (λ v. get_or v k b) nb ∙ map_at bus_of after k b d new in
     rw (p1, p2, p3, p4) (q d)
+
+-- what holds of all elements holds of those behind the first one
+pub all_rest : {X : Type 0} (P : X → Type 0) (xs ys : List X) (x : X) → xs ≡ x ∷ ys → All P xs → All P ys
+all_rest {X = X} P xs ys x e was k d l = let all : All P (x ∷ ys) = subst (λ (v : List X). All P v) e was in all (suc k) d (omega arith)
+
+-- the first of the rest goes to the end of what was taken
+first_is : {X : Type 0} (xs ys : List X) (x : X) → x ≡ get_or xs 0 x → 0 < length xs → ys ≡ take 0 xs ++ drop (0 + 1) xs → x ∷ ys ≡ xs
+first_is [] ys x is some rest = absurd (omega arith)
+first_is (z ∷ zs) ys x is some rest = cc
+
+pub moved : {J X : Type 0} (f : J → X) (js taken : List J) (j : J) (xs ys : List X) {all : List X} → f j ≡ get_or xs 0 (f j) → 0 < length xs → ys ≡ take 0 xs ++ drop (0 + 1) xs → map f js ++ xs ≡ all
+    → taken ≡ js ++ j ∷ [] → map f taken ++ ys ≡ all
+moved {J = J} f js taken j xs ys {all} is some rest was made =
+    ap (λ (v : List J). map f v ++ ys) made ∙ (ap (λ v. v ++ ys) (map-append f js (j ∷ [])) ∙ (append_assoc (map f js) (f j ∷ []) ys ∙ (ap (λ v. map f js ++ v) (first_is xs ys (f j) is some rest) ∙ was)))

@@ -1,5 +1,5 @@
 //! What the workers are given and hand back, and the memory for it.
-ghost use Rattle.std.specs.Prelude.{◌≡◌, ◌≤◌, ◌<◌, [], All, length, map, vec_capacity, vec_len, slice_index_or, IfOk};
+ghost use Rattle.std.specs.Prelude.{◌≡◌, ◌≤◌, ◌<◌, [], ℕ, All, length, map, vec_capacity, vec_len, slice_index_or, IfOk};
 ghost use Rattle.cm_netlist.specs.Network.{listed_ids};
 ghost use Rattle.cm_run.specs.Running.{id_of};
 ghost use Rattle.cm_run.specs.Shares.{share};

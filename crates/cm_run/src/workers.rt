@@ -79,7 +79,8 @@ fn boot_in<
     ensures fault { IfErr result (λ f. f.kind ≡ RunKind.NoWorker) }
     ensures kept { IfErr result
         (λ f. (vec_len f.seats ≡ vec_len seats) × (vec_len f.buses ≡ vec_len buses)) }
-    ensures stopped { IfErr result (λ f. (k : ℕ) (s : _) (b : _) → k < plan.workers
+    ensures stopped { IfErr result (λ f. f.kind ≡ RunKind.NoWorker
+        → (k : ℕ) (s : _) (b : _) → k < plan.workers
         → HasBootedOrStopped B.step K.net plan.attempts plan.workers k
         (slice_index_or seats.items k s) (slice_index_or f.seats.items k s)
         (slice_index_or buses.items k b) (slice_index_or f.buses.items k b)) }
