@@ -1,14 +1,30 @@
-ghost use Rattle.std.specs.Prelude.{◌≡◌, ◌⊎◌, IfErr};
+ghost use Rattle.std.specs.Prelude.{◌≤◌, IfOk};
+ghost use Rattle.canboot_words.specs.Orders.{IsInRange};
 
 use clap::error::ErrorKind;
-use clap::{Arg, ArgMatches, Command, Error};
+use clap::{Arg, ArgMatches, Command, Error, value_parser};
+use cm_nmt::NodeId;
 use std::alloc::{AllocError, Global};
 
 /// What the command line asks for.
 #[derive(Clone, Copy, Debug, PartialEq, Eq)]
 pub enum Order<'a> {
     /// Read the network list of this path, and print how many slaves it lists.
-    Check { network: &'a str },
+    Check {
+        network: &'a str,
+    },
+    /// Boot the network of the list of this path, print the report, and write the journal to this
+    /// path, if there is one.
+    Run {
+        network: &'a str,
+        /// How many workers boot slaves, 1 to 16.
+        workers: u8,
+        /// How often a slave is tried at most, 1 to 10.
+        attempts: u8,
+        /// The node that stays silent, if one does.
+        silent: Option<NodeId>,
+        journal: Option<&'a str>,
+    },
     /// Read a journal, and print its report.
     Replay,
 }
@@ -145,19 +161,112 @@ Example, a list of one slave, of which 'ok slaves 1 mandatory 1 kept 0' is print
   assignment = 13
   device_type = 0x00020192";
 
+const ABOUT_RUN: &str =
+    "Boots a network of simulated slaves, prints its status report, and writes its journal";
+
+const HELP_RUN: &str =
+    "Reads the network list NET ('canboot check --help' says what it holds), boots a network of \
+simulated slaves, and prints the status report of what happened on standard output, as 'canboot \
+replay' prints it. Each slave agrees with the list: it has each object as the list expects it, \
+acknowledges each write, and is heard in pre-operational. No CAN network is needed.
+
+A seat is one who makes calls of the manager. Seat 1 is an operator, who starts the network, and \
+says at the end that 0 ms went by. A worker is a thread with a seat of its own, 2 to N + 1, and a \
+bus of its own. The slaves are counted from 0 in rising node-ID, and slave K belongs to worker K \
+modulo N: that worker boots it, one after another with its other slaves.
+
+An attempt at a slave is three things: the begin of its boot, the questions of the boot, and the \
+report of the answers. Another attempt follows only where the report came to status B, for a slave \
+without an answer, or where the session was dropped in the meantime.
+
+A silent slave gives no answer. Each attempt at it comes to status B, and so it isn't booted; the \
+phase stays 'booting' if it is mandatory. A slave without bit 2 of its assignment is asked no \
+question: its silence shows only where its heartbeat is waited for, as status K, and else it is \
+booted. An ID that isn't listed has no effect.
+
+FILE is made once NET is open, and before NET is read; what FILE had before is lost. So with the \
+path of NET for FILE the list is lost, and after a list that is refused, or a start that is refused, \
+an empty FILE stays. 'canboot replay < FILE' accepts the journal, and prints the same report.
+
+With one worker the output and the journal of a list are always the same. With several workers the \
+order of the entries may differ from run to run, and with it the numbers of the sessions and what \
+depends on the order.
+
+Exit statuses:
+  0  the report is printed, and the journal is written, if there is one
+  1  the list has a fault ('canboot check --help' names them), or the start is refused, since bit 0 \
+of startup is clear ('start refused: 1 NotMaster'); nothing is printed
+  2  the command line is wrong
+  3  NET can't be opened or read, or is too long; FILE can't be made; a failed write; want of \
+memory; or 'no worker', where no thread could be made
+
+Nothing is printed on standard output where no report is due; standard error has one line that says \
+why.
+
+Examples:
+  canboot run examples/lists/one-slave.toml
+  canboot run examples/lists/one-slave.toml --silent 2 --attempts 3 --journal silent.journal";
+
 const AFTER: &str =
     "'canboot check --help' says what a network list holds, 'canboot replay --help' what a journal \
-holds, and both what each exit status means.";
+holds, 'canboot run --help' what is simulated, and each what the exit statuses mean.";
 
-fn check_command<'a>(alloc: Global) -> Result<Command<'a>, AllocError> {
-    let network = Arg::new(alloc, "network")
+fn network_argument<'a>(alloc: Global) -> Arg<'a> {
+    Arg::new(alloc, "network")
         .value_name("NET")
         .help("The path of the network list")
-        .required(true);
+        .required(true)
+}
+
+fn check_command<'a>(alloc: Global) -> Result<Command<'a>, AllocError> {
     Command::new(alloc, "check")
         .about(ABOUT_CHECK)
         .long_about(HELP_CHECK)
-        .arg(network)
+        .arg(network_argument(alloc))
+}
+
+fn workers_argument<'a>(alloc: Global) -> Arg<'a> {
+    Arg::new(alloc, "workers")
+        .long("workers")
+        .value_name("N")
+        .help("How many workers boot slaves, 1 to 16")
+        .value_parser(value_parser!(u8).range(1..17))
+        .default_value("1")
+}
+
+fn attempts_argument<'a>(alloc: Global) -> Arg<'a> {
+    Arg::new(alloc, "attempts")
+        .long("attempts")
+        .value_name("N")
+        .help("How often a slave is tried at most, 1 to 10")
+        .value_parser(value_parser!(u8).range(1..11))
+        .default_value("1")
+}
+
+fn silent_argument<'a>(alloc: Global) -> Arg<'a> {
+    Arg::new(alloc, "silent")
+        .long("silent")
+        .value_name("ID")
+        .help("The node-ID of a slave that gives no answer, 1 to 127")
+        .value_parser(value_parser!(u8).range(1..128))
+}
+
+fn journal_argument<'a>(alloc: Global) -> Arg<'a> {
+    Arg::new(alloc, "journal")
+        .long("journal")
+        .value_name("FILE")
+        .help("The path to which the journal is written")
+}
+
+fn run_command<'a>(alloc: Global) -> Result<Command<'a>, AllocError> {
+    Command::new(alloc, "run")
+        .about(ABOUT_RUN)
+        .long_about(HELP_RUN)
+        .arg(network_argument(alloc))?
+        .arg(workers_argument(alloc))?
+        .arg(attempts_argument(alloc))?
+        .arg(silent_argument(alloc))?
+        .arg(journal_argument(alloc))
 }
 
 fn command<'a>(alloc: Global) -> Result<Command<'a>, AllocError> {
@@ -170,14 +279,41 @@ fn command<'a>(alloc: Global) -> Result<Command<'a>, AllocError> {
         .after_help(AFTER)
         .subcommand_required(true)
         .subcommand(check_command(alloc)?)?
+        .subcommand(run_command(alloc)?)?
         .subcommand(replay)
 }
 
-fn order_of<'a>(matches: &ArgMatches<'a>) -> Order<'a> {
+/// A number of this name, which clap took only where it is 1 to `most`.
+fn number_of(given: &ArgMatches<'_>, name: &str, most: u8) -> u8
+    requires { 1 ≤ most }
+    ensures { (1 ≤ result) × (result ≤ most) }
+{
+    match given.get_one::<u8>(name) {
+        Some(number) => number.clamp(1, most),
+        None => 1,
+    }
+}
+
+fn run_order<'a>(given: &ArgMatches<'a>) -> Order<'a>
+    ensures { IsInRange result }
+{
+    Order::Run {
+        network: given.get_str("network").unwrap_or(""),
+        workers: number_of(given, "workers", 16),
+        attempts: number_of(given, "attempts", 10),
+        silent: given.get_one::<u8>("silent").and_then(NodeId::new),
+        journal: given.get_str("journal"),
+    }
+}
+
+fn order_of<'a>(matches: &ArgMatches<'a>) -> Order<'a>
+    ensures { IsInRange result }
+{
     match matches.subcommand() {
         Some(("check", given)) => Order::Check {
             network: given.get_str("network").unwrap_or(""),
         },
+        Some(("run", given)) => run_order(given),
         _ => Order::Replay,
     }
 }
@@ -199,8 +335,11 @@ fn no_order_of(alloc: Global, error: &Error) -> NoOrder {
     }
 }
 
-/// Reads the words of a command line; the first is the program's name.
-pub fn read_words<'a>(alloc: Global, words: &'a [String]) -> Result<Order<'a>, NoOrder> {
+/// Reads the words of a command line; the first is the program's name. The numbers of a run are those
+/// that were given, or 1; where they aren't in range, the command line is wrong.
+pub fn read_words<'a>(alloc: Global, words: &'a [String]) -> Result<Order<'a>, NoOrder>
+    ensures range { IfOk result IsInRange }
+{
     let parsed = match command(alloc) {
         Ok(command) => command.try_get_matches_from(words),
         Err(_) => return Err(NoOrder::OutOfMemory),
