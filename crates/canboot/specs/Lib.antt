@@ -1,3 +1,4 @@
 pub mod Replay
+pub mod Run
 pub mod Program
 pub use Rattle.canboot_check.specs.Check

@@ -1,11 +1,15 @@
 //! canboot, the NMT master of a CANopen network, as a library: its command line over any streams,
-//! and `canboot check` and `canboot replay` over any reader and writer. The program is `canboot_main`.
+//! and `canboot check`, `canboot run` and `canboot replay` over any reader and writer. The program is `canboot_main`.
 #![tactic(auto)]
 
 mod program;
 mod replay;
+mod running;
+mod simulation;
 
 pub use canboot_check::{DONE, FAILED, LONGEST_LIST, REFUSED, check_text};
 pub use canboot_words::{NoOrder, Order, read_words};
 pub use program::{MISUSED, run, run_words};
 pub use replay::{LONGEST_JOURNAL, replay_text};
+pub use running::run_text;
+pub use simulation::{LONGEST_RUN, Options};

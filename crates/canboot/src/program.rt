@@ -1,13 +1,17 @@
-ghost use Rattle.std.specs.Prelude.{◌≡◌, ◌⊎◌};
+ghost use Rattle.std.specs.Prelude.{◌≡◌, ◌≤◌, ◌⊎◌};
 ghost use Rattle.canboot.specs.Program.{EndsWithout};
 
 use crate::replay::replay_text;
+use crate::running::run_text;
+use crate::simulation::Options;
 use canboot_check::{FAILED, check_text, fault_line, output_status};
 use canboot_words::{NoOrder, Order, read_words};
 use std::alloc::Global;
 use std::io::{self, BufWriter, Read, Write};
 use std::process::ExitCode;
 use std::rt::{Env, Files};
+use std::sync::Wait;
+use std::thread::Threads;
 use std::{env, fs};
 
 /// The exit status of a wrong command line.
@@ -15,14 +19,17 @@ pub const MISUSED: u8 = 2;
 
 /// Runs canboot on the words of its command line and its standard input and output, with `err` for
 /// what goes to standard error, and gives its exit status.
-pub fn run<R: Env + Files + Print + Input + AllocGlobal, E: Write>(
+pub fn run<R: Env + Files + Print + Input + AllocGlobal + Wait + Threads + Sync, E: Write>(
     rt: &R,
     err: &mut E,
 ) -> ExitCode {
     ExitCode::from(run_here(rt, err))
 }
 
-fn run_here<R: Env + Files + Print + Input + AllocGlobal, E: Write>(rt: &R, err: &mut E) -> u8 {
+fn run_here<R: Env + Files + Print + Input + AllocGlobal + Wait + Threads + Sync, E: Write>(
+    rt: &R,
+    err: &mut E,
+) -> u8 {
     let args = match env::args(rt) {
         Ok(args) => args,
         Err(error) => return read_fault(err, error.kind()),
@@ -37,9 +44,9 @@ fn run_here<R: Env + Files + Print + Input + AllocGlobal, E: Write>(rt: &R, err:
 }
 
 /// Runs canboot on these words, of which the first is the program's name, with these streams, and
-/// gives its exit status: that of [`check_text`] or [`replay_text`], 0 for help and the version, 2 for
-/// wrong words, 3 for a file that can't be opened.
-pub fn run_words<R: Files + AllocGlobal, I: Read, W: Write, E: Write>(
+/// gives its exit status: that of [`check_text`], [`run_text`] or [`replay_text`], 0 for help and the
+/// version, 2 for wrong words, 3 for a file that can't be opened or made.
+pub fn run_words<R: Files + AllocGlobal + Wait + Threads + Sync, I: Read, W: Write, E: Write>(
     rt: &R,
     words: &[String],
     input: &mut I,
@@ -48,6 +55,22 @@ pub fn run_words<R: Files + AllocGlobal, I: Read, W: Write, E: Write>(
 ) -> u8 {
     match read_words(rt.alloc(), words) {
         Ok(Order::Check { network }) => check_file(rt, network, out, err),
+        Ok(
+            Order::Run {
+                network,
+                workers,
+                attempts,
+                silent,
+                journal,
+            },
+        ) => {
+            let options = Options {
+                workers,
+                attempts,
+                silent,
+            };
+            run_file(rt, network, options, journal, out, err)
+        }
         Ok(Order::Replay) => replay_text(rt.alloc(), input, out, err),
         Err(none) => say(&none, out, err),
     }
@@ -83,6 +106,54 @@ fn check_file<R: Files + AllocGlobal, W: Write, E: Write>(
     match fs::open(rt, path) {
         Ok(mut file) => check_text(rt.alloc(), &mut file, out, err),
         Err(error) => read_fault(err, error.kind()),
+    }
+}
+
+/// `canboot run`, over the file of this path. The journal's file, if there is one, is made before the
+/// list is read.
+fn run_file<R: Files + AllocGlobal + Wait + Threads + Sync, W: Write, E: Write>(
+    rt: &R,
+    path: &str,
+    options: Options,
+    journal: Option<&str>,
+    out: &mut W,
+    err: &mut E,
+) -> u8
+    requires workers { (1 ≤ options.workers) × (options.workers ≤ 16) }
+    requires attempts { (1 ≤ options.attempts) × (options.attempts ≤ 10) }
+{
+    let mut list = match fs::open(rt, path) {
+        Ok(file) => file,
+        Err(error) => return read_fault(err, error.kind()),
+    };
+    let mut journal = match make(rt, journal) {
+        Ok(file) => file,
+        Err(error) => return write_fault(err, error.kind()),
+    };
+    run_text(rt, rt.alloc(), &mut list, options, out, err, &mut journal)
+}
+
+/// Makes the file of this path, if there is one.
+fn make<R: Files + AllocGlobal>(
+    rt: &R,
+    path: Option<&str>,
+) -> io::Result<Option<BufWriter<R::File>>> {
+    match path {
+        Some(path) => {
+            let file = fs::create(rt, path)?;
+            Ok(Some(BufWriter::new(rt.alloc(), file)?))
+        }
+        None => Ok(None),
+    }
+}
+
+/// The fault of a file that can't be made.
+fn write_fault<E: Write>(err: &mut E, kind: io::ErrorKind) -> u8
+    ensures { result ≡ 3 }
+{
+    match kind {
+        io::ErrorKind::OutOfMemory => fault_line(err, FAILED, "out of memory"),
+        _ => fault_line(err, FAILED, "write failed"),
     }
 }
 

@@ -51,15 +51,18 @@ fn put_check<W: Write>(network: &Network, out: &mut W) -> io::Result<()>
 }
 
 /// Why a network list wasn't read.
-enum CheckFault {
+#[derive(Clone, Copy, Debug, PartialEq, Eq)]
+pub enum CheckFault {
     /// The list has this fault.
     List(NetFault),
     /// The input wasn't read, or memory was refused.
     Input(InputFault),
 }
 
-/// Reads a network list to the end of the input. Nothing is written before the list is known.
-fn read_list<R: Read>(alloc: Global, reader: &mut R) -> Result<Network, CheckFault>
+/// Reads a network list in TOML to the end of the input. A fault of the list is the first that applies
+/// to the bytes, which aren't TOML where they aren't UTF-8; any other fault is of the input: a read
+/// failed, the input is longer than 1,048,576 bytes, or memory was refused.
+pub fn read_list<R: Read>(alloc: Global, reader: &mut R) -> Result<Network, CheckFault>
     ensures list { IfOk result (IsList (R.remaining reader.old) (R.remaining reader.new)) }
     ensures faulty { IfErr result (IsFaulty (R.remaining reader.old) (R.remaining reader.new)) }
 {
@@ -77,8 +80,9 @@ fn read_list<R: Read>(alloc: Global, reader: &mut R) -> Result<Network, CheckFau
     }
 }
 
-/// Writes the line of fault, and gives its exit status.
-fn refuse<E: Write>(err: &mut E, fault: CheckFault) -> u8
+/// Writes the line of fault of a network list that wasn't read, and gives its exit status: 1 for a fault
+/// of the list, 3 for any other.
+pub fn refuse<E: Write>(err: &mut E, fault: CheckFault) -> u8
     ensures list { IsFaultOfList fault ↔ (result ≡ 1) }
     ensures statuses { (result ≡ 1) ⊎ (result ≡ 3) }
 {

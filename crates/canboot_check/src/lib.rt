@@ -5,5 +5,5 @@
 mod check;
 mod status;
 
-pub use check::{LONGEST_LIST, check_text};
+pub use check::{CheckFault, LONGEST_LIST, check_text, read_list, refuse};
 pub use status::{DONE, FAILED, REFUSED, fault_line, input_fault_line, output_status};

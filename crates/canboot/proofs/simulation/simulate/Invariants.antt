@@ -1,0 +1,7 @@
+use Rattle.canboot.proofs.simulation.simulate.Given as goal
+
+abbrev pub ghosts-run_named-K-Ledger : goal.ghosts-run_named-K-Ledger
+ghosts-run_named-K-Ledger g a = record { name = a.opened.blank.name; parts = a.opened.seats }
+
+abbrev pub ghosts-run_named-K-RunName : goal.ghosts-run_named-K-RunName
+ghosts-run_named-K-RunName g a = record { net = a.opened.net.now; seats = a.opened.seats; limit = a.opened.limit }
