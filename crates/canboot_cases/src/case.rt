@@ -10,18 +10,24 @@ pub enum Source<'a> {
     File(&'a str),
     /// Any but none.
     Any,
+    /// There is no such file.
+    Missing,
+    /// Any, or no file.
+    Unsaid,
 }
 
 /// A command line with its input, and what it must come to.
 #[derive(Drop)]
 pub struct Case<'a> {
     pub name: &'a str,
-    /// The words behind the program's name; `NET` is the path of a file of the input.
+    /// The words behind the program's name; `NET` is the path of a file of the input, `FILE` that of the
+    /// journal.
     pub words: Vec<&'a str>,
     pub input: Source<'a>,
     pub out: Source<'a>,
     pub err: Source<'a>,
     pub status: u8,
+    pub journal: Source<'a>,
 }
 
 /// The fields of the first line of a case.
@@ -33,6 +39,7 @@ struct Head<'a> {
     out: &'a str,
     err: &'a str,
     status: u8,
+    journal: Option<&'a str>,
 }
 
 impl<'a> Case<'a> {
@@ -53,6 +60,9 @@ impl<'a> Case<'a> {
         let Some(err) = take_source(alloc, scanner, head.err)? else {
             return Ok(None);
         };
+        let Some(journal) = take_journal(alloc, scanner, head.journal)? else {
+            return Ok(None);
+        };
         Ok(Some(Case {
             name: head.name,
             words: head.words,
@@ -60,16 +70,21 @@ impl<'a> Case<'a> {
             out,
             err,
             status: head.status,
+            journal,
         }))
     }
 }
 
-/// `case NAME COMMAND in S out S err S status N`.
+/// `case NAME COMMAND in S out S err S status N`, and then perhaps ` journal S`.
 fn read_head<'a>(alloc: Global, line: &'a str) -> Result<Option<Head<'a>>, AllocError> {
     let mut fields: Vec<&'a str> = Vec::new(alloc);
     for field in line.split(' ') {
         fields.push(field)?;
     }
+    let (stated, journal) = match fields.as_slice() {
+        [stated @ .., "journal", journal] => (stated, Some(*journal)),
+        stated => (stated, None),
+    };
     let [
         "case",
         name,
@@ -82,7 +97,7 @@ fn read_head<'a>(alloc: Global, line: &'a str) -> Result<Option<Head<'a>>, Alloc
         err,
         "status",
         status,
-    ] = fields.as_slice()
+    ] = stated
     else {
         return Ok(None);
     };
@@ -96,6 +111,7 @@ fn read_head<'a>(alloc: Global, line: &'a str) -> Result<Option<Head<'a>>, Alloc
         out: *out,
         err: *err,
         status,
+        journal,
     }))
 }
 
@@ -108,6 +124,20 @@ fn words_of<'a>(alloc: Global, command: &[&'a str]) -> Result<Vec<&'a str>, Allo
         _ => words.extend_from_slice(command)?,
     }
     Ok(words)
+}
+
+/// Takes what is said of the journal: nothing, where there is no such field; `none`, that there is no
+/// such file; or its bytes.
+fn take_journal<'a>(
+    alloc: Global,
+    scanner: &mut Scanner<'a>,
+    field: Option<&'a str>,
+) -> Result<Option<Source<'a>>, AllocError> {
+    match field {
+        None => Ok(Some(Source::Unsaid)),
+        Some("none") => Ok(Some(Source::Missing)),
+        Some(field) => take_source(alloc, scanner, field),
+    }
 }
 
 /// Takes what a field of the first line stands for: a text; `parts:N`, so many parts; `@PATH`, the

@@ -1,7 +1,7 @@
 //! Runs the cases of the files that its words name, through canboot's command line, and compares
-//! output, error output and exit status with what is stored. It prints each case that differs, and at
-//! the end how many cases there are and how many of them differ. `tests/README.md` says what a case
-//! looks like.
+//! output, error output, exit status and journal with what is stored. It prints each case that differs,
+//! and at the end how many cases there are and how many of them differ. `tests/README.md` says what a
+//! case looks like.
 #![tactic(auto)]
 
 mod case;
@@ -16,6 +16,8 @@ use crate::scanner::Scanner;
 use std::alloc::AllocError;
 use std::process::ExitCode;
 use std::rt::{Env, Files};
+use std::sync::Wait;
+use std::thread::Threads;
 use std::{env, fs, io};
 
 /// How many cases were run, and how many of them differ.
@@ -48,11 +50,14 @@ fn tell(rt: &impl Print, case: &Case<'_>, outcome: &Outcome) -> io::Result<()> {
     if !outcome.same_err {
         println!(rt; "{name}: another error output")?;
     }
+    if !outcome.same_journal {
+        println!(rt; "{name}: another journal")?;
+    }
     Ok(())
 }
 
 /// Runs the cases of one file.
-fn run_file<R: Files + Print + AllocGlobal>(
+fn run_file<R: Files + Print + AllocGlobal + Wait + Threads + Sync>(
     rt: &R,
     path: &str,
     count: &mut Count,

@@ -3,24 +3,31 @@ use crate::compared::Compared;
 use crate::text::{Part, Text};
 use canboot::run_words;
 use std::alloc::{AllocError, Global};
+use std::fs;
+use std::io::{self, Write};
 use std::rt::Files;
-use std::{fs, io};
+use std::sync::Wait;
+use std::thread::Threads;
 
 /// Where the input lies of a command line with `NET` in it.
 const LIST: &str = "list-of-this-case.toml";
+
+/// Where the journal lies of a command line with `FILE` in it.
+const JOURNAL: &str = "journal-of-this-case.journal";
 
 /// What a case came to.
 #[derive(Clone, Copy)]
 pub struct Outcome {
     pub same_out: bool,
     pub same_err: bool,
+    pub same_journal: bool,
     pub status: u8,
 }
 
 impl Outcome {
     /// Whether that isn't what is stored.
     pub fn differs(&self, case: &Case<'_>) -> bool {
-        !self.same_out || !self.same_err || self.status != case.status
+        !self.same_out || !self.same_err || !self.same_journal || self.status != case.status
     }
 }
 
@@ -42,7 +49,7 @@ fn parts_of<'a>(
     match source {
         Source::Parts(stored) => parts.extend_from_slice(stored)?,
         Source::File(_) => parts.push(Part::once(loaded))?,
-        Source::Any => {}
+        Source::Any | Source::Missing | Source::Unsaid => {}
     }
     Ok(parts)
 }
@@ -60,34 +67,67 @@ fn words_of(alloc: Global, case: &Case<'_>) -> Result<Vec<String>, AllocError> {
     let mut words = Vec::new(alloc);
     words.push(String::from_str(alloc, "canboot")?)?;
     for word in &case.words {
-        let word = if *word == "NET" { LIST } else { *word };
+        let word = match *word {
+            "NET" => LIST,
+            "FILE" => JOURNAL,
+            word => word,
+        };
         words.push(String::from_str(alloc, word)?)?;
     }
     Ok(words)
 }
 
+/// Whether the journal's file is as the case says. It is removed.
+fn is_journal<R: Files + AllocGlobal>(
+    rt: &R,
+    source: &Source<'_>,
+    wanted: Compared<'_>,
+) -> io::Result<bool> {
+    let found = fs::read(rt, JOURNAL);
+    if found.is_ok() {
+        fs::remove_file(rt, JOURNAL)?;
+    }
+    match (source, found) {
+        (Source::Unsaid, _) => Ok(true),
+        (Source::Missing, found) => Ok(found.is_err()),
+        (_, Ok(bytes)) => {
+            let mut wanted = wanted;
+            wanted.write_all(&bytes)?;
+            wanted.is_same()
+        }
+        (_, Err(_)) => Ok(false),
+    }
+}
+
 /// Runs canboot as the case says.
-pub fn run_case<R: Files + AllocGlobal>(rt: &R, case: &Case<'_>) -> io::Result<Outcome> {
+pub fn run_case<R: Files + AllocGlobal + Wait + Threads + Sync>(
+    rt: &R,
+    case: &Case<'_>,
+) -> io::Result<Outcome> {
     let alloc = rt.alloc();
-    let (in_file, out_file, err_file) = (
+    let (in_file, out_file, err_file, journal_file) = (
         load(rt, &case.input)?,
         load(rt, &case.out)?,
         load(rt, &case.err)?,
+        load(rt, &case.journal)?,
     );
     let in_parts = parts_of(alloc, &case.input, &in_file)?;
     let out_parts = parts_of(alloc, &case.out, &out_file)?;
     let err_parts = parts_of(alloc, &case.err, &err_file)?;
+    let journal_parts = parts_of(alloc, &case.journal, &journal_file)?;
     let mut input = Text::new(alloc, &in_parts);
     if case.words.iter().any(|word| *word == "NET") {
         input.write_to(&mut fs::create(rt, LIST)?)?;
     }
     let mut out = Compared::new(wanted(alloc, &case.out, &out_parts));
     let mut err = Compared::new(wanted(alloc, &case.err, &err_parts));
+    let journal = Compared::new(wanted(alloc, &case.journal, &journal_parts));
     let words = words_of(alloc, case)?;
     let status = run_words(rt, words.as_slice(), &mut input, &mut out, &mut err);
     Ok(Outcome {
         same_out: out.is_same()?,
         same_err: err.is_same()?,
+        same_journal: is_journal(rt, &case.journal, journal)?,
         status,
     })
 }

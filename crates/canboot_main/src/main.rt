@@ -1,7 +1,9 @@
 //! canboot: the NMT master of a CANopen network, on the command line.
 //!
-//! `canboot check` reads a network list and prints how many slaves it lists. `canboot replay` reads
-//! a journal on standard input, makes sure that it is a legal history, and prints its status report.
+//! `canboot check` reads a network list and prints how many slaves it lists. `canboot run` boots the
+//! network of a list with simulated slaves, prints its status report, and writes its journal. `canboot
+//! replay` reads a journal on standard input, makes sure that it is a legal history, and prints its
+//! status report.
 #![tactic(auto)]
 
 use std::process::ExitCode;
