@@ -44,8 +44,8 @@ loop-place-preserved g c =
     rw c.push_reserved.ensures.items (record {
       wide = omega (arith, was.wide, length-set c.loop-place.next m (get_or c.loop-place.next m 0 + 1));
       room = c.push_reserved.ensures.capacity ∙ was.room;
-      ids = ids_more place ids _ _ c.loop-place-test.true was.ids (ap id_of (pick (λ j. j.outcomes.items) c.args.jobs.now m m r r _ _ _ _ refl low c.as_slice.ensures.value here) ∙ id_at w m place ids _ _ c.loop-place-test.true refl mine);
+      ids = ids_more place ids _ _ c.loop-place-test.true was.ids (ap id_of (c.index-as_slice-at.is ∙ pick (λ j. j.outcomes.items) c.args.jobs.now m m r r _ _ _ _ refl low c.as_slice.ensures.value here) ∙ id_at w m place ids _ _ c.loop-place-test.true refl mine);
       next = next_more w place ids c.loop-place.next (omega (arith, was.wide, c.requires.workers.1)) c.loop-place-test.true low was.next;
       each = λ k d lt. each_more w place k ids _ _ _ _ c.loop-place-test.true was.ids (c.requires.each k d lt) (was.each k d lt)
-          (λ e. pick (λ j. j.outcomes.items) c.args.jobs.now m k r d _ _ _ _ e lt c.as_slice.ensures.value (here ∙ ap (λ j. count w j place ids) e));
+          (λ e. c.index-as_slice-at.is ∙ pick (λ j. j.outcomes.items) c.args.jobs.now m k r d _ _ _ _ e lt c.as_slice.ensures.value (here ∙ ap (λ j. count w j place ids) e));
     })
