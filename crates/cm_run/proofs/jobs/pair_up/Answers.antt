@@ -1,4 +1,4 @@
-use Rattle.std.proofs.Common.{rules, ◌≡◌, ℕ, ◌+◌, ◌<◌, ◌≤◌, List, [], ◌∷◌, ◌∙◌, All, length, map, ap, arith, vec_capacity}
+use Rattle.std.proofs.Common.{◌≤◌, ◌∙◌, length, ap, arith, vec_capacity}
 use Rattle.cm_netlist.specs.Network.{listed_ids}
 use Rattle.cm_run.proofs.Handing.{all_rest, moved}
 use Rattle.cm_run.proofs.jobs.pair_up.Goals as goal
