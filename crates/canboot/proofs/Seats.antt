@@ -5,4 +5,4 @@ use Rattle.cm_register.specs.Opening.{fresh_seats}
 -- where there are to be seats, there is one
 pub some_seats : (n : ℕ) → 0 < n → 0 < length (fresh_seats n)
 some_seats zero more = absurd (omega (arith, more))
-some_seats (suc n) more = omega (arith, length-append (fresh_seats n) (record { number = n + 1; list = [] } ∷ []))
+some_seats (suc n) more = omega (arith, length-append (fresh_seats n) (record { number = n + 1; list = []; amount = 0 } ∷ []))
