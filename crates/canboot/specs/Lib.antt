@@ -1,4 +1,5 @@
 pub mod Replay
 pub mod Run
+pub mod Simulated
 pub mod Program
 pub use Rattle.canboot_check.specs.Check

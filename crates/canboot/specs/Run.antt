@@ -1,21 +1,13 @@
 -- What the run of a network list does.
-use Rattle.std.specs.Prelude.{◌≡◌, ◌⊎◌, ◌+◌, ◌≤◌, ℕ, List, Option, Some, None, false, length, reverse}
+use Rattle.std.specs.Prelude.{◌≡◌, ◌⊎◌, ◌+◌, ℕ, List, Option, Some, None, false}
 use Rattle.std.specs.Io.KnownBytes.{Appends}
 use Rattle.cm_objects.specs.Bits.{has_bit}
-use Rattle.cm_netlist.specs.Network.{Network, listing}
-use Rattle.cm_history.specs.Legal.{IsLegal}
+use Rattle.cm_netlist.specs.Network.{Network}
 use Rattle.cm_history.specs.declared.call.Entry.{Entry}
-use Rattle.cm_register.specs.SeatCalls.{AreOfSeats}
 use Rattle.cm_format.specs.Text.{content, text}
+use Rattle.cm_format.specs.Journals.{IsJournal}
 use Rattle.cm_format.specs.Report.{report_text}
 use Rattle.canboot_check.specs.Check.{IsFaultyText, IsList}
-
--- the entries, the oldest first, are a legal history of this network; each is of one of this many seats, and there are
--- no more than the limit
-pub record IsHistory (net : Network) (seats limit : ℕ) (entries : List Entry) : Type 0 where
-  pub legal : IsLegal (listing net) (reverse entries)
-  pub seated : AreOfSeats seats entries
-  pub few : length entries ≤ limit
 
 -- just these bytes were written to an output that may be absent: where it is there, they were
 abbrev pub AppendsIfThere : Option (Option (List ℕ)) → Option (Option (List ℕ)) → List ℕ → Type 0
@@ -23,14 +15,14 @@ AppendsIfThere (Some old) (Some new) bytes = Appends old new bytes
 AppendsIfThere None None bytes = Unit {0}
 AppendsIfThere _ _ bytes = ⊥
 
--- the input was read to its end and is this network list, and these entries are a history of it, with a seat for each of
--- this many workers and one more
+-- the input was read to its end and is this network list, and a journal of it has these entries, which are legal, a seat
+-- for each of this many workers and one more, and a limit of 4,096 entries
 pub record IsRun (workers : ℕ) (input input' : Option (List ℕ)) (net : Network) (entries : List Entry) : Type 0 where
   pub list : IsList input input' net
-  pub history : IsHistory net (workers + 1) 4096 entries
+  pub journal : IsJournal net (workers + 1) 4096 entries
 
--- the input was read to its end and is a network list, and of a history of it just the report was written, and to the
--- journal, if there is one, just the text of its journal
+-- the input was read to its end and is a network list; of the legal history of a journal of it just the report was
+-- written, and to the journal's output, if there is one, just the text of that journal
 pub record Runs (workers : ℕ) (input input' output output' : Option (List ℕ)) (journal journal' : Option (Option (List ℕ))) : Type 0 where
   pub net : Network
   pub entries : List Entry
@@ -50,7 +42,7 @@ pub record RefusesRun (input input' output output' : Option (List ℕ)) (journal
   pub kept : output' ≡ output
   pub unwritten : journal' ≡ journal
 
--- nothing was written, or the report of a history was to be written
+-- nothing was written, or the report of such a history was to be written
 abbrev pub FailsToRun : ℕ → Option (List ℕ) → Option (List ℕ) → Option (List ℕ) → Option (List ℕ) → Option (Option (List ℕ)) → Option (Option (List ℕ)) → Type 0
 FailsToRun workers input input' output output' journal journal' =
     ((output' ≡ output) × (journal' ≡ journal)) ⊎ ((net : Network) × ((entries : List Entry) × IsRun workers input input' net entries))

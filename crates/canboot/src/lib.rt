@@ -2,6 +2,7 @@
 //! and `canboot check`, `canboot run` and `canboot replay` over any reader and writer. The program is `canboot_main`.
 #![tactic(auto)]
 
+mod fitting;
 mod program;
 mod replay;
 mod running;
