@@ -20,3 +20,5 @@ mod support;
 mod teams;
 #[cfg(test)]
 mod threads;
+#[cfg(test)]
+mod workers;
