@@ -1,0 +1,7 @@
+use Rattle.bench_boot.proofs.measure_timed.Given as goal
+
+abbrev pub ghosts-run_boot-K-Ledger : goal.ghosts-run_boot-K-Ledger
+ghosts-run_boot-K-Ledger g a = record { name = a.opened.blank.name; parts = a.opened.seats }
+
+abbrev pub ghosts-run_boot-K-RunName : goal.ghosts-run_boot-K-RunName
+ghosts-run_boot-K-RunName g a = record { net = a.opened.net.now; seats = a.opened.seats; limit = a.opened.limit }
