@@ -11,7 +11,7 @@ use cm_netlist::Network;
 use cm_nmt::NodeId;
 
 /// A way to ask slaves: SDO transfers, heartbeats and guard requests.
-pub trait Bus {
+pub trait Bus: Drop {
     ghost use Rattle.cm_boot.specs.declared.question.Question.{Question as Asked};
     ghost use Rattle.cm_boot.specs.declared.question.Answer.{Answer as Given};
 

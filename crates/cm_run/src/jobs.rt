@@ -88,7 +88,8 @@ pub(crate) fn split_up<B: Bus + Drop, K: RunName>(
     buses: &mut Vec<B>,
 )
     requires empty { (vec_len seats.old ≡ 0) × (vec_len buses.old ≡ 0) }
-    requires room { (vec_len jobs ≤ vec_capacity seats.old) × (vec_len jobs ≤ vec_capacity buses.old) }
+    requires room { (vec_len jobs ≤ vec_capacity seats.old)
+        × (vec_len jobs ≤ vec_capacity buses.old) }
     ensures seats { seats.new.items ≡ map (λ j. j.seat) jobs.items }
     ensures buses { buses.new.items ≡ map (λ j. j.bus) jobs.items }
 {
@@ -112,10 +113,12 @@ pub(crate) fn merge<B: Bus, K: RunName>(
     requires workers { (0 < length jobs.now) × (length jobs.now ≤ 16) }
     requires room { (length ids.now ≤ vec_capacity outcomes.old) × (outcomes.old.items ≡ []) }
     requires each { (k : ℕ) (d : _) → k < length jobs.now
-        → map id_of (slice_index_or jobs.now k d).outcomes.items ≡ share (length jobs.now) k ids.now }
+        → map id_of (slice_index_or jobs.now k d).outcomes.items
+        ≡ share (length jobs.now) k ids.now }
     ensures ids { map id_of outcomes.new.items ≡ ids.now }
     ensures each { (k : ℕ) (d : _) → k < length jobs.now
-        → share (length jobs.now) k outcomes.new.items ≡ (slice_index_or jobs.now k d).outcomes.items }
+        → share (length jobs.now) k outcomes.new.items
+        ≡ (slice_index_or jobs.now k d).outcomes.items }
 {
     let mut next = [0usize; 16];
     for place in 0..ids.len() {

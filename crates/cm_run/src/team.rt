@@ -79,8 +79,8 @@ fn start<
 ) -> Result<PromisedHandle<Back<B, K>, Given<B, K>>, Back<B, K>>
     ensures plan { IfOk result (λ h. (h.promise.plan ≡ plan) × (h.promise.worker ≡ worker)) }
     ensures job { IfOk result (λ h. h.promise.job.value ≡ job) }
-    ensures back { IfErr result (λ r. HasRun B.step K.net plan.attempts plan.workers worker r.was_run
-        r.job.outcomes.items job.seat r.job.seat job.bus r.job.bus) }
+    ensures back { IfErr result (λ r. HasRun B.step K.net plan.attempts plan.workers worker
+        r.was_run r.job.outcomes.items job.seat r.job.seat job.bus r.job.bus) }
 {
     let given = Given {
         plan,

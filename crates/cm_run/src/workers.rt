@@ -135,10 +135,11 @@ pub fn boot_all<
 ) -> Result<Booted<B, K>, RunFault<B, K>>
     ensures may { IfOk result (λ r. MayRun (vec_len seats) (vec_len buses) attempts) }
     ensures outcomes { IfOk result (λ r. map id_of r.outcomes.items ≡ listed_ids K.net) }
-    ensures all { IfOk result
-        (λ r. (vec_len r.seats ≡ vec_len seats) × (vec_len r.buses ≡ vec_len buses)) }
+    ensures all { IfOk result (λ r. (vec_len r.seats ≡ vec_len seats)
+        × (vec_len r.buses ≡ vec_len buses) × (vec_len seats ≡ vec_len buses)) }
     ensures rounds { IfOk result (λ r. (k : ℕ) (s : _) (b : _) → k < vec_len buses
-        → HasBooted B.step K.net attempts (vec_len buses) k (share (vec_len buses) k r.outcomes.items)
+        → HasBooted B.step K.net attempts (vec_len buses) k
+        (share (vec_len buses) k r.outcomes.items)
         (slice_index_or seats.items k s) (slice_index_or r.seats.items k s)
         (slice_index_or buses.items k b) (slice_index_or r.buses.items k b)) }
     ensures fault { IfErr result

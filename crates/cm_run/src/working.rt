@@ -57,8 +57,8 @@ pub(crate) fn work<'n, W: Wire, K: RunName, R: Wait, B: Bus>(
     worker: usize,
     job: Job<B, K>,
 ) -> Job<B, K>
-    ensures { HasBooted B.step K.net plan.attempts plan.workers worker result.outcomes.items job.seat
-        result.seat job.bus result.bus }
+    ensures { HasBooted B.step K.net plan.attempts plan.workers worker result.outcomes.items
+        job.seat result.seat job.bus result.bus }
 {
     let Job {
         mut seat,
