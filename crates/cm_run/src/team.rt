@@ -67,7 +67,7 @@ fn start<
     W: Wire + Send,
     K: RunName + Send + Sync + 's,
     R: Wait + Threads + Sync,
-    B: Bus + Drop + Send + 's,
+    B: Bus + Send + 's,
 >(
     scope: &Scope<'s, E>,
     rt: &'s R,
@@ -109,7 +109,7 @@ fn run_first<
     W: Wire + Send,
     K: RunName + Send + Sync + 's,
     R: Wait + Threads + Sync,
-    B: Bus + Drop + Send + 's,
+    B: Bus + Send + 's,
 >(
     scope: &Scope<'s, E>,
     rt: &'s R,
@@ -155,7 +155,7 @@ pub(crate) fn run_jobs<
     W: Wire + Send,
     K: RunName + Send + Sync,
     R: Wait + Threads + Sync,
-    B: Bus + Drop + Send,
+    B: Bus + Send,
 >(
     rt: &R,
     register: &Register<'n, W, K>,

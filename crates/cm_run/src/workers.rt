@@ -52,7 +52,7 @@ fn boot_in<
     W: Wire + Send,
     K: RunName + Send + Sync,
     R: Wait + Threads + Sync,
-    B: Bus + Drop + Send,
+    B: Bus + Send,
 >(
     rt: &R,
     register: &Register<'n, W, K>,
@@ -124,7 +124,7 @@ pub fn boot_all<
     W: Wire + Send,
     K: RunName + Send + Sync,
     R: Wait + Threads + Sync,
-    B: Bus + Drop + Send,
+    B: Bus + Send,
 >(
     rt: &R,
     alloc: Global,
