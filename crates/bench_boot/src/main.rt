@@ -115,6 +115,19 @@ fn open<'n>(alloc: Global, net: &'n Network, workers: u16) -> Option<Opened<'n, 
     Register::open(alloc, net, workers.saturating_add(1), ROOM, wire).ok()
 }
 
+/// How many questions the worker that asked most asked, and how many nanoseconds an answer took.
+fn asked_of<R: Clock>(buses: &[TimedBus<R>]) -> (u32, u128) {
+    let mut most: u32 = 0;
+    let mut asked: u32 = 0;
+    let mut nanos: u128 = 0;
+    for bus in buses {
+        most = most.max(bus.asked());
+        asked = asked.saturating_add(bus.asked());
+        nanos = nanos.saturating_add(bus.nanos());
+    }
+    (most, nanos / u128::from(asked.max(1)))
+}
+
 /// Prints the time of one boot over buses that take a time for each answer.
 fn measure_timed<R: Clock + Print + AllocGlobal + Threads + Wait + Sync>(
     rt: &R,
@@ -126,10 +139,7 @@ fn measure_timed<R: Clock + Print + AllocGlobal + Threads + Wait + Sync>(
     let opened = open(rt.alloc(), net, workers)?;
     let slaves = net.listed_ids().len();
     let booting = run_boot::<R, Brand, _>(rt, rt.alloc(), opened, buses, slaves)?;
-    let most = booting.buses.iter().map(|bus| bus.asked()).max()?;
-    let asked: u32 = booting.buses.iter().map(|bus| bus.asked()).sum();
-    let nanos: u128 = booting.buses.iter().map(|bus| bus.nanos()).sum();
-    let answer = nanos / u128::from(asked.max(1));
+    let (most, answer) = asked_of(booting.buses.as_slice());
     let wanted = answer.saturating_mul(u128::from(most)).max(1);
     let hundredths = booting.nanos.saturating_mul(100) / wanted;
     let mut out = io::writer(rt);

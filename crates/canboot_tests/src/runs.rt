@@ -24,6 +24,12 @@ const REPORT: &[u8] =
 const JOURNAL: &[u8] =
     b"canboot journal 1\nnetwork own 1 startup 00000001 boottime 0 seats 2 limit 4096\nslave 2 assign 0000000D type 00020192 vendor 00000000 product 00000000 revision 00000000 serial 00000000 heartbeat 0 date 00000000 time 00000000 writes 0\nentry 1 start = started / reset-unkept\nentry 2 begin 2 = begun 1 / none\nentry 2 report 2 1 silent - - - - - - - 0 - - = status B / none\nentry 1 elapsed 0 = in-time / none\nend 4\n";
 
+/// How a report begins where all 126 slaves were booted.
+const ALL_BOOTED: &[u8] =
+    b"phase ready\nown operational\nentries 254\nopen 0\nframe 82 00\n";
+
+const NOT_MASTER: &[u8] = b"canboot: start refused: 1 NotMaster\n";
+
 /// How often 126 slaves are booted by 16 workers.
 const RUNS: u32 = 200;
 
@@ -71,8 +77,7 @@ fn is_replayed<R: Wait + Threads + Abort + Sync>(rt: &R, alloc: Global, list: &[
     let status = replay_text(alloc, &mut entries, &mut report, &mut err);
     assert_eq!(rt; status, 0);
     assert_eq!(rt; report.as_slice(), out.as_slice());
-    let start = b"phase ready\nown operational\nentries 254\nopen 0\nframe 82 00\n";
-    assert!(rt; out.as_slice().starts_with(start));
+    assert!(rt; out.as_slice().starts_with(ALL_BOOTED));
 }
 
 #[test]
@@ -129,7 +134,7 @@ fn the_start_is_refused_where_there_is_no_master(rt: HostRuntime) -> Result<(), 
         &mut journal,
     );
     assert_eq!(&rt; status, 1);
-    assert_eq!(&rt; err.as_slice(), b"canboot: start refused: 1 NotMaster\n");
+    assert_eq!(&rt; err.as_slice(), NOT_MASTER);
     assert_eq!(&rt; out.len(), 0);
     match journal {
         Some(journal) => assert_eq!(&rt; journal.len(), 0),
