@@ -9,6 +9,8 @@ mod manager;
 #[cfg(test)]
 mod netlist;
 #[cfg(test)]
+mod pasts;
+#[cfg(test)]
 mod spelling;
 #[cfg(test)]
 mod support;
