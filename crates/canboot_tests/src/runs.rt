@@ -25,8 +25,7 @@ const JOURNAL: &[u8] =
     b"canboot journal 1\nnetwork own 1 startup 00000001 boottime 0 seats 2 limit 4096\nslave 2 assign 0000000D type 00020192 vendor 00000000 product 00000000 revision 00000000 serial 00000000 heartbeat 0 date 00000000 time 00000000 writes 0\nentry 1 start = started / reset-unkept\nentry 2 begin 2 = begun 1 / none\nentry 2 report 2 1 silent - - - - - - - 0 - - = status B / none\nentry 1 elapsed 0 = in-time / none\nend 4\n";
 
 /// How a report begins where all 126 slaves were booted.
-const ALL_BOOTED: &[u8] =
-    b"phase ready\nown operational\nentries 254\nopen 0\nframe 82 00\n";
+const ALL_BOOTED: &[u8] = b"phase ready\nown operational\nentries 254\nopen 0\nframe 82 00\n";
 
 const NOT_MASTER: &[u8] = b"canboot: start refused: 1 NotMaster\n";
 
@@ -66,7 +65,15 @@ fn is_replayed<R: Wait + Threads + Abort + Sync>(rt: &R, alloc: Global, list: &[
     let mut out: Vec<u8> = Vec::new(alloc);
     let mut err: Vec<u8> = Vec::new(alloc);
     let mut journal: Option<Vec<u8>> = Some(Vec::new(alloc));
-    let status = run_text(rt, alloc, &mut input, options, &mut out, &mut err, &mut journal);
+    let status = run_text(
+        rt,
+        alloc,
+        &mut input,
+        options,
+        &mut out,
+        &mut err,
+        &mut journal,
+    );
     assert_eq!(rt; status, 0);
     assert_eq!(rt; err.len(), 0);
     let Some(journal) = journal else {
@@ -154,9 +161,21 @@ fn status_with_journal<R: Wait + Threads + Abort + Sync>(
     let mut err: Vec<u8> = Vec::new(alloc);
     let mut journal = Some(journal);
     let options = one_silent();
-    let status = run_text(rt, alloc, &mut input, options, &mut out, &mut err, &mut journal);
+    let status = run_text(
+        rt,
+        alloc,
+        &mut input,
+        options,
+        &mut out,
+        &mut err,
+        &mut journal,
+    );
     assert_eq!(rt; out.as_slice(), REPORT);
-    let line = if status == 0 { b"".as_slice() } else { WRITE_FAILED };
+    let line = if status == 0 {
+        b"".as_slice()
+    } else {
+        WRITE_FAILED
+    };
     assert_eq!(rt; err.as_slice(), line);
     status
 }
@@ -172,8 +191,20 @@ fn status_with_output<R: Wait + Threads + Abort + Sync>(
     let mut err: Vec<u8> = Vec::new(alloc);
     let mut journal: Option<Vec<u8>> = Some(Vec::new(alloc));
     let options = one_silent();
-    let status = run_text(rt, alloc, &mut input, options, &mut out, &mut err, &mut journal);
-    let line = if status == 0 { b"".as_slice() } else { WRITE_FAILED };
+    let status = run_text(
+        rt,
+        alloc,
+        &mut input,
+        options,
+        &mut out,
+        &mut err,
+        &mut journal,
+    );
+    let line = if status == 0 {
+        b"".as_slice()
+    } else {
+        WRITE_FAILED
+    };
     assert_eq!(rt; err.as_slice(), line);
     let wanted = if status == 0 { JOURNAL } else { b"".as_slice() };
     match journal {

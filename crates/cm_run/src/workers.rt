@@ -47,13 +47,7 @@ fn fault_of(seats: usize, buses: usize, attempts: u8) -> Option<RunKind>
 }
 
 /// Boots every listed slave, as [`boot_all`] does, in memory that was taken.
-fn boot_in<
-    'n,
-    W: Wire + Send,
-    K: RunName + Send + Sync,
-    R: Wait + Threads + Sync,
-    B: Bus + Send,
->(
+fn boot_in<'n, W: Wire + Send, K: RunName + Send + Sync, R: Wait + Threads + Sync, B: Bus + Send>(
     rt: &R,
     register: &Register<'n, W, K>,
     plan: Plan,

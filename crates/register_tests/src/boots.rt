@@ -130,8 +130,7 @@ fn a_full_history_ends_each_round(rt: HostRuntime) -> Result<(), Fail> {
 
 /// Whether the last attempt booted the slave, or wanted memory.
 fn is_booted_or_lacks_memory(outcome: &Outcome) -> bool {
-    outcome.last == Last::Status(Status::Ok)
-        || outcome.last == Last::Fault(CallFault::OutOfMemory)
+    outcome.last == Last::Status(Status::Ok) || outcome.last == Last::Fault(CallFault::OutOfMemory)
 }
 
 /// Boots, whatever memory is refused: it is said, and no seat is lost.
@@ -159,7 +158,10 @@ fn boots_or_says_why_not<K: RunName + Send + Sync, R: Wait + Threads + Abort + S
     let seats = match boot_all(rt, alloc, &register, seats, buses, 1) {
         Ok(booted) => {
             sure(rt, booted.outcomes.len() == 2);
-            sure(rt, booted.outcomes.iter().all(|o| is_booted_or_lacks_memory(o)));
+            sure(
+                rt,
+                booted.outcomes.iter().all(|o| is_booted_or_lacks_memory(o)),
+            );
             booted.seats
         }
         Err(fault) => {
