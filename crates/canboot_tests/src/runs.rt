@@ -214,41 +214,53 @@ fn status_with_output<R: Wait + Threads + Abort + Sync>(
     status
 }
 
-/// Asserts that from 0 writes on each is a failed write, up to one that all fit in.
-fn fails_up_to_one<F: FnMut(usize) -> u8>(rt: &impl Abort, mut status: F) {
+/// What fails.
+#[derive(Clone, Copy)]
+enum Part {
+    Report,
+    Journal,
+}
+
+/// The status of the run where this part takes so many writes.
+fn status_with<R: Wait + Threads + Abort + Sync>(
+    rt: &R,
+    alloc: Global,
+    part: Part,
+    failing: Failing,
+) -> u8 {
+    match part {
+        Part::Report => status_with_output(rt, alloc, failing),
+        Part::Journal => status_with_journal(rt, alloc, failing),
+    }
+}
+
+/// Asserts that each write of this part that fails is a failed write, and the flush too.
+fn fails_to_write<R: Wait + Threads + Abort + Sync>(rt: &R, alloc: Global, part: Part) {
     let mut failures = 0;
     for writes in 0..500 {
-        let ended = status(writes);
-        if ended == 3 {
+        let flushes = true;
+        let status = status_with(rt, alloc, part, Failing { writes, flushes });
+        if status == 3 {
             assert_eq!(rt; failures, writes, "a write failed after one that didn't");
             failures = writes.saturating_add(1);
         } else {
-            assert_eq!(rt; ended, 0);
+            assert_eq!(rt; status, 0);
         }
     }
     assert!(rt; 5 < failures && failures < 500, "{failures} writes failed");
+    let (writes, flushes) = (1000, false);
+    let status = status_with(rt, alloc, part, Failing { writes, flushes });
+    assert_eq!(rt; status, 3);
 }
 
 #[test]
 fn a_failing_journal_is_a_failed_write(rt: HostRuntime) -> Result<(), Fail> {
-    fails_up_to_one(&rt, |writes| {
-        let flushes = true;
-        status_with_journal(&rt, rt.alloc(), Failing { writes, flushes })
-    });
-    let (writes, flushes) = (1000, false);
-    let status = status_with_journal(&rt, rt.alloc(), Failing { writes, flushes });
-    assert_eq!(&rt; status, 3);
+    fails_to_write(&rt, rt.alloc(), Part::Journal);
     Ok(())
 }
 
 #[test]
 fn a_report_that_fails_is_a_failed_write(rt: HostRuntime) -> Result<(), Fail> {
-    fails_up_to_one(&rt, |writes| {
-        let flushes = true;
-        status_with_output(&rt, rt.alloc(), Failing { writes, flushes })
-    });
-    let (writes, flushes) = (1000, false);
-    let status = status_with_output(&rt, rt.alloc(), Failing { writes, flushes });
-    assert_eq!(&rt; status, 3);
+    fails_to_write(&rt, rt.alloc(), Part::Report);
     Ok(())
 }
