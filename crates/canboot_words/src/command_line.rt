@@ -180,7 +180,8 @@ report of the answers. Another attempt follows only where the report came to sta
 without an answer, or where the session was dropped in the meantime.
 
 A silent slave gives no answer. Each attempt at it comes to status B, and so it isn't booted; the \
-phase stays 'booting' if it is mandatory. A slave without bit 2 of its assignment is asked no \
+phase stays 'booting' if it is mandatory, and no slave with bit 5 of its assignment halts the \
+network by status G. A slave without bit 2 of its assignment is asked no \
 question: its silence shows only where its heartbeat is waited for, as status K, and else it is \
 booted. An ID that isn't listed has no effect.
 
@@ -198,7 +199,7 @@ Exit statuses:
 of startup is clear ('start refused: 1 NotMaster'); nothing is printed
   2  the command line is wrong
   3  NET can't be opened or read, or is too long; FILE can't be made; a failed write; want of \
-memory; or 'no worker', where no thread could be made
+memory; or 'no worker', where a thread couldn't be made
 
 Nothing is printed on standard output where no report is due; standard error has one line that says \
 why.
