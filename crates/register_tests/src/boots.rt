@@ -3,7 +3,7 @@
 
 ghost use Rattle.std.specs.Prelude.{◌≡◌};
 
-use crate::support::{is_made, network, node, sure};
+use crate::support::{close, is_made, network, node, sure};
 use cm_answers::Status;
 use cm_history::{Call, Reply};
 use cm_netlist::Network;
@@ -69,10 +69,7 @@ fn boots<K: RunName + Send + Sync, R: Wait + Threads + Abort + Sync>(
         sure(rt, usize::from(seat.number()) == place + 1);
     }
     seats.push(operator)?;
-    let Ok(closed) = register.close(seats) else {
-        return Err(Fail::from("close"));
-    };
-    Ok(closed)
+    close(register, seats)
 }
 
 #[test]

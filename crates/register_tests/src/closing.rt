@@ -5,6 +5,7 @@ ghost use Rattle.std.specs.Prelude.{◌≡◌};
 use crate::support::{Tape, close, entry, frame, is_made, is_refused, lacks_seats, network, sure};
 use cm_history::{Call, Orders, Reply};
 use cm_register::{CallFault, Opened, Register, RunName, SeatList};
+use cm_run::SimWire;
 use std::marker::Brand;
 use std::process::Abort;
 use std::sync::Wait;
@@ -13,14 +14,14 @@ use std::test::Fail;
 #[test]
 fn a_full_wire_refuses_a_call(rt: HostRuntime) -> Result<(), Fail> {
     let net = network(&rt, rt.alloc(), 1, &[(2, 0x05), (3, 0x15), (4, 0x05)]);
-    let wire = Tape::new(rt.alloc(), &[], 1)?;
+    let wire = SimWire::new(rt.alloc(), 1)?;
     let Ok(opened) = Register::open(rt.alloc(), &net, 1, 10, wire) else {
         return Err(Fail::from("open"));
     };
     lacks_room::<Brand, _>(&rt, opened)
 }
 
-fn lacks_room<K: RunName, R: Wait + Abort>(rt: &R, opened: Opened<Tape>) -> Result<(), Fail>
+fn lacks_room<K: RunName, R: Wait + Abort>(rt: &R, opened: Opened<SimWire>) -> Result<(), Fail>
     requires { (opened.blank.name ≡ K.name) × (opened.seats ≡ K.parts) × (opened.seats ≡ K.seats)
         × (opened.limit ≡ K.limit) × (opened.net.now ≡ K.net) }
 {

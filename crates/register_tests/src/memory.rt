@@ -6,6 +6,7 @@ use crate::support::{Tape, close, entry, frame, is_made, network, sure};
 use cm_history::{Call, Orders, Reply};
 use cm_netlist::Network;
 use cm_register::{CallFault, OpenFault, Opened, Register, RunName, Seat};
+use cm_run::operate;
 use std::alloc::Global;
 use std::marker::Brand;
 use std::process::Abort;
@@ -89,4 +90,49 @@ fn what_memory_refuses_once_is_made_again(rt: HostRuntime) -> Result<(), Fail> {
         sure(&rt, opens_and_calls(&rt, rt.alloc(), &net)?);
     }
     Ok(())
+}
+
+/// An operator's calls, whatever memory is refused: as many are made as it says, and the register
+/// closes with them.
+fn operates<K: RunName, R: Wait + Abort>(
+    rt: &R,
+    alloc: Global,
+    opened: Opened<Tape>,
+) -> Result<(), Fail>
+    requires { (opened.blank.name ≡ K.name) × (opened.seats ≡ K.parts) × (opened.seats ≡ K.seats)
+        × (opened.limit ≡ K.limit) × (opened.net.now ≡ K.net) }
+{
+    let Ok((register, mut seats)) = opened.named::<K>() else {
+        return Ok(());
+    };
+    let [seat] = seats.as_mut_slice() else {
+        return Err(Fail::from("seats"));
+    };
+    let operated = operate(rt, alloc, &register, seat, &[Call::Read(1); CALLS as usize]);
+    let made = seat.list().len();
+    match operated {
+        Ok(receipts) => sure(
+            rt,
+            receipts.len() == CALLS as usize && made == CALLS as usize,
+        ),
+        Err(stopped) => {
+            sure(rt, stopped.fault == CallFault::OutOfMemory);
+            sure(rt, made == stopped.done);
+        }
+    }
+    let closed = close(register, seats)?;
+    sure(rt, closed.history.len() == made);
+    Ok(())
+}
+
+#[test]
+fn an_operator_is_told_what_memory_refuses(rt: HostRuntime) -> Result<(), Fail> {
+    let net = network(&rt, rt.alloc(), 1, &[]);
+    let Ok(wire) = Tape::new(rt.alloc(), &[], 1) else {
+        return Ok(());
+    };
+    let Ok(opened) = Register::open(rt.alloc(), &net, 1, CALLS, wire) else {
+        return Ok(());
+    };
+    operates::<Brand, _>(&rt, rt.alloc(), opened)
 }

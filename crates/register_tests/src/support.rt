@@ -94,10 +94,10 @@ pub(crate) fn is_refused(rt: &impl Abort, made: Result<Receipt, CallFault>, faul
 }
 
 /// What a register leaves that closes with these seats.
-pub(crate) fn close<K: RunName>(
-    register: Register<Tape, K>,
+pub(crate) fn close<W: Wire, K: RunName>(
+    register: Register<W, K>,
     seats: Vec<Seat<K>>,
-) -> Result<Closed<Tape>, Fail> {
+) -> Result<Closed<W>, Fail> {
     let Ok(closed) = register.close(seats) else {
         return Err(Fail::from("close"));
     };
