@@ -44,15 +44,19 @@ struct Booting<B: Bus> {
 
 /// One boot, with a register of its own. `None` where not every slave was booted, or the register
 /// didn't close with two calls of each.
-fn run_boot<R: Clock + Threads + Wait + Sync, K: RunName + Send + Sync, B: Bus + Send>(
+fn run_boot<
+    R: Clock + Threads + Wait + Copy + Send + Sync + Drop,
+    K: RunName + Send + Sync,
+    B: Bus + Send,
+>(
     rt: &R,
     alloc: Global,
-    opened: Opened<SimWire>,
+    opened: Opened<SimWire, R>,
     buses: Vec<B>,
     slaves: usize,
 ) -> Option<Booting<B>>
     requires { (opened.blank.name ≡ K.name) × (opened.seats ≡ K.parts) × (opened.seats ≡ K.seats)
-        × (opened.limit ≡ K.limit) × (opened.net.now ≡ K.net) }
+        × (opened.limit ≡ K.limit) × (opened.net.now ≡ K.net) × (opened.log ≡ K.log) }
 {
     let (register, mut seats) = opened.named::<K>().ok()?;
     let mut operator = seats.pop()?;
@@ -110,9 +114,14 @@ fn prompt_buses(alloc: Global, net: &Network, workers: u16) -> Option<Vec<SimBus
 }
 
 /// A register of this network, with a seat for each worker and one more.
-fn open<'n>(alloc: Global, net: &'n Network, workers: u16) -> Option<Opened<'n, SimWire>> {
-    let wire = SimWire::new(alloc, ROOM).ok()?;
-    Register::open(alloc, net, workers.saturating_add(1), ROOM, wire).ok()
+fn open<'n, R: AllocGlobal + Wait + Copy + Drop>(
+    rt: &R,
+    net: &'n Network,
+    workers: u16,
+) -> Option<Opened<'n, SimWire, R>> {
+    let wire = SimWire::new(rt.alloc(), ROOM).ok()?;
+    let seats = workers.saturating_add(1);
+    Register::open(rt.alloc(), *rt, net, seats, ROOM, wire).ok()
 }
 
 /// How many questions the worker that asked most asked, and how many nanoseconds an answer took.
@@ -129,14 +138,14 @@ fn asked_of<R: Clock>(buses: &[TimedBus<R>]) -> (u32, u128) {
 }
 
 /// Prints the time of one boot over buses that take a time for each answer.
-fn measure_timed<R: Clock + Print + AllocGlobal + Threads + Wait + Sync>(
+fn measure_timed<R: Clock + Print + AllocGlobal + Threads + Wait + Copy + Send + Sync + Drop>(
     rt: &R,
     net: &Network,
     workers: u16,
     pause: Duration,
 ) -> Option<()> {
     let buses = timed_buses(rt, rt.alloc(), net, workers, pause)?;
-    let opened = open(rt.alloc(), net, workers)?;
+    let opened = open(rt, net, workers)?;
     let slaves = net.listed_ids().len();
     let booting = run_boot::<R, Brand, _>(rt, rt.alloc(), opened, buses, slaves)?;
     let (most, answer) = asked_of(booting.buses.as_slice());
@@ -155,7 +164,7 @@ fn measure_timed<R: Clock + Print + AllocGlobal + Threads + Wait + Sync>(
 }
 
 /// Prints the best time of the boots over slaves that answer at once.
-fn measure_prompt<R: Clock + Print + AllocGlobal + Threads + Wait + Sync>(
+fn measure_prompt<R: Clock + Print + AllocGlobal + Threads + Wait + Copy + Send + Sync + Drop>(
     rt: &R,
     net: &Network,
     workers: u16,
@@ -164,7 +173,7 @@ fn measure_prompt<R: Clock + Print + AllocGlobal + Threads + Wait + Sync>(
     let mut best = u128::MAX;
     for _ in 0..RUNS {
         let buses = prompt_buses(rt.alloc(), net, workers)?;
-        let opened = open(rt.alloc(), net, workers)?;
+        let opened = open(rt, net, workers)?;
         let booting = run_boot::<R, Brand, _>(rt, rt.alloc(), opened, buses, slaves)?;
         best = best.min(booting.nanos);
     }
@@ -172,7 +181,9 @@ fn measure_prompt<R: Clock + Print + AllocGlobal + Threads + Wait + Sync>(
     writeln!(out, "boot: {workers} workers, {} us in all", best / 1_000).ok()
 }
 
-fn run<R: Clock + Env + Print + AllocGlobal + Threads + Wait + Sync>(rt: &R) -> Option<()> {
+fn run<R: Clock + Env + Print + AllocGlobal + Threads + Wait + Copy + Send + Sync + Drop>(
+    rt: &R,
+) -> Option<()> {
     let words = env::args(rt).ok()?.collect::<Vec<String>>(rt.alloc()).ok()?;
     let Some(workers) = words.as_slice().get(1) else {
         return Some(());

@@ -6,15 +6,12 @@
 
 ghost use Rattle.std.specs.Prelude.{◌≡◌};
 
-mod caller;
-mod tape;
-
 use bench_mix::full_network;
-use caller::{Caller, listed_terms};
+use bench_register::{Caller, MOST_ENTRIES, Tape, call_often, listed_terms, open_register};
 use cm_history::Call;
 use cm_netlist::Network;
 use cm_objects::Terms;
-use cm_register::{Book, Opened, Register, RunName, Seat};
+use cm_register::{Opened, Register, RunName, Seat};
 use std::env;
 use std::io::{self, Write};
 use std::marker::Brand;
@@ -23,35 +20,15 @@ use std::rt::{Clock, Env};
 use std::sync::Wait;
 use std::thread::{self, Threads};
 use std::time::Instant;
-use tape::Tape;
 
 const RUNS: u32 = 15;
 
 const MOST_THREADS: u16 = 16;
 
-const MOST_ENTRIES: u32 = 65_536;
-
-/// Makes this many calls from one seat. `None` where one isn't made.
-fn call_often<R: Wait, K: RunName>(
-    rt: &R,
-    register: &Register<Tape, K>,
-    seat: &mut Seat<K>,
-    terms: &[Terms],
-    mut caller: Caller,
-    count: u32,
-) -> Option<()> {
-    for _ in 0..count {
-        let call = caller.next_call(terms)?;
-        let receipt = register.call(rt, seat, call).ok()?;
-        caller.go_on(&receipt.reply);
-    }
-    Some(())
-}
-
 /// Makes the calls in a thread for each seat, and waits for them.
-fn call_in_threads<R: Threads + Wait + Sync, K: RunName + Send + Sync>(
+fn call_in_threads<R: Threads + Wait + Send + Sync + Drop, K: RunName + Send + Sync>(
     rt: &R,
-    register: &Register<Tape, K>,
+    register: &Register<Tape, K, R>,
     seats: &mut [Seat<K>],
     terms: &[Terms],
     count: u32,
@@ -69,14 +46,14 @@ fn call_in_threads<R: Threads + Wait + Sync, K: RunName + Send + Sync>(
 }
 
 /// Nanoseconds of one run of a register; `None` too where it doesn't close with all calls.
-fn run_register<R: Clock + Threads + Wait + Sync, K: RunName + Send + Sync>(
+fn run_register<R: Clock + Threads + Wait + Copy + Send + Sync + Drop, K: RunName + Send + Sync>(
     rt: &R,
-    opened: Opened<Tape>,
+    opened: Opened<Tape, R>,
     terms: &[Terms],
     count: u32,
 ) -> Option<u128>
     requires { (opened.blank.name ≡ K.name) × (opened.seats ≡ K.parts) × (opened.seats ≡ K.seats)
-        × (opened.limit ≡ K.limit) × (opened.net.now ≡ K.net) }
+        × (opened.limit ≡ K.limit) × (opened.net.now ≡ K.net) × (opened.log ≡ K.log) }
 {
     let (register, mut seats) = opened.named::<K>().ok()?;
     register
@@ -97,22 +74,22 @@ fn run_register<R: Clock + Threads + Wait + Sync, K: RunName + Send + Sync>(
 }
 
 /// Nanoseconds of one run of a book.
-fn run_book<R: Clock + Wait, K: RunName>(
+fn run_book<R: Clock + Wait + Copy + Drop, K: RunName>(
     rt: &R,
-    opened: Opened<Tape>,
+    opened: Opened<Tape, R>,
     terms: &[Terms],
     count: u32,
 ) -> Option<u128>
     requires { (opened.blank.name ≡ K.name) × (opened.seats ≡ K.parts) × (opened.seats ≡ K.seats)
-        × (opened.limit ≡ K.limit) × (opened.net.now ≡ K.net) }
+        × (opened.limit ≡ K.limit) × (opened.net.now ≡ K.net) × (opened.log ≡ K.log) }
 {
     let (mut book, mut seats) = opened.book::<K>().ok()?;
     let seat = seats.as_mut_slice().get_mut(0)?;
-    book.apply(seat, Call::StartNetwork).ok()?;
+    book.apply(rt, seat, Call::StartNetwork).ok()?;
     let mut caller = Caller::new(0, 1);
     let from = Instant::now(rt).ok()?;
     for _ in 0..count {
-        let receipt = book.apply(seat, caller.next_call(terms)?).ok()?;
+        let receipt = book.apply(rt, seat, caller.next_call(terms)?).ok()?;
         caller.go_on(&receipt.reply);
     }
     let nanos = from.elapsed(rt).ok()?.as_nanos();
@@ -123,14 +100,8 @@ fn run_book<R: Clock + Wait, K: RunName>(
     }
 }
 
-/// A register of this network with so many seats, and a wire with room for all of its frames.
-fn open<'n, R: AllocGlobal>(rt: &R, net: &'n Network, seats: u16) -> Option<Opened<'n, Tape>> {
-    let tape = Tape::new(rt.alloc(), MOST_ENTRIES.saturating_add(126))?;
-    Register::open(rt.alloc(), net, seats, MOST_ENTRIES, tape).ok()
-}
-
 /// Tenths of a nanosecond for one call, the best of the runs; of a book where there is no thread.
-fn best<R: Clock + AllocGlobal + Threads + Wait + Sync>(
+fn best<R: Clock + AllocGlobal + Threads + Wait + Copy + Send + Sync + Drop>(
     rt: &R,
     net: &Network,
     terms: &[Terms],
@@ -139,7 +110,7 @@ fn best<R: Clock + AllocGlobal + Threads + Wait + Sync>(
 ) -> Option<u128> {
     let mut best = u128::MAX;
     for _ in 0..RUNS {
-        let opened = open(rt, net, threads.max(1))?;
+        let opened = open_register(rt, net, threads.max(1))?;
         let nanos = if threads == 0 {
             run_book::<R, Brand>(rt, opened, terms, count)?
         } else {
@@ -151,7 +122,7 @@ fn best<R: Clock + AllocGlobal + Threads + Wait + Sync>(
     Some(best.saturating_mul(10) / made.max(1))
 }
 
-fn measure<R: Clock + Print + AllocGlobal + Threads + Wait + Sync>(
+fn measure<R: Clock + Print + AllocGlobal + Threads + Wait + Copy + Send + Sync + Drop>(
     rt: &R,
     count: u32,
     threads: u16,
@@ -173,7 +144,9 @@ fn measure<R: Clock + Print + AllocGlobal + Threads + Wait + Sync>(
     .ok()
 }
 
-fn run<R: Clock + Env + Print + AllocGlobal + Threads + Wait + Sync>(rt: &R) -> Option<()> {
+fn run<R: Clock + Env + Print + AllocGlobal + Threads + Wait + Copy + Send + Sync + Drop>(
+    rt: &R,
+) -> Option<()> {
     let words = env::args(rt).ok()?.collect::<Vec<String>>(rt.alloc()).ok()?;
     let Some(count) = words.as_slice().get(1) else {
         return Some(());

@@ -19,17 +19,17 @@ pub const MISUSED: u8 = 2;
 
 /// Runs canboot on the words of its command line and its standard input and output, with `err` for
 /// what goes to standard error, and gives its exit status.
-pub fn run<R: Env + Files + Print + Input + AllocGlobal + Wait + Threads + Sync, E: Write>(
-    rt: &R,
-    err: &mut E,
-) -> ExitCode {
+pub fn run<
+    R: Env + Files + Print + Input + AllocGlobal + Wait + Threads + Drop + Copy + Send + Sync,
+    E: Write,
+>(rt: &R, err: &mut E) -> ExitCode {
     ExitCode::from(run_here(rt, err))
 }
 
-fn run_here<R: Env + Files + Print + Input + AllocGlobal + Wait + Threads + Sync, E: Write>(
-    rt: &R,
-    err: &mut E,
-) -> u8 {
+fn run_here<
+    R: Env + Files + Print + Input + AllocGlobal + Wait + Threads + Drop + Copy + Send + Sync,
+    E: Write,
+>(rt: &R, err: &mut E) -> u8 {
     let args = match env::args(rt) {
         Ok(args) => args,
         Err(error) => return read_fault(err, error.kind()),
@@ -46,13 +46,12 @@ fn run_here<R: Env + Files + Print + Input + AllocGlobal + Wait + Threads + Sync
 /// Runs canboot on these words, of which the first is the program's name, with these streams, and
 /// gives its exit status: that of [`check_text`], [`run_text`] or [`replay_text`], 0 for help and the
 /// version, 2 for wrong words, 3 for a file that can't be opened or made.
-pub fn run_words<R: Files + AllocGlobal + Wait + Threads + Sync, I: Read, W: Write, E: Write>(
-    rt: &R,
-    words: &[String],
-    input: &mut I,
-    out: &mut W,
-    err: &mut E,
-) -> u8 {
+pub fn run_words<
+    R: Files + AllocGlobal + Wait + Threads + Drop + Copy + Send + Sync,
+    I: Read,
+    W: Write,
+    E: Write,
+>(rt: &R, words: &[String], input: &mut I, out: &mut W, err: &mut E) -> u8 {
     match read_words(rt.alloc(), words) {
         Ok(Order::Check { network }) => check_file(rt, network, out, err),
         Ok(
@@ -111,14 +110,11 @@ fn check_file<R: Files + AllocGlobal, W: Write, E: Write>(
 
 /// `canboot run`, over the file of this path. The journal's file, if there is one, is made before the
 /// list is read.
-fn run_file<R: Files + AllocGlobal + Wait + Threads + Sync, W: Write, E: Write>(
-    rt: &R,
-    path: &str,
-    options: Options,
-    journal: Option<&str>,
-    out: &mut W,
-    err: &mut E,
-) -> u8
+fn run_file<
+    R: Files + AllocGlobal + Wait + Threads + Drop + Copy + Send + Sync,
+    W: Write,
+    E: Write,
+>(rt: &R, path: &str, options: Options, journal: Option<&str>, out: &mut W, err: &mut E) -> u8
     requires workers { (1 ≤ options.workers) × (options.workers ≤ 16) }
     requires attempts { (1 ≤ options.attempts) × (options.attempts ≤ 10) }
 {

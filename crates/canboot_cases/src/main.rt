@@ -57,7 +57,7 @@ fn tell(rt: &impl Print, case: &Case<'_>, outcome: &Outcome) -> io::Result<()> {
 }
 
 /// Runs the cases of one file.
-fn run_file<R: Files + Print + AllocGlobal + Wait + Threads + Sync>(
+fn run_file<R: Files + Print + AllocGlobal + Wait + Threads + Drop + Copy + Send + Sync>(
     rt: &R,
     path: &str,
     count: &mut Count,

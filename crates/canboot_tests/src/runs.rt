@@ -55,7 +55,11 @@ fn full_list(alloc: Global) -> Result<Vec<u8>, Fail> {
 
 /// Runs on that list with 16 workers, and asserts that the journal is one, whose report is the one
 /// that was written, and that all slaves were booted.
-fn is_replayed<R: Wait + Threads + Abort + Sync>(rt: &R, alloc: Global, list: &[u8]) {
+fn is_replayed<R: Wait + Threads + Abort + Drop + Copy + Send + Sync>(
+    rt: &R,
+    alloc: Global,
+    list: &[u8],
+) {
     let options = Options {
         workers: 16,
         attempts: 2,
@@ -151,7 +155,7 @@ fn the_start_is_refused_where_there_is_no_master(rt: HostRuntime) -> Result<(), 
 }
 
 /// The status of the run with a journal that takes so many writes; the report is written.
-fn status_with_journal<R: Wait + Threads + Abort + Sync>(
+fn status_with_journal<R: Wait + Threads + Abort + Drop + Copy + Send + Sync>(
     rt: &R,
     alloc: Global,
     journal: Failing,
@@ -182,7 +186,7 @@ fn status_with_journal<R: Wait + Threads + Abort + Sync>(
 
 /// The status of the run with an output that takes so many writes; no journal is written where it
 /// fails.
-fn status_with_output<R: Wait + Threads + Abort + Sync>(
+fn status_with_output<R: Wait + Threads + Abort + Drop + Copy + Send + Sync>(
     rt: &R,
     alloc: Global,
     mut out: Failing,
@@ -222,7 +226,7 @@ enum Part {
 }
 
 /// The status of the run where this part takes so many writes.
-fn status_with<R: Wait + Threads + Abort + Sync>(
+fn status_with<R: Wait + Threads + Abort + Drop + Copy + Send + Sync>(
     rt: &R,
     alloc: Global,
     part: Part,
@@ -235,7 +239,11 @@ fn status_with<R: Wait + Threads + Abort + Sync>(
 }
 
 /// Asserts that each write of this part that fails is a failed write, and the flush too.
-fn fails_to_write<R: Wait + Threads + Abort + Sync>(rt: &R, alloc: Global, part: Part) {
+fn fails_to_write<R: Wait + Threads + Abort + Drop + Copy + Send + Sync>(
+    rt: &R,
+    alloc: Global,
+    part: Part,
+) {
     let mut failures = 0;
     for writes in 0..500 {
         let flushes = true;

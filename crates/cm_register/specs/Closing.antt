@@ -6,12 +6,16 @@ use Rattle.cm_history.specs.declared.call.Entry.{Entry}
 use Rattle.cm_register.specs.declared.closing.CloseKind.{CloseKind}
 use Rattle.cm_register.specs.declared.closing.CloseKind.TheVariants as kind
 use Rattle.cm_register.specs.declared.closing.SeatList.{SeatList}
+use Rattle.cm_register.specs.declared.seat.Made.{Made}
 use Rattle.cm_register.specs.SeatCalls.{AreOfSeats, calls_of}
 use Rattle.cm_register.specs.Views.{SeatView}
 
--- the list of a seat, as a contract sees the seat, whose share counts its calls
-abbrev pub seat_of : SeatList → SeatView
-seat_of list = record { number = list.number; list = list.made.items; amount = length list.made.items }
+-- the number and the calls of a list, and those of a seat
+abbrev pub calls_in : SeatList → ℕ × List Made
+calls_in list = (list.number, list.made.items)
+
+abbrev pub calls_by : SeatView → ℕ × List Made
+calls_by seat = (seat.number, seat.list)
 
 -- no number comes twice
 abbrev pub AreApart : List SeatView → Type 0
@@ -27,10 +31,11 @@ abbrev pub count_calls : List SeatView → ℕ
 count_calls [] = 0
 count_calls (s ∷ ss) = length s.list + count_calls ss
 
--- where a book with these entries isn't closed: n seats of this many are missing, or none is, and the list of one isn't its
--- calls or a number comes twice
+-- where a book with these entries isn't closed: n seats of this many are missing, or none is, and what one knows isn't found
+-- to be of the history, or the list of one isn't its calls or a number comes twice
 abbrev pub IsBookCause : List Entry → ℕ → List SeatView → CloseKind → Type 0
 IsBookCause entries seats given (kind.SeatsMissing n) = (0 < n) × (length given + n ≡ seats)
+IsBookCause entries seats given kind.NoVersion = seats ≤ length given
 IsBookCause entries seats given kind.SeatDiffers = (seats ≤ length given) × ((HaveTheirCalls entries given × AreApart given) → ⊥)
 
 -- a history as a register may hold it: legal, of its seats alone, with no more entries than are allowed

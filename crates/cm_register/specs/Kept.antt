@@ -6,20 +6,17 @@ use Rattle.cm_netlist.specs.Network.{Network, listing}
 use Rattle.cm_history.specs.Frames.{frames_in}
 use Rattle.cm_history.specs.Legal.{IsLegal}
 use Rattle.cm_history.specs.declared.call.Entry.{Entry}
-use Rattle.cm_sequential.specs.Standing.{Stands}
-use Rattle.cm_sequential.specs.declared.manager.Manager.{Manager}
 use Rattle.cm_register.specs.SeatCalls.{AreOfSeats, calls_of}
 
 -- how many entries each seat has: place k counts those of seat k + 1
 abbrev pub AreCounts : List ℕ → List Entry → Type 0
 AreCounts counts entries = (k : ℕ) → k < 64 → slice_index_or counts k 0 ≡ length (calls_of entries (k + 1))
 
--- the history is legal, the frames sent are its frames, and the manager stands for it; it has at most as many entries as
+-- the history is legal, and the frames sent are its frames; it has at most as many entries as
 -- are allowed, and room for them; it has as many as the ledger's total, each of one of the seats, whose entries are counted
-pub record IsKept (net : Network) (seats limit : ℕ) (manager : Manager) (history : List Entry) (capacity : ℕ) (counts : List ℕ) (sent : List Frame) (total : ℕ) : Type 0 where
+pub record IsKept (net : Network) (seats limit : ℕ) (history : List Entry) (capacity : ℕ) (counts : List ℕ) (sent : List Frame) (total : ℕ) : Type 0 where
   pub legal : IsLegal (listing net) (reverse history)
   pub frames : sent ≡ frames_in (listing net) history
-  pub stands : Stands manager net (reverse history)
   pub few : length history ≤ limit
   pub room : limit ≤ capacity
   pub small : limit ≤ 65536

@@ -23,8 +23,19 @@ IsOpenCause seats limit sent fault.BadSeats = SeatsFit seats → ⊥
 IsOpenCause seats limit sent fault.BadLimit = SeatsFit seats × (LimitFits limit → ⊥)
 IsOpenCause seats limit sent fault.WireUsed = SeatsFit seats × LimitFits limit × (sent ≡ [] → ⊥)
 IsOpenCause seats limit sent fault.OutOfMemory = MayOpen seats limit sent
+IsOpenCause seats limit sent fault.NoReader = ⊥
+
+-- a register isn't named for want of memory, or of a reader
+abbrev pub IsNameCause : OpenFault → Type 0
+IsNameCause fault.OutOfMemory = Unit {0}
+IsNameCause fault.NoReader = Unit {0}
+IsNameCause _ = ⊥
+
+-- the seat of this number, which has made no call, and has seen and was told nothing
+abbrev pub fresh_seat : ℕ → SeatView
+fresh_seat n = record { number = n; list = []; amount = 0; view = []; told = [] }
 
 -- the seats 1 to n in order, which have made no call
 abbrev pub fresh_seats : ℕ → List SeatView
 fresh_seats zero = []
-fresh_seats (suc n) = fresh_seats n ++ record { number = n + 1; list = []; amount = 0 } ∷ []
+fresh_seats (suc n) = fresh_seats n ++ fresh_seat (n + 1) ∷ []

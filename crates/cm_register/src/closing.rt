@@ -3,16 +3,20 @@ ghost use Rattle.cm_netlist.specs.Network.{listing};
 ghost use Rattle.cm_history.specs.Frames.{frames_in};
 ghost use Rattle.cm_history.specs.Legal.{IsLegal};
 ghost use Rattle.cm_sequential.specs.Standing.{Stands};
-ghost use Rattle.cm_register.specs.Closing.{AreApart, HaveTheirCalls, IsBookCause, count_calls, seat_of};
+ghost use Rattle.cm_register.specs.Closing.{AreApart, HaveTheirCalls, IsBookCause, calls_by, calls_in, count_calls};
+ghost use Rattle.cm_register.specs.Reading.{AllKnown};
 ghost use Rattle.cm_register.specs.SeatCalls.{AreOfSeats};
 
 use crate::book::Book;
-use crate::compare::{are_apart, have_their_calls};
+use crate::compare::{are_apart, are_known, have_their_calls};
 use crate::run_name::RunName;
 use crate::seat::{Made, Seat};
 use crate::wire::Wire;
 use cm_history::Entry;
 use cm_sequential::Manager;
+use cm_versions::{Operation, Version};
+use left_right::Absorb;
+use std::sync::Wait;
 use std::sync::ledger::Share;
 use thiserror::Error;
 
@@ -42,13 +46,20 @@ pub enum CloseKind {
     /// A seat's list isn't its entries, or a number comes twice.
     #[error("a seat's list isn't its entries")]
     SeatDiffers,
+    /// What a seat saw, or was told, isn't found to be of the history. It is tested before
+    /// [`CloseKind::SeatDiffers`], and never comes, though no clause says so.
+    #[error("a seat knows of another history")]
+    NoVersion,
 }
 
 /// Why a book isn't closed, with the book and the seats, which go on working.
 #[derive(Drop)]
-pub struct BookFault<'n, W: Wire, K: RunName> {
+pub struct BookFault<'n, W: Wire, K: RunName, R: Wait + Drop>
+where
+    Version<K>: Absorb<Operation, State = [Entry; 0]>,
+{
     pub kind: CloseKind,
-    pub book: Book<'n, W, K>,
+    pub book: Book<'n, W, K, R>,
     pub seats: Vec<Seat<K>>,
 }
 
@@ -61,7 +72,7 @@ fn gather<K: RunName>(
 ) -> Vec<SeatList>
     requires room { (vec_len lists ≡ 0) × (K.parts ≤ vec_capacity lists) }
     requires share { (rest.old.parts ≡ 0) × (rest.old.amount ≡ 0) }
-    ensures lists { map seat_of result.items ≡ seats.items }
+    ensures lists { map calls_in result.items ≡ map calls_by seats.items }
     ensures share { (rest.new.parts ≡ length seats.items) × (rest.new.parts ≤ K.parts)
         × (rest.new.amount ≡ count_calls seats.items) }
 {
@@ -70,6 +81,10 @@ fn gather<K: RunName>(
             number,
             list,
             share,
+            reader: _,
+            known: _,
+            viewed: _,
+            called: _,
         } = seat;
         rest.merge(share);
         lists.push_reserved(SeatList { number, made: list });
@@ -77,17 +92,21 @@ fn gather<K: RunName>(
     lists
 }
 
-impl<'n, W: Wire, K: RunName> Book<'n, W, K> {
+impl<'n, W: Wire, K: RunName, R: Wait + Drop> Book<'n, W, K, R> {
     /// Why this book can't be closed with these seats, if anything is in the way.
     fn close_cause(&self, seats: &[Seat<K>]) -> Result<(), CloseKind>
         ensures may { IfOk result (λ u. (K.seats ≤ length seats.now)
-            × HaveTheirCalls self.now.history seats.now × AreApart seats.now) }
+            × HaveTheirCalls self.now.history seats.now × AreApart seats.now
+            × AllKnown self.now.history seats.now) }
         ensures fault { IfErr result (λ f. IsBookCause self.now.history K.seats seats.now f) }
     {
         let given = seats.len();
         let wanted = usize::from(self.seats);
         if given < wanted {
             return Err(CloseKind::SeatsMissing((wanted - given) as u16));
+        }
+        if !are_known(&self.versions.published().past(), seats) {
+            return Err(CloseKind::NoVersion);
         }
         if !have_their_calls(self.history.as_slice(), seats) || !are_apart(seats) {
             return Err(CloseKind::SeatDiffers);
@@ -104,7 +123,7 @@ impl<'n, W: Wire, K: RunName> Book<'n, W, K> {
         ensures seated { AreOfSeats K.seats result.history.items }
         ensures frames { W.sent result.wire ≡ frames_in (listing K.net) result.history.items }
         ensures stands { Stands result.manager K.net (reverse result.history.items) }
-        ensures lists { map seat_of result.lists.items ≡ seats.items }
+        ensures lists { map calls_in result.lists.items ≡ map calls_by seats.items }
         ensures total { count_calls seats.items ≡ length result.history.items }
         ensures all { length seats.items ≡ K.seats }
     {
@@ -112,7 +131,7 @@ impl<'n, W: Wire, K: RunName> Book<'n, W, K> {
             net: _,
             seats: _,
             limit: _,
-            manager,
+            versions,
             history,
             counts: _,
             wire,
@@ -122,6 +141,7 @@ impl<'n, W: Wire, K: RunName> Book<'n, W, K> {
         } = self;
         let lists = gather(lists, seats, &mut rest);
         ledger.audit(&mut rest);
+        let manager = *versions.published().manager();
         Closed {
             history,
             lists,
@@ -131,9 +151,9 @@ impl<'n, W: Wire, K: RunName> Book<'n, W, K> {
     }
 
     /// Closes the book of one thread, as [`crate::Register::close`] closes that of several. It is
-    /// refused just where a seat is missing, where the list of one isn't its calls in the history, and
-    /// where a number comes twice.
-    pub fn close(self, seats: Vec<Seat<K>>) -> Result<Closed<W>, BookFault<'n, W, K>>
+    /// refused just where a seat is missing, where the list of one isn't its calls in the history,
+    /// where a number comes twice, and where what a seat knows isn't found to be of the history.
+    pub fn close(self, seats: Vec<Seat<K>>) -> Result<Closed<W>, BookFault<'n, W, K, R>>
         ensures history { IfOk result (λ c. c.history.items ≡ self.entry.history) }
         ensures legal { IfOk result (λ c. IsLegal (listing K.net) (reverse c.history.items)) }
         ensures calls { IfOk result (λ c. HaveTheirCalls c.history.items seats.items) }
@@ -141,11 +161,12 @@ impl<'n, W: Wire, K: RunName> Book<'n, W, K> {
         ensures few { IfOk result (λ c. length c.history.items ≤ K.limit) }
         ensures seated { IfOk result (λ c. AreOfSeats K.seats c.history.items) }
         ensures total { IfOk result (λ c. count_calls seats.items ≡ length c.history.items) }
-        ensures lists { IfOk result (λ c. map seat_of c.lists.items ≡ seats.items) }
+        ensures lists { IfOk result (λ c. map calls_in c.lists.items ≡ map calls_by seats.items) }
         ensures frames { IfOk result
             (λ c. W.sent c.wire ≡ frames_in (listing K.net) c.history.items) }
         ensures stands { IfOk result
             (λ c. Stands c.manager K.net (reverse c.history.items)) }
+        ensures known { IfOk result (λ c. AllKnown c.history.items seats.items) }
         ensures fault { IfErr result
             (λ f. IsBookCause self.entry.history K.seats seats.items f.kind) }
         ensures back { IfErr result

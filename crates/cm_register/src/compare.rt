@@ -1,60 +1,14 @@
-//! What is compared where a register closes: the seats' lists with their entries in the history.
+//! What is compared where a register closes: the seats' lists, and what they know, with the history.
 ghost use Rattle.std.specs.Prelude.{◌≡◌, ◌<◌, ◌^◌, ◌↔◌, length, IsTrue, Some, slice_get};
 ghost use Rattle.cm_register.specs.Closing.{AreApart, HaveTheirCalls};
+ghost use Rattle.cm_register.specs.Reading.{AllKnown, IsKnown};
 ghost use Rattle.cm_register.specs.SeatCalls.{calls_of};
 
 use crate::run_name::RunName;
 use crate::seat::{Made, Seat};
-use cm_answers::{Answers, Got};
-use cm_history::{Call, Entry, Reply};
-
-fn is_same_got(one: &Got, other: &Got) -> bool
-    ensures { IsTrue result ↔ (one.now ≡ other.now) }
-{
-    one == other
-}
-
-fn are_same_ids(one: &[Got; 4], other: &[Got; 4]) -> bool
-    ensures { IsTrue result ↔ (one.now ≡ other.now) }
-{
-    let [vendor, product, revision, serial] = one;
-    let [other_vendor, other_product, other_revision, other_serial] = other;
-    is_same_got(vendor, other_vendor)
-        && is_same_got(product, other_product)
-        && is_same_got(revision, other_revision)
-        && is_same_got(serial, other_serial)
-}
-
-fn are_same_answers(one: &Answers, other: &Answers) -> bool
-    ensures { IsTrue result ↔ (one.now ≡ other.now) }
-{
-    is_same_got(&one.device, &other.device)
-        && are_same_ids(&one.ids, &other.ids)
-        && is_same_got(&one.date, &other.date)
-        && is_same_got(&one.time, &other.time)
-        && is_same_got(&one.refused, &other.refused)
-        && one.acked == other.acked
-        && one.heard == other.heard
-        && one.beat == other.beat
-}
-
-fn is_same_call(one: &Call, other: &Call) -> bool
-    ensures { IsTrue result ↔ (one.now ≡ other.now) }
-{
-    match (one, other) {
-        (Call::StartNetwork, Call::StartNetwork) => true,
-        (Call::Begin(i), Call::Begin(j)) => i == j,
-        (Call::Report(i, n, a), Call::Report(j, m, b)) => {
-            i == j && n == m && are_same_answers(a, b)
-        }
-        (Call::Signal(i, a), Call::Signal(j, b)) => i == j && a == b,
-        (Call::Lost(i), Call::Lost(j)) => i == j,
-        (Call::Request(i, a), Call::Request(j, b)) => i == j && a == b,
-        (Call::Read(i), Call::Read(j)) => i == j,
-        (Call::Elapsed(a), Call::Elapsed(b)) => a == b,
-        _ => false,
-    }
-}
+use cm_history::{Entry, Reply};
+use cm_past::Past;
+use cm_versions::is_same_call;
 
 fn is_same_reply(one: &Reply, other: &Reply) -> bool
     ensures { IsTrue result ↔ (one.now ≡ other.now) }
@@ -124,5 +78,22 @@ pub fn are_apart<K: RunName>(seats: &[Seat<K>]) -> bool
             let number = first.number();
             rest.iter().all(|seat| seat.number() != number) && are_apart(rest)
         }
+    }
+}
+
+/// Whether the history has what the seat knows as its beginning.
+fn is_known<K: RunName>(history: &Past<K>, seat: &Seat<K>) -> bool
+    ensures { IsTrue result → IsKnown history.now seat.now }
+{
+    history.longer(&seat.known).len() <= history.len()
+}
+
+/// Whether it has what each seat knows.
+pub fn are_known<K: RunName>(history: &Past<K>, seats: &[Seat<K>]) -> bool
+    ensures { IsTrue result → AllKnown history.now seats.now }
+{
+    match seats {
+        [] => true,
+        [first, rest @ ..] => is_known(history, first) && are_known(history, rest),
     }
 }

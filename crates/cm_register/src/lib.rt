@@ -4,8 +4,9 @@
 //!
 //! [`Register::open`] takes the network list, how many seats and entries there are to be, and a
 //! [`Wire`] for the frames; [`Opened::named`] gives the register and its seats; each thread makes its
-//! calls by [`Register::call`] with a seat of its own; [`Register::close`] takes all seats back and
-//! gives the history, the seats' lists, the wire and the manager. [`Book`] is the same for one thread.
+//! calls by [`Register::call`] with a seat of its own, and reads states by [`Seat::read`], without the
+//! lock and without waiting; [`Register::close`] takes all seats back and gives the history, the seats'
+//! lists, the wire and the manager. [`Book`] is the same for one thread.
 #![tactic(auto)]
 
 mod book;
@@ -20,9 +21,9 @@ mod wire;
 
 pub use book::Book;
 pub use closing::{BookFault, CloseKind, Closed, SeatList};
-pub use fault::{CallFault, OpenFault};
+pub use fault::{CallFault, OpenFault, ReadFault};
 pub use opened::Opened;
 pub use register::{CloseFault, Register};
 pub use run_name::RunName;
-pub use seat::{Made, Receipt, Seat};
+pub use seat::{Made, Receipt, Seat, Seen};
 pub use wire::Wire;

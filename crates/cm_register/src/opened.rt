@@ -1,5 +1,6 @@
 ghost use Rattle.std.specs.Prelude.{◌≡◌, ◌<◌, ◌≤◌, [], vec_capacity, vec_len, IfOk, IfErr};
-ghost use Rattle.cm_register.specs.Opening.{IsOpenCause, MayOpen, fresh_seats};
+ghost use Rattle.cm_register.specs.Opening.{IsNameCause, IsOpenCause, MayOpen, fresh_seats};
+ghost use Rattle.left_right.specs.Handles.{published};
 
 use crate::book::Book;
 use crate::closing::SeatList;
@@ -10,20 +11,27 @@ use crate::seat::Seat;
 use crate::wire::Wire;
 use cm_history::Entry;
 use cm_netlist::Network;
+use cm_past::UnnamedLog;
+use cm_versions::{Versions, new_reader, open_versions};
 use std::alloc::Global;
 use std::marker::Brand;
+use std::sync::Wait;
 use std::sync::ledger::{Blank, Share};
 
 /// A register that has no name yet. Its memory for the whole history, and for what closing needs, is
 /// taken.
 #[derive(Drop)]
-pub struct Opened<'n, W: Wire> {
+pub struct Opened<'n, W: Wire, R: Drop> {
     pub net: &'n Network,
     pub seats: u16,
     pub limit: u32,
     pub wire: W,
+    /// What a change of the versions waits with for readers.
+    pub rt: R,
     /// The ledger that is to be, of which each seat gets a part.
     pub blank: Blank,
+    /// The log that is to be, which says to readers what the history is.
+    pub log: UnnamedLog,
     alloc: Global,
     history: Vec<Entry>,
     lists: Vec<SeatList>,
@@ -35,16 +43,17 @@ pub struct Opened<'n, W: Wire> {
     ghost empty: { (vec_len history ≡ 0) × (vec_len lists ≡ 0) },
 }
 
-impl<'n, W: Wire> Book<'n, W, Brand> {
+impl<'n, W: Wire, R: Wait + Drop> Book<'n, W, Brand, R> {
     /// Opens a register for one thread, which [`Opened::book`] then names: with this many seats, 1 to
     /// 64, and at most `limit` entries in its history, 1 to 65,536. After a refusal the wire is dropped.
     pub fn open(
         alloc: Global,
+        rt: R,
         net: &'n Network,
         seats: u16,
         limit: u32,
         wire: W,
-    ) -> Result<Opened<'n, W>, OpenFault>
+    ) -> Result<Opened<'n, W, R>, OpenFault>
         ensures may { IfOk result (λ o. MayOpen seats limit (W.sent wire)) }
         ensures given { IfOk result (λ o. (o.net.now ≡ net.now) × (o.seats ≡ seats)
             × (o.limit ≡ limit) × (o.wire ≡ wire)) }
@@ -70,7 +79,9 @@ impl<'n, W: Wire> Book<'n, W, Brand> {
             seats,
             limit,
             wire,
+            rt,
             blank: Blank::new(u64::from(seats)),
+            log: UnnamedLog::new(),
             alloc,
             history,
             lists,
@@ -78,64 +89,83 @@ impl<'n, W: Wire> Book<'n, W, Brand> {
     }
 }
 
-/// The seats in order, each with one part of the ledger.
-fn make_seats<K: RunName>(
+/// The seats in order, each with one part of the ledger and a reader of its own.
+fn make_seats<K: RunName, R: Wait + Drop>(
     alloc: Global,
     seats: u16,
+    versions: &Versions<K, R>,
     rest: &mut Share<K>,
 ) -> Result<Vec<Seat<K>>, OpenFault>
     requires share { (rest.old.parts ≡ seats) × (rest.old.amount ≡ 0) }
     requires seats { (seats ≡ K.seats) × (seats ≤ 64) }
+    requires versions { published versions.now ≡ [] }
     ensures seats { IfOk result (λ v. v.items ≡ fresh_seats K.seats) }
     ensures rest { IfOk result (λ v. (rest.new.parts ≡ 0) × (rest.new.amount ≡ 0)) }
-    ensures fault { IfErr result (λ f. f ≡ OpenFault.OutOfMemory) }
+    ensures fault { IfErr result IsNameCause }
 {
     let Ok(mut all) = Vec::with_capacity(alloc, usize::from(seats)) else {
         return Err(OpenFault::OutOfMemory);
     };
     for number in 0..seats {
+        let Ok(reader) = new_reader(versions) else {
+            return Err(OpenFault::NoReader);
+        };
         let share = rest.split_off(1, 0);
-        all.push_reserved(Seat::new(alloc, number + 1, share));
+        let known = versions.published().past();
+        all.push_reserved(Seat::new(alloc, number + 1, share, reader, known));
     }
     Ok(all)
 }
 
-impl<'n, W: Wire> Opened<'n, W> {
-    /// The book and the seats in order, which have made no call: a register for one thread. The
-    /// condition says that `K` names this register; [`std::marker::Brand`] is passed for it.
-    pub fn book<K: RunName>(self) -> Result<(Book<'n, W, K>, Vec<Seat<K>>), OpenFault>
+impl<'n, W: Wire, R: Wait + Drop> Opened<'n, W, R> {
+    /// The book and the seats in order, which have made no call and seen nothing: a register for one
+    /// thread. The condition says that `K` names this register; [`std::marker::Brand`] is passed for
+    /// it. Refused where memory is, or a seat is given no reader; the wire is dropped then.
+    pub fn book<K: RunName>(self) -> Result<(Book<'n, W, K, R>, Vec<Seat<K>>), OpenFault>
+    where
+        R: Copy,
         requires { (self.blank.name ≡ K.name) × (self.seats ≡ K.parts) × (self.seats ≡ K.seats)
-            × (self.limit ≡ K.limit) × (self.net.now ≡ K.net) }
+            × (self.limit ≡ K.limit) × (self.net.now ≡ K.net) × (self.log ≡ K.log) }
         ensures book { IfOk result (λ r. (r.0.history ≡ []) × (r.0.sent ≡ [])
             × (r.0.room ≡ W.room_of self.entry.wire)) }
         ensures seats { IfOk result (λ r. r.1.items ≡ fresh_seats K.seats) }
-        ensures fault { IfErr result (λ f. f ≡ OpenFault.OutOfMemory) }
+        ensures fault { IfErr result IsNameCause }
     {
         let Opened {
             net,
             seats,
             limit,
             wire,
+            rt,
             blank,
+            log,
             alloc,
             history,
             lists,
         } = self;
+        let Ok(versions) = open_versions::<K, R>(alloc, rt, net, log, seats) else {
+            return Err(OpenFault::OutOfMemory);
+        };
         let (ledger, mut rest) = blank.open::<K>();
-        let all = make_seats(alloc, seats, &mut rest)?;
+        let all = make_seats(alloc, seats, &versions, &mut rest)?;
         Ok((
-            Book::fresh(net, seats, limit, wire, history, lists, ledger, rest),
+            Book::fresh(
+                net, seats, limit, wire, history, lists, ledger, rest, versions,
+            ),
             all,
         ))
     }
 
-    /// The register, which threads share, and the seats in order, which have made no call. The
-    /// condition says that `K` names this register; [`std::marker::Brand`] is passed for it.
-    pub fn named<K: RunName>(self) -> Result<(Register<'n, W, K>, Vec<Seat<K>>), OpenFault>
+    /// The register, which threads share, and the seats in order, which have made no call and seen
+    /// nothing. The condition says that `K` names this register; [`std::marker::Brand`] is passed for
+    /// it. Refused where memory is, or a seat is given no reader; the wire is dropped then.
+    pub fn named<K: RunName>(self) -> Result<(Register<'n, W, K, R>, Vec<Seat<K>>), OpenFault>
+    where
+        R: Copy,
         requires { (self.blank.name ≡ K.name) × (self.seats ≡ K.parts) × (self.seats ≡ K.seats)
-            × (self.limit ≡ K.limit) × (self.net.now ≡ K.net) }
+            × (self.limit ≡ K.limit) × (self.net.now ≡ K.net) × (self.log ≡ K.log) }
         ensures seats { IfOk result (λ r. r.1.items ≡ fresh_seats K.seats) }
-        ensures fault { IfErr result (λ f. f ≡ OpenFault.OutOfMemory) }
+        ensures fault { IfErr result IsNameCause }
     {
         let net = self.net;
         let (book, seats) = self.book::<K>()?;

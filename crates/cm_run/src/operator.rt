@@ -15,10 +15,10 @@ pub struct OperateFault {
 
 /// Makes the calls in order, up to the first that isn't made; a refusal of the manager is a reply like
 /// any other. Room for the receipts is taken first: where it is refused, no call was made.
-pub fn operate<'n, W: Wire, K: RunName, R: Wait>(
+pub fn operate<'n, W: Wire, K: RunName, R: Wait + Drop>(
     rt: &R,
     alloc: Global,
-    register: &Register<'n, W, K>,
+    register: &Register<'n, W, K, R>,
     seat: &mut Seat<K>,
     calls: &[Call],
 ) -> Result<Vec<Receipt>, OperateFault>

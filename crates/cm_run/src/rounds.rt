@@ -10,9 +10,9 @@ use cm_register::{Register, RunName, Seat, Wire};
 use std::sync::Wait;
 
 /// One attempt to boot a slave: the begin, the boot over the bus, the report.
-pub fn attempt<'n, W: Wire, K: RunName, R: Wait, B: Bus>(
+pub fn attempt<'n, W: Wire, K: RunName, R: Wait + Drop, B: Bus>(
     rt: &R,
-    register: &Register<'n, W, K>,
+    register: &Register<'n, W, K, R>,
     seat: &mut Seat<K>,
     bus: &mut B,
     id: NodeId,
@@ -66,9 +66,9 @@ fn is_followed(attempt: &Attempt) -> bool
 }
 
 /// The attempts at one slave, `most` at most.
-pub fn round<'n, W: Wire, K: RunName, R: Wait, B: Bus>(
+pub fn round<'n, W: Wire, K: RunName, R: Wait + Drop, B: Bus>(
     rt: &R,
-    register: &Register<'n, W, K>,
+    register: &Register<'n, W, K, R>,
     seat: &mut Seat<K>,
     bus: &mut B,
     id: NodeId,

@@ -36,9 +36,9 @@ impl<B: Bus, K: RunName> Promise<Back<B, K>> for Given<B, K> {
 }
 
 /// Runs the job, unless it was this worker's thread that was refused.
-fn run_unless_refused<'n, W: Wire, K: RunName, R: Wait, B: Bus>(
+fn run_unless_refused<'n, W: Wire, K: RunName, R: Wait + Drop, B: Bus>(
     rt: &R,
-    register: &Register<'n, W, K>,
+    register: &Register<'n, W, K, R>,
     plan: Plan,
     refused: &AtomicUsize,
     worker: usize,
@@ -66,12 +66,12 @@ fn start<
     E,
     W: Wire + Send,
     K: RunName + Send + Sync + 's,
-    R: Wait + Threads + Sync,
+    R: Wait + Threads + Drop + Send + Sync,
     B: Bus + Send + 's,
 >(
     scope: &Scope<'s, E>,
     rt: &'s R,
-    register: &'s Register<'n, W, K>,
+    register: &'s Register<'n, W, K, R>,
     plan: Plan,
     refused: &'s AtomicUsize,
     worker: usize,
@@ -108,12 +108,12 @@ fn run_first<
     E,
     W: Wire + Send,
     K: RunName + Send + Sync + 's,
-    R: Wait + Threads + Sync,
+    R: Wait + Threads + Drop + Send + Sync,
     B: Bus + Send + 's,
 >(
     scope: &Scope<'s, E>,
     rt: &'s R,
-    register: &'s Register<'n, W, K>,
+    register: &'s Register<'n, W, K, R>,
     plan: Plan,
     refused: &'s AtomicUsize,
     jobs: &mut Vec<Job<B, K>>,
@@ -154,11 +154,11 @@ pub(crate) fn run_jobs<
     'n,
     W: Wire + Send,
     K: RunName + Send + Sync,
-    R: Wait + Threads + Sync,
+    R: Wait + Threads + Drop + Send + Sync,
     B: Bus + Send,
 >(
     rt: &R,
-    register: &Register<'n, W, K>,
+    register: &Register<'n, W, K, R>,
     plan: Plan,
     jobs: Vec<Job<B, K>>,
 ) -> Result<Vec<Job<B, K>>, Vec<Job<B, K>>>

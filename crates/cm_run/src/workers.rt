@@ -47,9 +47,15 @@ fn fault_of(seats: usize, buses: usize, attempts: u8) -> Option<RunKind>
 }
 
 /// Boots every listed slave, as [`boot_all`] does, in memory that was taken.
-fn boot_in<'n, W: Wire + Send, K: RunName + Send + Sync, R: Wait + Threads + Sync, B: Bus + Send>(
+fn boot_in<
+    'n,
+    W: Wire + Send,
+    K: RunName + Send + Sync,
+    R: Wait + Threads + Drop + Send + Sync,
+    B: Bus + Send,
+>(
     rt: &R,
-    register: &Register<'n, W, K>,
+    register: &Register<'n, W, K, R>,
     plan: Plan,
     room: Room<B, K>,
     mut seats: Vec<Seat<K>>,
@@ -117,12 +123,12 @@ pub fn boot_all<
     'n,
     W: Wire + Send,
     K: RunName + Send + Sync,
-    R: Wait + Threads + Sync,
+    R: Wait + Threads + Drop + Send + Sync,
     B: Bus + Send,
 >(
     rt: &R,
     alloc: Global,
-    register: &Register<'n, W, K>,
+    register: &Register<'n, W, K, R>,
     seats: Vec<Seat<K>>,
     buses: Vec<B>,
     attempts: u8,

@@ -22,9 +22,9 @@ pub(crate) struct Plan {
 }
 
 /// The rounds of the worker's slaves, in order.
-fn make_rounds<'n, W: Wire, K: RunName, R: Wait, B: Bus>(
+fn make_rounds<'n, W: Wire, K: RunName, R: Wait + Drop, B: Bus>(
     rt: &R,
-    register: &Register<'n, W, K>,
+    register: &Register<'n, W, K, R>,
     plan: Plan,
     worker: usize,
     seat: &mut Seat<K>,
@@ -50,9 +50,9 @@ fn make_rounds<'n, W: Wire, K: RunName, R: Wait, B: Bus>(
 }
 
 /// Boots the slaves of a worker, with its job.
-pub(crate) fn work<'n, W: Wire, K: RunName, R: Wait, B: Bus>(
+pub(crate) fn work<'n, W: Wire, K: RunName, R: Wait + Drop, B: Bus>(
     rt: &R,
-    register: &Register<'n, W, K>,
+    register: &Register<'n, W, K, R>,
     plan: Plan,
     worker: usize,
     job: Job<B, K>,

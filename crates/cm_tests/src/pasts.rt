@@ -37,14 +37,14 @@ fn grows<K: HistoryName, R: Abort>(rt: &R, log: UnnamedLog, net: &Network) -> Re
     sure(rt, none.len() == 0);
     let manager = Manager::new(net);
     let first = answer(&manager, &none, Call::StartNetwork);
-    let Some(one) = appender.add(&none, first) else {
+    let Some(one) = appender.add(&none, &first) else {
         return Err(Fail::from("not added"));
     };
     sure(rt, none.len() == 0 && one.len() == 1);
     sure(rt, none.longer(&one).len() == 1);
     sure(rt, one.longer(&none).len() == 1);
     sure(rt, one.again().len() == 1);
-    sure(rt, appender.add(&none, first).is_none());
+    sure(rt, appender.add(&none, &first).is_none());
     Ok(())
 }
 

@@ -2,10 +2,11 @@
 
 ghost use Rattle.std.specs.Prelude.{◌≡◌};
 
-use crate::support::{Tape, close, entry, frame, is_made, is_refused, lacks_seats, network, sure};
+use crate::support::{frame, is_made, is_refused, lacks_seats, network, sure};
 use cm_history::{Call, Orders, Reply};
 use cm_register::{CallFault, Opened, Register, RunName, SeatList};
 use cm_run::SimWire;
+use register_support::{Tape, close, entry};
 use std::marker::Brand;
 use std::process::Abort;
 use std::sync::Wait;
@@ -15,15 +16,18 @@ use std::test::Fail;
 fn a_full_wire_refuses_a_call(rt: HostRuntime) -> Result<(), Fail> {
     let net = network(&rt, rt.alloc(), 1, &[(2, 0x05), (3, 0x15), (4, 0x05)]);
     let wire = SimWire::new(rt.alloc(), 1)?;
-    let Ok(opened) = Register::open(rt.alloc(), &net, 1, 10, wire) else {
+    let Ok(opened) = Register::open(rt.alloc(), rt, &net, 1, 10, wire) else {
         return Err(Fail::from("open"));
     };
     lacks_room::<Brand, _>(&rt, opened)
 }
 
-fn lacks_room<K: RunName, R: Wait + Abort>(rt: &R, opened: Opened<SimWire>) -> Result<(), Fail>
+fn lacks_room<K: RunName, R: Wait + Abort + Drop + Copy>(
+    rt: &R,
+    opened: Opened<SimWire, R>,
+) -> Result<(), Fail>
     requires { (opened.blank.name ≡ K.name) × (opened.seats ≡ K.parts) × (opened.seats ≡ K.seats)
-        × (opened.limit ≡ K.limit) × (opened.net.now ≡ K.net) }
+        × (opened.limit ≡ K.limit) × (opened.net.now ≡ K.net) × (opened.log ≡ K.log) }
 {
     let Ok((register, mut seats)) = opened.named::<K>() else {
         return Err(Fail::from("named"));
@@ -51,7 +55,7 @@ fn lacks_room<K: RunName, R: Wait + Abort>(rt: &R, opened: Opened<SimWire>) -> R
 fn a_call_returns_what_is_recorded(rt: HostRuntime) -> Result<(), Fail> {
     let net = network(&rt, rt.alloc(), 1, &[]);
     let wire = Tape::new(rt.alloc(), &[], 10)?;
-    let Ok(opened) = Register::open(rt.alloc(), &net, 2, 12, wire) else {
+    let Ok(opened) = Register::open(rt.alloc(), rt, &net, 2, 12, wire) else {
         return Err(Fail::from("open"));
     };
     calls_in_turn::<Brand, _>(&rt, opened)
@@ -68,9 +72,12 @@ fn has_places(list: &SeatList, number: u16, places: &[u32]) -> bool {
             .all(|(made, place)| made.position == *place)
 }
 
-fn calls_in_turn<K: RunName, R: Wait + Abort>(rt: &R, opened: Opened<Tape>) -> Result<(), Fail>
+fn calls_in_turn<K: RunName, R: Wait + Abort + Drop + Copy>(
+    rt: &R,
+    opened: Opened<Tape, R>,
+) -> Result<(), Fail>
     requires { (opened.blank.name ≡ K.name) × (opened.seats ≡ K.parts) × (opened.seats ≡ K.seats)
-        × (opened.limit ≡ K.limit) × (opened.net.now ≡ K.net) }
+        × (opened.limit ≡ K.limit) × (opened.net.now ≡ K.net) × (opened.log ≡ K.log) }
 {
     let Ok((register, mut seats)) = opened.named::<K>() else {
         return Err(Fail::from("named"));
@@ -105,15 +112,18 @@ fn calls_in_turn<K: RunName, R: Wait + Abort>(rt: &R, opened: Opened<Tape>) -> R
 fn a_seat_that_was_dropped_is_missing(rt: HostRuntime) -> Result<(), Fail> {
     let net = network(&rt, rt.alloc(), 1, &[]);
     let wire = Tape::new(rt.alloc(), &[], 10)?;
-    let Ok(opened) = Register::open(rt.alloc(), &net, 2, 12, wire) else {
+    let Ok(opened) = Register::open(rt.alloc(), rt, &net, 2, 12, wire) else {
         return Err(Fail::from("open"));
     };
     drops_a_seat::<Brand, _>(&rt, opened)
 }
 
-fn drops_a_seat<K: RunName, R: Wait + Abort>(rt: &R, opened: Opened<Tape>) -> Result<(), Fail>
+fn drops_a_seat<K: RunName, R: Wait + Abort + Drop + Copy>(
+    rt: &R,
+    opened: Opened<Tape, R>,
+) -> Result<(), Fail>
     requires { (opened.blank.name ≡ K.name) × (opened.seats ≡ K.parts) × (opened.seats ≡ K.seats)
-        × (opened.limit ≡ K.limit) × (opened.net.now ≡ K.net) }
+        × (opened.limit ≡ K.limit) × (opened.net.now ≡ K.net) × (opened.log ≡ K.log) }
 {
     let Ok((register, mut seats)) = opened.named::<K>() else {
         return Err(Fail::from("named"));

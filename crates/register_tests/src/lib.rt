@@ -3,8 +3,6 @@
 #![tactic(auto)]
 
 #[cfg(test)]
-mod boots;
-#[cfg(test)]
 mod closing;
 #[cfg(test)]
 mod memory;
@@ -13,12 +11,8 @@ mod one_book;
 #[cfg(test)]
 mod opening;
 #[cfg(test)]
-mod rounds;
-#[cfg(test)]
 mod support;
 #[cfg(test)]
 mod teams;
 #[cfg(test)]
 mod threads;
-#[cfg(test)]
-mod workers;

@@ -2,11 +2,12 @@
 
 ghost use Rattle.std.specs.Prelude.{◌≡◌};
 
-use crate::support::{Tape, close, entry, frame, is_made, network, sure};
+use crate::support::{frame, is_made, network, sure};
 use cm_history::{Call, Orders, Reply};
 use cm_netlist::Network;
 use cm_register::{CallFault, OpenFault, Opened, Register, RunName, Seat};
 use cm_run::operate;
+use register_support::{Tape, close, entry};
 use std::alloc::Global;
 use std::marker::Brand;
 use std::process::Abort;
@@ -17,9 +18,9 @@ use std::test::Fail;
 const CALLS: u32 = 20;
 
 /// Makes a call, and once more where memory is refused.
-fn insist<K: RunName, R: Wait + Abort>(
+fn insist<K: RunName, R: Wait + Abort + Drop>(
     rt: &R,
-    register: &Register<Tape, K>,
+    register: &Register<Tape, K, R>,
     seat: &mut Seat<K>,
     call: &Call,
     position: u32,
@@ -36,14 +37,20 @@ fn insist<K: RunName, R: Wait + Abort>(
 }
 
 /// Names the register, makes the calls, and closes it. Whether memory for the name was there.
-fn calls<K: RunName, R: Wait + Abort>(rt: &R, opened: Opened<Tape>) -> Result<bool, Fail>
+fn calls<K: RunName, R: Wait + Abort + Drop + Copy>(
+    rt: &R,
+    opened: Opened<Tape, R>,
+) -> Result<bool, Fail>
     requires { (opened.blank.name ≡ K.name) × (opened.seats ≡ K.parts) × (opened.seats ≡ K.seats)
-        × (opened.limit ≡ K.limit) × (opened.net.now ≡ K.net) }
+        × (opened.limit ≡ K.limit) × (opened.net.now ≡ K.net) × (opened.log ≡ K.log) }
 {
     let (register, mut seats) = match opened.named::<K>() {
         Ok(named) => named,
         Err(fault) => {
-            sure(rt, fault == OpenFault::OutOfMemory);
+            sure(
+                rt,
+                fault == OpenFault::OutOfMemory || fault == OpenFault::NoReader,
+            );
             return Ok(false);
         }
     };
@@ -70,11 +77,15 @@ fn calls<K: RunName, R: Wait + Abort>(rt: &R, opened: Opened<Tape>) -> Result<bo
 }
 
 /// Opens a register and makes the calls. Whether memory for all but the calls was there.
-fn opens_and_calls<R: Wait + Abort>(rt: &R, alloc: Global, net: &Network) -> Result<bool, Fail> {
+fn opens_and_calls<R: Wait + Abort + Drop + Copy>(
+    rt: &R,
+    alloc: Global,
+    net: &Network,
+) -> Result<bool, Fail> {
     let Ok(wire) = Tape::new(alloc, &[], 1) else {
         return Ok(false);
     };
-    match Register::open(alloc, net, 1, CALLS, wire) {
+    match Register::open(alloc, *rt, net, 1, CALLS, wire) {
         Ok(opened) => calls::<Brand, _>(rt, opened),
         Err(fault) => {
             sure(rt, fault == OpenFault::OutOfMemory);
@@ -94,13 +105,13 @@ fn what_memory_refuses_once_is_made_again(rt: HostRuntime) -> Result<(), Fail> {
 
 /// An operator's calls, whatever memory is refused: as many are made as it says, and the register
 /// closes with them.
-fn operates<K: RunName, R: Wait + Abort>(
+fn operates<K: RunName, R: Wait + Abort + Drop + Copy>(
     rt: &R,
     alloc: Global,
-    opened: Opened<Tape>,
+    opened: Opened<Tape, R>,
 ) -> Result<(), Fail>
     requires { (opened.blank.name ≡ K.name) × (opened.seats ≡ K.parts) × (opened.seats ≡ K.seats)
-        × (opened.limit ≡ K.limit) × (opened.net.now ≡ K.net) }
+        × (opened.limit ≡ K.limit) × (opened.net.now ≡ K.net) × (opened.log ≡ K.log) }
 {
     let Ok((register, mut seats)) = opened.named::<K>() else {
         return Ok(());
@@ -131,7 +142,7 @@ fn an_operator_is_told_what_memory_refuses(rt: HostRuntime) -> Result<(), Fail> 
     let Ok(wire) = Tape::new(rt.alloc(), &[], 1) else {
         return Ok(());
     };
-    let Ok(opened) = Register::open(rt.alloc(), &net, 1, CALLS, wire) else {
+    let Ok(opened) = Register::open(rt.alloc(), rt, &net, 1, CALLS, wire) else {
         return Ok(());
     };
     operates::<Brand, _>(&rt, rt.alloc(), opened)

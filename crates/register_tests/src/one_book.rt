@@ -2,22 +2,24 @@
 
 ghost use Rattle.std.specs.Prelude.{◌≡◌};
 
-use crate::support::{Lent, Tape, answers, entry, frame, is_made, is_refused, network, node, sure};
+use crate::support::{frame, is_made, is_refused, network, node, sure};
 use cm_answers::Status;
 use cm_history::{Call, Entry, Orders, Phase, Reply};
 use cm_nmt::NmtState;
 use cm_register::{Book, BookFault, CallFault, CloseKind, Opened, RunName, Seat, Wire};
+use register_support::{Lent, Tape, answers, entry};
 use std::alloc::Global;
 use std::marker::Brand;
 use std::process::Abort;
+use std::sync::Wait;
 use std::test::Fail;
 
 /// Its book, and its seat.
-fn open<'n, 'a, K: RunName>(
-    opened: Opened<'n, Lent<'a>>,
-) -> Result<(Book<'n, Lent<'a>, K>, Seat<K>), Fail>
+fn open<'n, 'a, K: RunName, R: Wait + Drop + Copy>(
+    opened: Opened<'n, Lent<'a>, R>,
+) -> Result<(Book<'n, Lent<'a>, K, R>, Seat<K>), Fail>
     requires { (opened.blank.name ≡ K.name) × (opened.seats ≡ K.parts) × (opened.seats ≡ K.seats)
-        × (opened.limit ≡ K.limit) × (opened.net.now ≡ K.net) }
+        × (opened.limit ≡ K.limit) × (opened.net.now ≡ K.net) × (opened.log ≡ K.log) }
 {
     let Ok((book, mut seats)) = opened.book::<K>() else {
         return Err(Fail::from("book"));
@@ -33,7 +35,8 @@ fn one_slave_boots(rt: HostRuntime) -> Result<(), Fail> {
     let net = network(&rt, rt.alloc(), 1, &[(2, 0x0D)]);
     let mut tape = Tape::new(rt.alloc(), &[], 10)?;
     let wire = Lent(&mut tape);
-    let Ok(opened) = Book::<Lent, Brand>::open(rt.alloc(), &net, 1, 10, wire) else {
+    let Ok(opened) = Book::<Lent, Brand, HostRuntime>::open(rt.alloc(), rt, &net, 1, 10, wire)
+    else {
         return Err(Fail::from("open"));
     };
     boots::<Brand, _>(&rt, opened)?;
@@ -42,12 +45,15 @@ fn one_slave_boots(rt: HostRuntime) -> Result<(), Fail> {
     Ok(())
 }
 
-fn boots<K: RunName, R: Abort>(rt: &R, opened: Opened<Lent>) -> Result<(), Fail>
+fn boots<K: RunName, R: Wait + Abort + Drop + Copy>(
+    rt: &R,
+    opened: Opened<Lent, R>,
+) -> Result<(), Fail>
     requires { (opened.blank.name ≡ K.name) × (opened.seats ≡ K.parts) × (opened.seats ≡ K.seats)
-        × (opened.limit ≡ K.limit) × (opened.net.now ≡ K.net) }
+        × (opened.limit ≡ K.limit) × (opened.net.now ≡ K.net) × (opened.log ≡ K.log) }
 {
     let two = node(rt, 2);
-    let (mut book, mut seat) = open::<K>(opened)?;
+    let (mut book, mut seat) = open::<K, _>(opened)?;
     let started = Orders::One(frame(rt, [0x01, 2]));
     let entries = [
         entry(1, Call::StartNetwork, Reply::Started, Orders::ResetUnkept),
@@ -60,7 +66,7 @@ fn boots<K: RunName, R: Abort>(rt: &R, opened: Opened<Lent>) -> Result<(), Fail>
         ),
     ];
     for (position, entry) in (1..4).zip(entries.iter()) {
-        let made = book.apply(&mut seat, entry.call);
+        let made = book.apply(rt, &mut seat, entry.call);
         is_made(rt, made, position, entry.reply);
     }
     sure(rt, book.history() == entries.as_slice());
@@ -75,7 +81,8 @@ fn a_full_wire_refuses_a_call(rt: HostRuntime) -> Result<(), Fail> {
     let net = network(&rt, rt.alloc(), 1, &[(2, 0x05), (3, 0x15), (4, 0x05)]);
     let mut tape = Tape::new(rt.alloc(), &[], 1)?;
     let wire = Lent(&mut tape);
-    let Ok(opened) = Book::<Lent, Brand>::open(rt.alloc(), &net, 1, 10, wire) else {
+    let Ok(opened) = Book::<Lent, Brand, HostRuntime>::open(rt.alloc(), rt, &net, 1, 10, wire)
+    else {
         return Err(Fail::from("open"));
     };
     lacks_room::<Brand, _>(&rt, rt.alloc(), opened)?;
@@ -83,17 +90,21 @@ fn a_full_wire_refuses_a_call(rt: HostRuntime) -> Result<(), Fail> {
     Ok(())
 }
 
-fn lacks_room<K: RunName, R: Abort>(rt: &R, alloc: Global, opened: Opened<Lent>) -> Result<(), Fail>
+fn lacks_room<K: RunName, R: Wait + Abort + Drop + Copy>(
+    rt: &R,
+    alloc: Global,
+    opened: Opened<Lent, R>,
+) -> Result<(), Fail>
     requires { (opened.blank.name ≡ K.name) × (opened.seats ≡ K.parts) × (opened.seats ≡ K.seats)
-        × (opened.limit ≡ K.limit) × (opened.net.now ≡ K.net) }
+        × (opened.limit ≡ K.limit) × (opened.net.now ≡ K.net) × (opened.log ≡ K.log) }
 {
-    let (mut book, mut seat) = open::<K>(opened)?;
-    let start = book.apply(&mut seat, Call::StartNetwork);
+    let (mut book, mut seat) = open::<K, _>(opened)?;
+    let start = book.apply(rt, &mut seat, Call::StartNetwork);
     is_refused(rt, start, CallFault::WireFull);
     sure(rt, seat.list().is_empty() && book.history().is_empty());
     is_made(
         rt,
-        book.apply(&mut seat, Call::Read(2)),
+        book.apply(rt, &mut seat, Call::Read(2)),
         1,
         Reply::Refused(3),
     );
@@ -103,11 +114,11 @@ fn lacks_room<K: RunName, R: Abort>(rt: &R, alloc: Global, opened: Opened<Lent>)
 }
 
 /// Asserts that a book isn't closed without its seat; both are handed back.
-fn lacks_its_seat<'n, W: Wire, K: RunName>(
-    rt: &impl Abort,
-    book: Book<'n, W, K>,
+fn lacks_its_seat<'n, W: Wire, K: RunName, R: Wait + Abort + Drop>(
+    rt: &R,
+    book: Book<'n, W, K, R>,
     seats: Vec<Seat<K>>,
-) -> Result<(Book<'n, W, K>, Vec<Seat<K>>), Fail> {
+) -> Result<(Book<'n, W, K, R>, Vec<Seat<K>>), Fail> {
     match book.close(seats) {
         Ok(_) => Err(Fail::from("closed")),
         Err(fault) => {
@@ -118,10 +129,10 @@ fn lacks_its_seat<'n, W: Wire, K: RunName>(
 }
 
 /// A book stays open where its seat is missing, and is closed with it.
-fn closes_with_its_seat_alone<W: Wire, K: RunName, R: Abort>(
+fn closes_with_its_seat_alone<W: Wire, K: RunName, R: Wait + Abort + Drop>(
     rt: &R,
     alloc: Global,
-    book: Book<W, K>,
+    book: Book<W, K, R>,
     seat: Seat<K>,
     entries: &[Entry],
 ) -> Result<(), Fail> {

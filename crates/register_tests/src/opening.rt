@@ -1,17 +1,19 @@
 //! When a register isn't opened.
 
-use crate::support::{Tape, frame, network, sure};
+use crate::support::{frame, network, sure};
 use cm_netlist::Network;
 use cm_nmt::Frame;
 use cm_register::{Book, OpenFault, Register};
+use register_support::Tape;
 use std::alloc::Global;
 use std::marker::Brand;
 use std::process::Abort;
+use std::sync::Wait;
 use std::test::Fail;
 
 /// Asserts what opening comes to, with a wire on which these frames were sent.
-fn opens(
-    rt: &impl Abort,
+fn opens<R: Wait + Abort + Drop + Copy>(
+    rt: &R,
     alloc: Global,
     net: &Network,
     seats: u16,
@@ -20,10 +22,10 @@ fn opens(
     fault: Option<OpenFault>,
 ) -> Result<(), Fail> {
     let wire = Tape::new(alloc, used, 1)?;
-    let book = Book::<Tape, Brand>::open(alloc, net, seats, limit, wire);
+    let book = Book::<Tape, Brand, R>::open(alloc, *rt, net, seats, limit, wire);
     sure(rt, book.err() == fault);
     let wire = Tape::new(alloc, used, 1)?;
-    let register = Register::open(alloc, net, seats, limit, wire);
+    let register = Register::open(alloc, *rt, net, seats, limit, wire);
     sure(rt, register.err() == fault);
     Ok(())
 }

@@ -2,13 +2,14 @@
 
 ghost use Rattle.std.specs.Prelude.{◌≡◌};
 
-use crate::support::{Tape, answers, close, is_made, network, node, sure};
+use crate::support::{is_made, network, node, sure};
 use canboot::replay_text;
 use cm_history::{Call, Reply};
 use cm_netlist::Network;
 use cm_nmt::NodeId;
 use cm_register::{Closed, Opened, Register, RunName, Seat};
 use cm_writer::journal_write;
+use register_support::{Tape, answers, close};
 use std::alloc::Global;
 use std::marker::Brand;
 use std::process::Abort;
@@ -82,7 +83,7 @@ impl<K: RunName> Caller<K> {
     }
 
     /// Makes calls until there are enough.
-    fn call_often<R: Wait>(&mut self, rt: &R, register: &Register<Tape, K>) {
+    fn call_often<R: Wait + Drop>(&mut self, rt: &R, register: &Register<Tape, K, R>) {
         for _ in self.made..CALLS {
             let call = self.next_call();
             if let Ok(receipt) = register.call(rt, &mut self.seat, call) {
@@ -127,13 +128,13 @@ fn seats_of<K: RunName>(
 }
 
 /// Seat 1 starts the network, and then all seats make their calls, four in each thread.
-fn calls<K: RunName + Send + Sync, R: Wait + Threads + Abort + Sync>(
+fn calls<K: RunName + Send + Sync, R: Wait + Threads + Abort + Drop + Copy + Send + Sync>(
     rt: &R,
     alloc: Global,
-    opened: Opened<Tape>,
+    opened: Opened<Tape, R>,
 ) -> Result<Closed<Tape>, Fail>
     requires { (opened.blank.name ≡ K.name) × (opened.seats ≡ K.parts) × (opened.seats ≡ K.seats)
-        × (opened.limit ≡ K.limit) × (opened.net.now ≡ K.net) }
+        × (opened.limit ≡ K.limit) × (opened.net.now ≡ K.net) × (opened.log ≡ K.log) }
 {
     let Ok((register, seats)) = opened.named::<K>() else {
         return Err(Fail::from("named"));
@@ -168,7 +169,7 @@ fn teams_make_65536_calls(rt: HostRuntime) -> Result<(), Fail> {
     let begin = Instant::now(&rt)?;
     let net = full_network(&rt, rt.alloc());
     let wire = Tape::new(rt.alloc(), &[], 100_000)?;
-    let Ok(opened) = Register::open(rt.alloc(), &net, SEATS, LIMIT, wire) else {
+    let Ok(opened) = Register::open(rt.alloc(), rt, &net, SEATS, LIMIT, wire) else {
         return Err(Fail::from("open"));
     };
     let closed = calls::<Brand, _>(&rt, rt.alloc(), opened)?;

@@ -2,9 +2,10 @@
 
 ghost use Rattle.std.specs.Prelude.{◌≡◌};
 
-use crate::support::{Tape, close, is_refused, lacks_seats, network, sure};
+use crate::support::{is_refused, lacks_seats, network, sure};
 use cm_history::{Call, Reply};
 use cm_register::{CallFault, Closed, Opened, Register, RunName, Seat, SeatList};
+use register_support::{Tape, close};
 use std::alloc::Global;
 use std::marker::Brand;
 use std::process::Abort;
@@ -25,7 +26,7 @@ struct Reader<K: RunName> {
 
 impl<K: RunName> Reader<K> {
     /// Reads, before the network is started.
-    fn read_often<R: Wait + Abort>(&mut self, rt: &R, register: &Register<Tape, K>) {
+    fn read_often<R: Wait + Abort + Drop>(&mut self, rt: &R, register: &Register<Tape, K, R>) {
         for _ in 0..self.calls {
             let made = register.call(rt, &mut self.seat, Call::Read(1));
             sure(
@@ -37,10 +38,10 @@ impl<K: RunName> Reader<K> {
 }
 
 /// Each seat reads in a thread of its own.
-fn read_in_threads<K: RunName + Send + Sync, R: Wait + Threads + Abort + Sync>(
+fn read_in_threads<K: RunName + Send + Sync, R: Wait + Threads + Abort + Drop + Send + Sync>(
     rt: &R,
     alloc: Global,
-    register: &Register<Tape, K>,
+    register: &Register<Tape, K, R>,
     seats: Vec<Seat<K>>,
 ) -> Result<Vec<Seat<K>>, Fail> {
     let mut readers = Vec::new(alloc);
@@ -66,9 +67,9 @@ fn seats_of<K: RunName>(alloc: Global, readers: Vec<Reader<K>>) -> Result<Vec<Se
 }
 
 /// Asserts that no seat makes another call.
-fn is_full<K: RunName, R: Wait + Abort>(
+fn is_full<K: RunName, R: Wait + Abort + Drop>(
     rt: &R,
-    register: &Register<Tape, K>,
+    register: &Register<Tape, K, R>,
     seats: &mut [Seat<K>],
 ) {
     for (seat, calls) in seats.iter_mut().zip(CALLS) {
@@ -91,9 +92,9 @@ fn rises(list: &SeatList) -> bool {
 }
 
 /// Closes the register once with too few seats, and then with all.
-fn close_in_two<K: RunName>(
-    rt: &impl Abort,
-    register: Register<Tape, K>,
+fn close_in_two<K: RunName, R: Wait + Abort + Drop>(
+    rt: &R,
+    register: Register<Tape, K, R>,
     mut seats: Vec<Seat<K>>,
 ) -> Result<Closed<Tape>, Fail> {
     let Some(last) = seats.pop() else {
@@ -108,19 +109,19 @@ fn close_in_two<K: RunName>(
 fn seats_call_in_threads(rt: HostRuntime) -> Result<(), Fail> {
     let net = network(&rt, rt.alloc(), 1, &[(2, 0x0D)]);
     let wire = Tape::new(rt.alloc(), &[], 10)?;
-    let Ok(opened) = Register::open(rt.alloc(), &net, 3, 12, wire) else {
+    let Ok(opened) = Register::open(rt.alloc(), rt, &net, 3, 12, wire) else {
         return Err(Fail::from("open"));
     };
     reads::<Brand, _>(&rt, rt.alloc(), opened)
 }
 
-fn reads<K: RunName + Send + Sync, R: Wait + Threads + Abort + Sync>(
+fn reads<K: RunName + Send + Sync, R: Wait + Threads + Abort + Drop + Copy + Send + Sync>(
     rt: &R,
     alloc: Global,
-    opened: Opened<Tape>,
+    opened: Opened<Tape, R>,
 ) -> Result<(), Fail>
     requires { (opened.blank.name ≡ K.name) × (opened.seats ≡ K.parts) × (opened.seats ≡ K.seats)
-        × (opened.limit ≡ K.limit) × (opened.net.now ≡ K.net) }
+        × (opened.limit ≡ K.limit) × (opened.net.now ≡ K.net) × (opened.log ≡ K.log) }
 {
     let Ok((register, seats)) = opened.named::<K>() else {
         return Err(Fail::from("named"));

@@ -1,0 +1,39 @@
+-- The next entry of a history, which a manager that stands for it takes in.
+use Rattle.std.proofs.Common.{◌≡◌, ◌≤◌, ◌<◌, ◌-◌, ◌^◌, ◌+◌, List, [], ◌∷◌, ◌++◌, Option, Some, length, refl, sym, subst, ◌∙◌, arith}
+use Rattle.std.specs.Prelude.{reverse}
+use Rattle.std.proofs.lemmas.List.{length-reverse, reverse-append}
+use mathlib.Core.List.{IsPrefix}
+use Rattle.cm_netlist.specs.Network.{Network, listing}
+use Rattle.cm_history.specs.Answering.{answer_from, answer_of, node_named}
+use Rattle.cm_history.specs.declared.call.Call.{Call}
+use Rattle.cm_history.specs.declared.call.Entry.{Entry}
+use Rattle.cm_history.specs.declared.call.Orders.{Orders}
+use Rattle.cm_history.specs.declared.call.Reply.{Reply}
+use Rattle.cm_history.proofs.LegalHistories.{begun_most}
+use Rattle.cm_sequential.specs.Standing.{IsAnswer, Stands, listing_in, seen_by, sessions_begun}
+use Rattle.cm_sequential.specs.declared.manager.Manager.{Manager}
+use Rattle.cm_sequential.proofs.Standing.{stands_answer}
+use Rattle.cm_past.proofs.Prefixes.{one_longer}
+use Rattle.cm_versions.specs.Operations.{IsLast}
+
+-- the answer that the history gives is the manager's own
+pub own_of_answer : (m : Manager) (net : Network) (past : List Entry) (c : Call) (r : Reply) (o : Orders) → Stands m net past
+    → (r, o) ≡ answer_of (listing net) past c → IsAnswer m c r o
+own_of_answer m net past c r o stands answered =
+    let own : Reply × Orders = answer_from (listing_in m) (seen_by m (node_named c)) c in
+    answered ∙ sym (stands_answer m net past c own.0 own.1 stands refl)
+
+-- a version has begun few sessions, since it has few entries
+pub few_begun : (m : Manager) (net : Network) (h : List Entry) → Stands m net (reverse h) → length h ≤ 65536 → sessions_begun m < 2 ^ 64 - 1
+few_begun m net h stands few = omega (arith, begun_most (reverse h), stands.same_state.begun, length-reverse h, few)
+
+-- a manager that stands for a history with its next entry stands for the longer one
+pub stands_longer : (m : Manager) (net : Network) (h : List Entry) (e : Entry) → Stands m net (e ∷ reverse h) → Stands m net (reverse (h ++ e ∷ []))
+stands_longer m net h e stands = subst (Stands m net) (sym (reverse-append h (e ∷ []))) stands
+
+-- where two versions of one history have lengths one apart, the longer one's last entry is all that the other lacks
+pub next_one : (was now both : List Entry) (last : Option Entry) (e : Entry) → IsPrefix was both → IsPrefix now both → length was + 1 ≡ length now
+    → last ≡ Some e → IsLast now last → now ≡ was ++ e ∷ []
+next_one was now both last e p q one is ends =
+    let end : IsLast now (Some e) = subst (IsLast now) is ends in
+    one_longer was now both end.0 e p q (sym one) end.1

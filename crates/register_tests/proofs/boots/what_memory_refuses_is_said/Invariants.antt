@@ -1,7 +1,0 @@
-use Rattle.register_tests.proofs.boots.what_memory_refuses_is_said.Given as goal
-
-abbrev pub ghosts-boots_or_says_why_not-K-Ledger : goal.ghosts-boots_or_says_why_not-K-Ledger
-ghosts-boots_or_says_why_not-K-Ledger g a = record { name = a.opened.blank.name; parts = a.opened.seats }
-
-abbrev pub ghosts-boots_or_says_why_not-K-RunName : goal.ghosts-boots_or_says_why_not-K-RunName
-ghosts-boots_or_says_why_not-K-RunName g a = record { net = a.opened.net.now; seats = a.opened.seats; limit = a.opened.limit }

@@ -1,7 +1,0 @@
-use Rattle.register_tests.proofs.rounds.a_silent_slave_is_tried_again.Given as goal
-
-abbrev pub ghosts-boots-K-Ledger : goal.ghosts-boots-K-Ledger
-ghosts-boots-K-Ledger g a = record { name = a.opened.blank.name; parts = a.opened.seats }
-
-abbrev pub ghosts-boots-K-RunName : goal.ghosts-boots-K-RunName
-ghosts-boots-K-RunName g a = record { net = a.opened.net.now; seats = a.opened.seats; limit = a.opened.limit }
