@@ -1,5 +1,5 @@
 -- What a seat knows, after a read and after a call. That a beginning of a beginning is one is in base.Growing: prefix_trans.
-use Rattle.std.proofs.Common.{◌≡◌, ℕ, zero, suc, ◌+◌, ◌≤◌, List, [], ◌∷◌, ◌++◌, length, take, drop, refl, sym, ap, subst, ◌∙◌, arith, length-append, length-take}
+use Rattle.std.proofs.Common.{◌≡◌, ℕ, zero, suc, ◌+◌, ◌≤◌, List, [], ◌∷◌, ◌++◌, length, take, drop, refl, sym, ap, subst, ◌∙◌, arith, length-append}
 use Rattle.std.specs.Prelude.{reverse}
 use Rattle.std.proofs.lemmas.List.{take-append-drop, reverse-append}
 use mathlib.Core.List.{IsPrefix}
@@ -14,7 +14,6 @@ use Rattle.cm_past.proofs.Prefixes.{prefix_length}
 use Rattle.cm_register.specs.Knowing.{ArePlaced, IsKnowing, seat_view, told_by}
 use Rattle.cm_register.specs.Reading.{AllBegin, AllLegal, IsKnown, IsToldOf}
 use Rattle.cm_register.specs.SeatCalls.{made}
-use Rattle.cm_register.specs.Views.{SeatView}
 use Rattle.cm_register.specs.declared.seat.Made.{Made}
 use Rattle.cm_register.specs.declared.seat.Receipt.{Receipt}
 

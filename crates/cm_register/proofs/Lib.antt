@@ -3,3 +3,4 @@ pub mod SeatLists
 pub mod Knowing
 pub mod Replies
 pub mod Longer
+pub mod Room

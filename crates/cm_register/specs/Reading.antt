@@ -1,5 +1,5 @@
 -- What a seat sees and is told (own). Histories have their oldest entry first.
-use Rattle.std.specs.Prelude.{◌≡◌, ◌+◌, ℕ, List, [], ◌∷◌, ◌++◌, length, reverse}
+use Rattle.std.specs.Prelude.{◌≡◌, ◌+◌, List, [], ◌∷◌, ◌++◌, length, reverse}
 use mathlib.Core.List.{IsPrefix}
 use Rattle.cm_objects.specs.Listing.{Listing}
 use Rattle.cm_history.specs.Legal.{IsLegal}

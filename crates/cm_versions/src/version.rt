@@ -1,9 +1,10 @@
 //! What readers see.
-ghost use Rattle.std.specs.Prelude.{◌≡◌, ◌<◌, ◌≤◌, ◌++◌, ◌∷◌, [], length, reverse, IfSome};
+ghost use Rattle.std.specs.Prelude.{◌≡◌, ◌<◌, ◌≤◌, ◌++◌, ◌∷◌, [], Some, length, reverse, IfSome, MatchOption};
 ghost use Rattle.cm_netlist.specs.Network.{listing};
 ghost use Rattle.cm_history.specs.Answering.{answer_of};
 ghost use Rattle.cm_history.specs.Legal.{IsAnswered, answered};
 ghost use Rattle.cm_sequential.specs.Standing.{Stands};
+ghost use Rattle.cm_versions.specs.Operations.{IsLast};
 
 use crate::operation::Operation;
 use crate::same_call::is_same_call;
@@ -71,6 +72,14 @@ impl<K: HistoryName> Version<K> {
         self.past.again()
     }
 
+    /// The last entry of the history; `None` where it has none.
+    #[inline(always)]
+    pub fn last(&self) -> Option<&Entry>
+        ensures { MatchOption result (self.now ≡ []) (λ e. IsLast self.now (Some e.now)) }
+    {
+        self.last.as_ref()
+    }
+
     /// The reply and the orders that answer this call after the history.
     #[inline(always)]
     pub fn answer(&self, call: &Call) -> (Reply, Orders)
@@ -132,18 +141,18 @@ impl<K: HistoryName> Absorb<Operation> for Version<K> {
         operation: &Operation,
         _other: &Version<K>,
     ) -> Result<(), AllocError> {
-        let Operation::Call(seat, call) = *operation else {
+        let Operation::Call(seat, call) = operation else {
             return Ok(());
         };
         if self.past.len() >= 65536 {
             return Err(AllocError);
         }
-        let (reply, orders) = self.answer(&call);
+        let (reply, orders) = self.answer(call);
         let entry = Entry {
-            call,
+            call: *call,
             reply,
             orders,
-            seat,
+            seat: *seat,
         };
         let Some(longer) = self.appender.add(&self.past, &entry) else {
             return Err(AllocError);
