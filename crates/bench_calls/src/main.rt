@@ -7,8 +7,7 @@
 use bench_mix::{Random, agreeing, full_network, next_call};
 use cm_history::{Call, Orders, Reply};
 use cm_netlist::Network;
-use cm_nmt::NodeId;
-use cm_objects::Terms;
+use cm_nmt::{NodeId, Terms};
 use cm_sequential::Manager;
 use std::alloc::Global;
 use std::env;

@@ -10,7 +10,7 @@ use bench_mix::full_network;
 use bench_register::{Caller, MOST_ENTRIES, Tape, call_often, listed_terms, open_register};
 use cm_history::Call;
 use cm_netlist::Network;
-use cm_objects::Terms;
+use cm_nmt::Terms;
 use cm_register::{Opened, Register, RunName, Seat};
 use std::env;
 use std::io::{self, Write};

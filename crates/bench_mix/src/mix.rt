@@ -1,9 +1,7 @@
 use arrayvec::ArrayVec;
-use cm_answers::{Answers, Got, Heard};
+use cm_nmt::{Answers, Assignment, Got, Heard, NmtState, NodeId, Startup, Terms, Write};
 use cm_history::{Call, Phase};
 use cm_netlist::{Network, SlaveEntry};
-use cm_nmt::{NmtState, NodeId};
-use cm_objects::{Assignment, Startup, Terms, Write};
 use cm_sequential::Manager;
 use std::alloc::Global;
 

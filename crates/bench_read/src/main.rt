@@ -17,7 +17,7 @@ mod round;
 use bench_mix::full_network;
 use bench_register::{MOST_ENTRIES, listed_terms, open_register};
 use cm_netlist::Network;
-use cm_objects::Terms;
+use cm_nmt::Terms;
 use rate::median;
 use round::{Beside, Plan, run_round};
 use std::alloc::Global;

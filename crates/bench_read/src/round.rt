@@ -4,7 +4,7 @@ use crate::board::Board;
 use crate::rate::rate_of;
 use bench_register::{Caller, Tape, call_often};
 use cm_history::Call;
-use cm_objects::Terms;
+use cm_nmt::Terms;
 use cm_register::{Opened, Register, RunName, Seat};
 use std::rt::Clock;
 use std::sync::Wait;

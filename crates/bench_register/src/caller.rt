@@ -1,8 +1,7 @@
 use bench_mix::agreeing;
 use cm_history::{Call, Reply};
 use cm_netlist::Network;
-use cm_nmt::NodeId;
-use cm_objects::Terms;
+use cm_nmt::{NodeId, Terms};
 use cm_register::{Register, RunName, Seat, Wire};
 use std::alloc::Global;
 use std::sync::Wait;

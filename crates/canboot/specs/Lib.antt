@@ -1,4 +1,3 @@
-pub mod Replay
 pub mod Run
 pub mod Simulated
 pub mod Program

@@ -1,7 +1,7 @@
 -- What the run of a network list does.
 use Rattle.std.specs.Prelude.{◌≡◌, ◌⊎◌, ◌+◌, ℕ, List, Option, Some, None, false}
 use Rattle.std.specs.Io.KnownBytes.{Appends}
-use Rattle.cm_objects.specs.Bits.{has_bit}
+use Rattle.cm_nmt.specs.Bits.{has_bit}
 use Rattle.cm_netlist.specs.Network.{Network}
 use Rattle.cm_history.specs.declared.call.Entry.{Entry}
 use Rattle.cm_format.specs.Text.{content, text}

@@ -4,13 +4,13 @@
 
 mod fitting;
 mod program;
-mod replay;
 mod running;
 mod simulation;
 
-pub use canboot_check::{DONE, FAILED, LONGEST_LIST, REFUSED, check_text};
+pub use canboot_check::{
+    DONE, FAILED, LONGEST_JOURNAL, LONGEST_LIST, MISUSED, REFUSED, check_text, replay_text,
+};
 pub use canboot_words::{NoOrder, Order, read_words};
-pub use program::{MISUSED, run, run_words};
-pub use replay::{LONGEST_JOURNAL, replay_text};
+pub use program::{run, run_words};
 pub use running::run_text;
 pub use simulation::{LONGEST_RUN, Options};

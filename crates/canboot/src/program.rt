@@ -1,10 +1,11 @@
 ghost use Rattle.std.specs.Prelude.{◌≡◌, ◌≤◌, ◌⊎◌};
 ghost use Rattle.canboot.specs.Program.{EndsWithout};
 
-use crate::replay::replay_text;
 use crate::running::run_text;
 use crate::simulation::Options;
-use canboot_check::{FAILED, check_text, fault_line, output_status};
+use canboot_check::{
+    FAILED, MISUSED, check_file, fault_line, output_status, read_fault, replay_text,
+};
 use canboot_words::{NoOrder, Order, read_words};
 use std::alloc::Global;
 use std::io::{self, BufWriter, Read, Write};
@@ -13,9 +14,6 @@ use std::rt::{Env, Files};
 use std::sync::Wait;
 use std::thread::Threads;
 use std::{env, fs};
-
-/// The exit status of a wrong command line.
-pub const MISUSED: u8 = 2;
 
 /// Runs canboot on the words of its command line and its standard input and output, with `err` for
 /// what goes to standard error, and gives its exit status.
@@ -44,7 +42,7 @@ fn run_here<
 }
 
 /// Runs canboot on these words, of which the first is the program's name, with these streams, and
-/// gives its exit status: that of [`check_text`], [`run_text`] or [`replay_text`], 0 for help and the
+/// gives its exit status: that of [`check_file`], [`run_text`] or [`replay_text`], 0 for help and the
 /// version, 2 for wrong words, 3 for a file that can't be opened or made.
 pub fn run_words<
     R: Files + AllocGlobal + Wait + Threads + Drop + Copy + Send + Sync,
@@ -95,19 +93,6 @@ fn show<W: Write>(text: &str, out: &mut W) -> io::Result<()> {
     out.flush()
 }
 
-/// `canboot check`, over the file of this path.
-fn check_file<R: Files + AllocGlobal, W: Write, E: Write>(
-    rt: &R,
-    path: &str,
-    out: &mut W,
-    err: &mut E,
-) -> u8 {
-    match fs::open(rt, path) {
-        Ok(mut file) => check_text(rt.alloc(), &mut file, out, err),
-        Err(error) => read_fault(err, error.kind()),
-    }
-}
-
 /// `canboot run`, over the file of this path. The journal's file, if there is one, is made before the
 /// list is read.
 fn run_file<
@@ -150,15 +135,5 @@ fn write_fault<E: Write>(err: &mut E, kind: io::ErrorKind) -> u8
     match kind {
         io::ErrorKind::OutOfMemory => fault_line(err, FAILED, "out of memory"),
         _ => fault_line(err, FAILED, "write failed"),
-    }
-}
-
-/// The fault of a command line that can't be read, or of a file that can't be opened.
-fn read_fault<E: Write>(err: &mut E, kind: io::ErrorKind) -> u8
-    ensures { result ≡ 3 }
-{
-    match kind {
-        io::ErrorKind::OutOfMemory => fault_line(err, FAILED, "out of memory"),
-        _ => fault_line(err, FAILED, "read failed"),
     }
 }

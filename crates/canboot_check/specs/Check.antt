@@ -8,7 +8,7 @@ use Rattle.cm_text.specs.Words.{line}
 use Rattle.cm_netlist.specs.Network.{Network, listed_ids, is_mandatory, is_kept}
 use Rattle.cm_netlist.specs.Document.{fault_of, text_fault}
 use Rattle.cm_netlist.specs.Named.{network_of}
-use Rattle.cm_input.specs.Input.{ReadsAll}
+use Rattle.cm_text.specs.Input.{ReadsAll}
 use Rattle.canboot_check.specs.declared.check.CheckFault.{CheckFault}
 use Rattle.canboot_check.specs.declared.check.CheckFault.TheVariants as fault
 

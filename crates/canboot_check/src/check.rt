@@ -13,7 +13,7 @@ ghost use Rattle.canboot_check.specs.Check.{
 };
 
 use crate::status::{REFUSED, input_fault_line, output_status};
-use cm_input::{InputFault, read_input};
+use cm_text::{InputFault, read_input};
 use cm_netlist::{NetFault, Network};
 use std::alloc::Global;
 use std::io::{self, Read, Write};

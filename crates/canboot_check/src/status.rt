@@ -1,6 +1,6 @@
 ghost use Rattle.std.specs.Prelude.{◌≡◌, if◌then◌else◌, is_ok};
 
-use cm_input::InputFault;
+use cm_text::InputFault;
 use std::fmt::Display;
 use std::io::{self, Write};
 
@@ -8,6 +8,8 @@ use std::io::{self, Write};
 pub const DONE: u8 = 0;
 /// The exit status of an input that is refused.
 pub const REFUSED: u8 = 1;
+/// The exit status of a wrong command line.
+pub const MISUSED: u8 = 2;
 /// The exit status of a failed read or write, or of want of memory.
 pub const FAILED: u8 = 3;
 

@@ -3,21 +3,21 @@ use Rattle.std.proofs.Common.{◌≡◌, ℕ, suc, zero, ◌<◌, Bool, true, fa
 use Rattle.std.specs.List.{list_all, find, slice_get}
 use Rattle.cm_netlist.specs.Network.{terms_of}
 use Rattle.cm_netlist.specs.declared.entry.SlaveEntry.{SlaveEntry}
-use Rattle.cm_objects.specs.declared.terms.Terms.{Terms}
-use Rattle.cm_answers.specs.Answers.{none, id_of}
-use Rattle.cm_answers.specs.Fields.{fields}
-use Rattle.cm_answers.specs.Conditions.{condition, is_complete, is_lawful, is_proper, is_used, writes_are_counted}
+use Rattle.cm_nmt.specs.declared.terms.Terms.{Terms}
+use Rattle.cm_nmt.specs.Answers.{none, id_of}
+use Rattle.cm_nmt.specs.Fields.{fields}
+use Rattle.cm_nmt.specs.Conditions.{condition, is_complete, is_lawful, is_proper, is_used, writes_are_counted}
 use Rattle.cm_boot.specs.Questions.{question}
 use Rattle.cm_boot.specs.Machine.{Booting, due, next_field, next_step, question_due, step_of, terms}
-use Rattle.cm_answers.specs.Verdict.{judged, verdict}
-use Rattle.cm_answers.specs.declared.answers.Answers.{Answers}
-use Rattle.cm_answers.specs.declared.status.Status.{Status}
+use Rattle.cm_nmt.specs.Verdict.{judged, verdict}
+use Rattle.cm_nmt.specs.declared.answers.Answers.{Answers}
+use Rattle.cm_nmt.specs.declared.status.Status.{Status}
 use Rattle.cm_boot.specs.declared.question.Question.{Question}
 use Rattle.cm_boot.specs.declared.question.Step.TheVariants.{Ask, Done}
 use Rattle.std.proofs.lemmas.Bool.Decides.{nat_tests}
-use Rattle.cm_answers.specs.declared.field.Field.{Field}
-use Rattle.cm_answers.specs.declared.field.Field.TheVariants.{Device, Vendor, Product, Revision, Serial, State, Date, Time, Writes, Beat}
-use Rattle.cm_answers.proofs.Both.{and_left, and_right, both, judged_is}
+use Rattle.cm_nmt.specs.declared.field.Field.{Field}
+use Rattle.cm_nmt.specs.declared.field.Field.TheVariants.{Device, Vendor, Product, Revision, Serial, State, Date, Time, Writes, Beat}
+use Rattle.cm_nmt.proofs.Both.{and_left, and_right, both, judged_is}
 
 passes_step : {X : Type 0} (p : X → Bool) (y x : X) (rest : Option X) → (rest ≡ Some x → p x ≡ true) → (b : Bool) → p y ≡ b → cond b (Some y) rest ≡ Some x → p x ≡ true
 passes_step p y x rest later true is e = let same : y ≡ x = cc in rw (← same) is

@@ -3,16 +3,16 @@ use Rattle.std.proofs.Common.{◌≡◌, ◌∙◌, ℕ, ◌+◌, Bool, true, fa
 use Rattle.std.specs.List.{list_all}
 use Rattle.std.proofs.lemmas.Bool.{false≢true}
 use Rattle.std.proofs.lemmas.Bool.Decides.{nat_tests}
-use Rattle.cm_objects.specs.declared.terms.Terms.{Terms}
-use Rattle.cm_answers.specs.Got.{is_answered}
-use Rattle.cm_answers.specs.Fields.{fields}
-use Rattle.cm_answers.specs.Conditions.{answers_are_due, condition, is_complete, is_proper, is_used, writes_are_counted}
+use Rattle.cm_nmt.specs.declared.terms.Terms.{Terms}
+use Rattle.cm_nmt.specs.Got.{is_answered}
+use Rattle.cm_nmt.specs.Fields.{fields}
+use Rattle.cm_nmt.specs.Conditions.{answers_are_due, condition, is_complete, is_proper, is_used, writes_are_counted}
 use Rattle.cm_boot.specs.Machine.{next_field, with_answer}
-use Rattle.cm_answers.specs.declared.answers.Answers.{Answers}
-use Rattle.cm_answers.specs.declared.field.Field.{Field}
-use Rattle.cm_answers.specs.declared.field.Field.TheVariants.{Device, Vendor, Product, Revision, Serial, State, Date, Time, Writes, Beat}
+use Rattle.cm_nmt.specs.declared.answers.Answers.{Answers}
+use Rattle.cm_nmt.specs.declared.field.Field.{Field}
+use Rattle.cm_nmt.specs.declared.field.Field.TheVariants.{Device, Vendor, Product, Revision, Serial, State, Date, Time, Writes, Beat}
 use Rattle.cm_boot.specs.declared.question.Answer.{Answer}
-use Rattle.cm_answers.proofs.Both.{and_left, and_right, both, all_at}
+use Rattle.cm_nmt.proofs.Both.{and_left, and_right, both, all_at}
 use Rattle.cm_boot.proofs.Due.{find_passes}
 use Rattle.cm_boot.proofs.Order.{place, stands}
 use Rattle.cm_boot.proofs.Stays.{IsKept, by_field, conditions_stay, uses_stay, same_place}

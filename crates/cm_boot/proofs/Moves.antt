@@ -1,25 +1,25 @@
 -- The machine's move is what the tables say: it asks the field that is due, and ends with the verdict.
 use Rattle.std.proofs.Common.{◌≡◌, Bool, true, false, ◌&&◌, ◌||◌, not, ◌==◌, if◌then◌else◌, List, [], ◌∷◌, Option, Some, None, refl, arith}
 use Rattle.std.specs.List.{find}
-use Rattle.cm_objects.specs.Bits.{has_bit}
-use Rattle.cm_objects.specs.declared.terms.Terms.{Terms}
+use Rattle.cm_nmt.specs.Bits.{has_bit}
+use Rattle.cm_nmt.specs.declared.terms.Terms.{Terms}
 use Rattle.cm_nmt.specs.declared.state.NmtState.TheVariants.{Stopped}
-use Rattle.cm_answers.specs.Got.{is_answered, has_value, is_value}
-use Rattle.cm_answers.specs.Heard.{is_heard, is_silent, is_operational, is_other_state}
-use Rattle.cm_answers.specs.Answers.{id_of}
-use Rattle.cm_answers.specs.Fields.{fields}
-use Rattle.cm_answers.specs.Conditions.{condition, is_used, is_complete, is_proper, answers_are_due, writes_are_counted, matches, device_agrees, asks_identity, vendor_agrees, product_agrees, revision_agrees, identity_agrees, may_configure, must_write, comes_to_beat, is_dated, date_agrees, date_differs}
+use Rattle.cm_nmt.specs.Got.{is_answered, has_value, is_value}
+use Rattle.cm_nmt.specs.Heard.{is_heard, is_silent, is_operational, is_other_state}
+use Rattle.cm_nmt.specs.Answers.{id_of}
+use Rattle.cm_nmt.specs.Fields.{fields}
+use Rattle.cm_nmt.specs.Conditions.{condition, is_used, is_complete, is_proper, answers_are_due, writes_are_counted, matches, device_agrees, asks_identity, vendor_agrees, product_agrees, revision_agrees, identity_agrees, may_configure, must_write, comes_to_beat, is_dated, date_agrees, date_differs}
 use Rattle.cm_boot.specs.Machine.{due}
 use Rattle.cm_boot.specs.Procedure.{Move, Asks, Ends, move, move_in, is_configurable, is_wanted, ends_with}
-use Rattle.cm_answers.specs.Verdict.{verdict}
-use Rattle.cm_answers.specs.declared.answers.Answers.{Answers}
-use Rattle.cm_answers.specs.declared.field.Field.{Field}
-use Rattle.cm_answers.specs.declared.field.Field.TheVariants.{Device, Vendor, Product, Revision, Serial, State, Date, Time, Writes, Beat}
-use Rattle.cm_answers.specs.declared.heard.Heard.{Heard}
-use Rattle.cm_answers.specs.declared.heard.Heard.TheVariants as heard
-use Rattle.cm_answers.specs.declared.status.Status.{Status}
-use Rattle.cm_answers.specs.declared.status.Status.TheVariants.{Ok, A, B, C, D, E, F, G, J, K, L, M, N, O}
-use Rattle.cm_answers.proofs.Both.{and_right}
+use Rattle.cm_nmt.specs.Verdict.{verdict}
+use Rattle.cm_nmt.specs.declared.answers.Answers.{Answers}
+use Rattle.cm_nmt.specs.declared.field.Field.{Field}
+use Rattle.cm_nmt.specs.declared.field.Field.TheVariants.{Device, Vendor, Product, Revision, Serial, State, Date, Time, Writes, Beat}
+use Rattle.cm_nmt.specs.declared.heard.Heard.{Heard}
+use Rattle.cm_nmt.specs.declared.heard.Heard.TheVariants as heard
+use Rattle.cm_nmt.specs.declared.status.Status.{Status}
+use Rattle.cm_nmt.specs.declared.status.Status.TheVariants.{Ok, A, B, C, D, E, F, G, J, K, L, M, N, O}
+use Rattle.cm_nmt.proofs.Both.{and_right}
 use Rattle.cm_boot.proofs.Kept.{used_has_condition}
 use Rattle.cm_boot.proofs.Order.{has_value_answered, is_value_answered}
 

@@ -1,20 +1,20 @@
 -- A later field's condition stands on the earlier fields whose conditions hold.
 use Rattle.std.proofs.Common.{◌≡◌, ℕ, Bool, true, ◌&&◌, ◌||◌, not, ◌==◌, refl, arith, nat_lt}
-use Rattle.cm_objects.specs.Bits.{has_bit}
-use Rattle.cm_objects.specs.declared.terms.Terms.{Terms}
+use Rattle.cm_nmt.specs.Bits.{has_bit}
+use Rattle.cm_nmt.specs.declared.terms.Terms.{Terms}
 use Rattle.cm_nmt.specs.declared.state.NmtState.TheVariants.{Stopped, Operational, PreOperational}
-use Rattle.cm_answers.specs.Got.{is_answered, has_value, is_value}
-use Rattle.cm_answers.specs.Heard.{is_heard, is_operational, is_other_state}
-use Rattle.cm_answers.specs.Answers.{id_of}
-use Rattle.cm_answers.specs.Conditions.{asks_identity, comes_to_beat, condition, date_agrees, date_differs, device_agrees, identity_agrees, is_complete, is_used, matches, may_configure, must_write, product_agrees, revision_agrees, vendor_agrees}
-use Rattle.cm_answers.specs.declared.answers.Answers.{Answers}
-use Rattle.cm_answers.specs.declared.got.Got.{Got}
-use Rattle.cm_answers.specs.declared.got.Got.TheVariants as got
-use Rattle.cm_answers.specs.declared.heard.Heard.{Heard}
-use Rattle.cm_answers.specs.declared.heard.Heard.TheVariants as heard
-use Rattle.cm_answers.specs.declared.field.Field.{Field}
-use Rattle.cm_answers.specs.declared.field.Field.TheVariants.{Device, Vendor, Product, Revision, Serial, State, Date, Time, Writes, Beat}
-use Rattle.cm_answers.proofs.Both.{and_left, and_right}
+use Rattle.cm_nmt.specs.Got.{is_answered, has_value, is_value}
+use Rattle.cm_nmt.specs.Heard.{is_heard, is_operational, is_other_state}
+use Rattle.cm_nmt.specs.Answers.{id_of}
+use Rattle.cm_nmt.specs.Conditions.{asks_identity, comes_to_beat, condition, date_agrees, date_differs, device_agrees, identity_agrees, is_complete, is_used, matches, may_configure, must_write, product_agrees, revision_agrees, vendor_agrees}
+use Rattle.cm_nmt.specs.declared.answers.Answers.{Answers}
+use Rattle.cm_nmt.specs.declared.got.Got.{Got}
+use Rattle.cm_nmt.specs.declared.got.Got.TheVariants as got
+use Rattle.cm_nmt.specs.declared.heard.Heard.{Heard}
+use Rattle.cm_nmt.specs.declared.heard.Heard.TheVariants as heard
+use Rattle.cm_nmt.specs.declared.field.Field.{Field}
+use Rattle.cm_nmt.specs.declared.field.Field.TheVariants.{Device, Vendor, Product, Revision, Serial, State, Date, Time, Writes, Beat}
+use Rattle.cm_nmt.proofs.Both.{and_left, and_right}
 
 pub has_value_answered : (g : Got) → has_value g ≡ true → is_answered g ≡ true
 has_value_answered got.NotAsked e = cc

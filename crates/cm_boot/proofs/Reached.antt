@@ -3,28 +3,28 @@ use Rattle.std.proofs.Common.{◌≡◌, ◌∙◌, ◌↔◌, ℕ, suc, zero, �
 use Rattle.std.specs.List.{list_all, find}
 use Rattle.std.proofs.lemmas.Bool.{false≢true}
 use Rattle.std.proofs.lemmas.Bool.Decides.{nat_tests}
-use Rattle.cm_objects.specs.declared.terms.Terms.{Terms}
-use Rattle.cm_answers.specs.Got.{is_answered, is_refusal}
-use Rattle.cm_answers.specs.Heard.{is_heard}
-use Rattle.cm_answers.specs.Answers.{id_of}
-use Rattle.cm_answers.specs.Fields.{fields}
-use Rattle.cm_answers.specs.Conditions.{answers_are_due, asks_identity, comes_to_beat, condition, date_agrees, date_differs, device_agrees, identity_agrees, is_complete, is_dated, is_finished, is_proper, is_used, matches, may_configure, must_write, product_agrees, revision_agrees, vendor_agrees, writes_are_counted}
+use Rattle.cm_nmt.specs.declared.terms.Terms.{Terms}
+use Rattle.cm_nmt.specs.Got.{is_answered, is_refusal}
+use Rattle.cm_nmt.specs.Heard.{is_heard}
+use Rattle.cm_nmt.specs.Answers.{id_of}
+use Rattle.cm_nmt.specs.Fields.{fields}
+use Rattle.cm_nmt.specs.Conditions.{answers_are_due, asks_identity, comes_to_beat, condition, date_agrees, date_differs, device_agrees, identity_agrees, is_complete, is_dated, is_finished, is_proper, is_used, matches, may_configure, must_write, product_agrees, revision_agrees, vendor_agrees, writes_are_counted}
 use Rattle.cm_boot.specs.Machine.{due, got_of, heard_of, next_field, with_answer}
 use Rattle.cm_boot.specs.Procedure.{IsEnd, Reached}
 use Rattle.cm_boot.specs.Procedure.Move.{Asks, Ends}
 use Rattle.cm_boot.specs.Procedure.Reached.{start, more}
-use Rattle.cm_answers.specs.Verdict.{judged, verdict}
-use Rattle.cm_answers.specs.declared.status.Status.{Status}
-use Rattle.cm_answers.specs.declared.answers.Answers.{Answers}
-use Rattle.cm_answers.specs.declared.got.Got.{Got}
-use Rattle.cm_answers.specs.declared.got.Got.TheVariants as got
-use Rattle.cm_answers.specs.declared.heard.Heard.{Heard}
-use Rattle.cm_answers.specs.declared.heard.Heard.TheVariants as heard
-use Rattle.cm_answers.specs.declared.field.Field.{Field}
-use Rattle.cm_answers.specs.declared.field.Field.TheVariants.{Device, Vendor, Product, Revision, Serial, State, Date, Time, Writes, Beat}
+use Rattle.cm_nmt.specs.Verdict.{judged, verdict}
+use Rattle.cm_nmt.specs.declared.status.Status.{Status}
+use Rattle.cm_nmt.specs.declared.answers.Answers.{Answers}
+use Rattle.cm_nmt.specs.declared.got.Got.{Got}
+use Rattle.cm_nmt.specs.declared.got.Got.TheVariants as got
+use Rattle.cm_nmt.specs.declared.heard.Heard.{Heard}
+use Rattle.cm_nmt.specs.declared.heard.Heard.TheVariants as heard
+use Rattle.cm_nmt.specs.declared.field.Field.{Field}
+use Rattle.cm_nmt.specs.declared.field.Field.TheVariants.{Device, Vendor, Product, Revision, Serial, State, Date, Time, Writes, Beat}
 use Rattle.cm_boot.specs.declared.question.Answer.{Answer}
 use Rattle.cm_boot.specs.declared.question.Answer.TheVariants as answer
-use Rattle.cm_answers.proofs.Both.{and_left, and_right, judged_is, all_at}
+use Rattle.cm_nmt.proofs.Both.{and_left, and_right, judged_is, all_at}
 use Rattle.cm_boot.proofs.Due.{judged_from_lawful, lawful_from_due, none_from_lawful, none_is_proper}
 use Rattle.cm_boot.proofs.Moves.{move_is, move_to}
 use Rattle.cm_boot.proofs.Order.{place, stands}

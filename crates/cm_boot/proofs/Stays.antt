@@ -1,16 +1,16 @@
 -- What an answer to a field changes, and what it leaves.
 use Rattle.std.proofs.Common.{◌≡◌, ◌+◌, true, false, ◌==◌, List, [], ◌∷◌, Option, Some, None, refl, subst, arith, nat_le, option_map, slice_set, length}
-use Rattle.cm_objects.specs.declared.terms.Terms.{Terms}
-use Rattle.cm_answers.specs.Got.{is_refusal}
-use Rattle.cm_answers.specs.Answers.{id_of}
-use Rattle.cm_answers.specs.Conditions.{asks_identity, comes_to_beat, condition, date_agrees, date_differs, device_agrees, identity_agrees, is_dated, is_used, matches, may_configure, must_write, product_agrees, revision_agrees, vendor_agrees}
+use Rattle.cm_nmt.specs.declared.terms.Terms.{Terms}
+use Rattle.cm_nmt.specs.Got.{is_refusal}
+use Rattle.cm_nmt.specs.Answers.{id_of}
+use Rattle.cm_nmt.specs.Conditions.{asks_identity, comes_to_beat, condition, date_agrees, date_differs, device_agrees, identity_agrees, is_dated, is_used, matches, may_configure, must_write, product_agrees, revision_agrees, vendor_agrees}
 use Rattle.cm_boot.specs.Machine.{got_of, heard_of, with_answer}
-use Rattle.cm_answers.specs.declared.answers.Answers.{Answers}
-use Rattle.cm_answers.specs.declared.got.Got.{Got}
-use Rattle.cm_answers.specs.declared.got.Got.TheVariants as got
-use Rattle.cm_answers.specs.declared.heard.Heard.{Heard}
-use Rattle.cm_answers.specs.declared.field.Field.{Field}
-use Rattle.cm_answers.specs.declared.field.Field.TheVariants.{Device, Vendor, Product, Revision, Serial, State, Date, Time, Writes, Beat}
+use Rattle.cm_nmt.specs.declared.answers.Answers.{Answers}
+use Rattle.cm_nmt.specs.declared.got.Got.{Got}
+use Rattle.cm_nmt.specs.declared.got.Got.TheVariants as got
+use Rattle.cm_nmt.specs.declared.heard.Heard.{Heard}
+use Rattle.cm_nmt.specs.declared.field.Field.{Field}
+use Rattle.cm_nmt.specs.declared.field.Field.TheVariants.{Device, Vendor, Product, Revision, Serial, State, Date, Time, Writes, Beat}
 use Rattle.cm_boot.specs.declared.question.Answer.{Answer}
 use Rattle.cm_boot.specs.declared.question.Answer.TheVariants as answer
 use Rattle.cm_boot.proofs.Order.{place}

@@ -7,26 +7,26 @@ use Rattle.std.proofs.lemmas.List.{length-append, length-take-le, length-map}
 use Rattle.std.proofs.lemmas.Bool.Decides.{nat_tests}
 use Rattle.cm_netlist.specs.declared.entry.SlaveEntry.{SlaveEntry}
 use Rattle.cm_netlist.specs.Network.{terms_of}
-use Rattle.cm_answers.specs.Got.{is_answered, is_refusal}
-use Rattle.cm_answers.specs.Fields.{fields}
-use Rattle.cm_answers.specs.Conditions.{is_lawful, is_proper, writes_are_counted}
+use Rattle.cm_nmt.specs.Got.{is_answered, is_refusal}
+use Rattle.cm_nmt.specs.Fields.{fields}
+use Rattle.cm_nmt.specs.Conditions.{is_lawful, is_proper, writes_are_counted}
 use Rattle.cm_boot.specs.Questions.{counted, fits, question}
 use Rattle.cm_boot.specs.Machine.{Booting, IsBooting, answered, due, got_of, heard_of, next_field, question_due, terms, with_answer, with_write}
 use Rattle.cm_boot.specs.Talk.{Talks, asked, asked_of, each_of, given, given_state}
-use Rattle.cm_answers.specs.declared.answers.Answers.{Answers}
-use Rattle.cm_answers.specs.declared.got.Got.{Got}
-use Rattle.cm_answers.specs.declared.got.Got.TheVariants as got
-use Rattle.cm_answers.specs.declared.heard.Heard.{Heard}
-use Rattle.cm_answers.specs.declared.heard.Heard.TheVariants as heard
-use Rattle.cm_answers.specs.declared.field.Field.{Field}
-use Rattle.cm_answers.specs.declared.field.Field.TheVariants.{Device, Vendor, Product, Revision, Serial, State, Date, Time, Writes, Beat}
+use Rattle.cm_nmt.specs.declared.answers.Answers.{Answers}
+use Rattle.cm_nmt.specs.declared.got.Got.{Got}
+use Rattle.cm_nmt.specs.declared.got.Got.TheVariants as got
+use Rattle.cm_nmt.specs.declared.heard.Heard.{Heard}
+use Rattle.cm_nmt.specs.declared.heard.Heard.TheVariants as heard
+use Rattle.cm_nmt.specs.declared.field.Field.{Field}
+use Rattle.cm_nmt.specs.declared.field.Field.TheVariants.{Device, Vendor, Product, Revision, Serial, State, Date, Time, Writes, Beat}
 use Rattle.cm_boot.specs.declared.question.Question.{Question}
 use Rattle.cm_boot.specs.declared.question.Question.TheVariants as ask
 use Rattle.cm_boot.specs.declared.question.Answer.{Answer}
 use Rattle.cm_boot.specs.declared.question.Answer.TheVariants as answer
 use Rattle.cm_boot.proofs.Order.{place}
-use Rattle.cm_answers.specs.Answers.{none, id_of}
-use Rattle.cm_answers.proofs.Both.{and_left, both}
+use Rattle.cm_nmt.specs.Answers.{none, id_of}
+use Rattle.cm_nmt.proofs.Both.{and_left, both}
 use Rattle.cm_boot.proofs.Due.{lawful_from_none, question_is_there}
 use Rattle.cm_boot.proofs.Kept.{proper_kept}
 use Rattle.cm_boot.proofs.Stays.{four_stay}

@@ -1,9 +1,9 @@
 -- The questions of a boot, by the objects that they read (CiA 301; the order is that of the fields).
 use Rattle.std.specs.Prelude.{Bool, true, false, ◌==◌, if◌then◌else◌, Option, Some, option_map, slice_get}
 use Rattle.cm_netlist.specs.declared.entry.SlaveEntry.{SlaveEntry}
-use Rattle.cm_answers.specs.declared.answers.Answers.{Answers}
-use Rattle.cm_answers.specs.declared.field.Field.{Field}
-use Rattle.cm_answers.specs.declared.field.Field.TheVariants.{Device, Vendor, Product, Revision, Serial, State, Date, Time, Writes, Beat}
+use Rattle.cm_nmt.specs.declared.answers.Answers.{Answers}
+use Rattle.cm_nmt.specs.declared.field.Field.{Field}
+use Rattle.cm_nmt.specs.declared.field.Field.TheVariants.{Device, Vendor, Product, Revision, Serial, State, Date, Time, Writes, Beat}
 use Rattle.cm_boot.specs.declared.question.Question.{Question}
 use Rattle.cm_boot.specs.declared.question.Question.TheVariants.{Read, Write, StateByBeat, StateByGuard, Beat as AwaitBeat}
 use Rattle.cm_boot.specs.declared.question.Answer.{Answer}

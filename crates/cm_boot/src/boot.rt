@@ -1,17 +1,15 @@
 ghost use Rattle.std.specs.Prelude.{◌≡◌, ◌<◌, ◌≤◌, length, IsErr, OnErr, OnOk, Some, None, option_map, slice_set, true};
 ghost use Rattle.cm_netlist.specs.Network.{entry as entry_of};
-ghost use Rattle.cm_answers.specs.Answers.{none};
-ghost use Rattle.cm_answers.specs.Conditions.{is_proper};
+ghost use Rattle.cm_nmt.specs.Answers.{none};
+ghost use Rattle.cm_nmt.specs.Conditions.{is_proper};
 ghost use Rattle.cm_boot.specs.Machine.{IsBooting, answered, due, got_of, heard_of, next_step, terms as terms_of_boot, with_answer, with_write};
 ghost use Rattle.cm_boot.specs.Procedure.{Reached};
 ghost use Rattle.cm_boot.specs.Questions.{question};
 ghost use Rattle.cm_boot.specs.Talk.{asked};
 
 use crate::{Answer, Question, Step};
-use cm_answers::{Answers, Field, Got, Heard, condition, fields, is_complete, status_of};
+use cm_nmt::{Answers, Field, Got, Heard, NodeId, Terms, condition, fields, is_complete, status_of};
 use cm_netlist::{Network, SlaveEntry};
-use cm_nmt::NodeId;
-use cm_objects::Terms;
 use std::marker::Model;
 use thiserror::Error;
 

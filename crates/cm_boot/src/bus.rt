@@ -1,14 +1,13 @@
 ghost use Rattle.std.specs.Prelude.{◌≡◌, ◌≤◌, ℕ, true, Some, length};
 ghost use Rattle.cm_netlist.specs.Network.{entry as entry_of, terms as terms_in};
-ghost use Rattle.cm_answers.specs.Conditions.{is_lawful};
+ghost use Rattle.cm_nmt.specs.Conditions.{is_lawful};
 ghost use Rattle.cm_boot.specs.Machine.{answered, question_due};
 ghost use Rattle.cm_boot.specs.Questions.{counted};
 ghost use Rattle.cm_boot.specs.Talk.{Talks, asked};
 
 use crate::{Answer, Boot, Question, Step};
-use cm_answers::Answers;
+use cm_nmt::{Answers, NodeId};
 use cm_netlist::Network;
-use cm_nmt::NodeId;
 
 /// A way to ask slaves: SDO transfers, heartbeats and guard requests.
 pub trait Bus: Drop {

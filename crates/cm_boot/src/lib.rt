@@ -20,6 +20,6 @@ mod verdict;
 
 pub use boot::{Boot, WrongAnswer};
 pub use bus::{Bus, boot_slave};
-pub use cm_answers::{Answers, Got, Heard, Status};
+pub use cm_nmt::{Answers, Got, Heard, Status};
 pub use question::{Answer, Question, Step};
 pub use verdict::{judge, judge_terms};

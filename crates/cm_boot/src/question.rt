@@ -1,6 +1,4 @@
-use cm_answers::Status;
-use cm_nmt::NmtState;
-use cm_objects::Write;
+use cm_nmt::{NmtState, Status, Write};
 
 /// What a boot asks of its slave.
 #[derive(Clone, Copy, Debug, PartialEq, Eq)]

@@ -1,12 +1,10 @@
 ghost use Rattle.std.specs.Prelude.{◌≡◌, ◌↔◌, Some};
 ghost use Rattle.cm_netlist.specs.Network.{terms};
 ghost use Rattle.cm_boot.specs.Procedure.{IsEnd};
-ghost use Rattle.cm_answers.specs.Verdict.{judged};
+ghost use Rattle.cm_nmt.specs.Verdict.{judged};
 
-use cm_answers::{Answers, Status, count_ids, judged_by_tables};
+use cm_nmt::{Answers, NodeId, Status, Terms, count_ids, judged_by_tables};
 use cm_netlist::Network;
-use cm_nmt::NodeId;
-use cm_objects::Terms;
 
 /// The status of a boot of the slave that ended with these answers; `None` exactly where no boot
 /// ends with them. `terms` is what is listed of the slave, `None` for one that isn't listed.

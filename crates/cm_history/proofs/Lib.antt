@@ -4,3 +4,7 @@ pub mod PhaseSteps
 pub mod Runs
 pub mod Refused
 mod NodeSets
+mod Identity
+pub mod Started
+pub mod Operational
+mod Shown

@@ -7,8 +7,8 @@ use Rattle.std.specs.List.{range_with_len}
 use Rattle.std.proofs.lemmas.Bool.{cases_eq, cases_lt, cases_order, ne_eqb, eq-eqb}
 use Rattle.std.proofs.lemmas.Nat.Bits.{bit_at-zero, bit_at_and, bit_at_above, bit_at_set_same, bit_at_set_other, bit_at_clear_same, bit_at_clear_other}
 use Rattle.std.proofs.Math.Bool.{and-true, and-false}
-use Rattle.cm_objects.specs.Listing.{node_ids}
-use Rattle.cm_objects.proofs.Ids.{unfold_ids, count_most, count_one}
+use Rattle.cm_nmt.specs.Listing.{node_ids}
+use Rattle.cm_nmt.proofs.Ids.{unfold_ids, count_most, count_one}
 use Rattle.cm_history.specs.History.{is_empty}
 use Rattle.cm_history.proofs.OpenSlaves.{filter_twice}
 

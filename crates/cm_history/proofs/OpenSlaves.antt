@@ -2,10 +2,10 @@
 use Rattle.std.proofs.Common.{◌≡◌, ℕ, List, [], ◌∷◌, refl, sym, cond, Bool, true, false, not, ◌&&◌, ◌||◌, inl, inr}
 use Rattle.std.specs.Prelude.{filter, ◌==◌}
 use Rattle.std.proofs.lemmas.Bool.{cases_Bool}
-use Rattle.cm_objects.specs.Listing.{Listing, is_mandatory, node_ids}
-use Rattle.cm_answers.specs.Status.{is_good}
-use Rattle.cm_answers.specs.declared.answers.Answers.{Answers}
-use Rattle.cm_answers.specs.declared.status.Status.{Status}
+use Rattle.cm_nmt.specs.Listing.{Listing, is_mandatory, node_ids}
+use Rattle.cm_nmt.specs.Status.{is_good}
+use Rattle.cm_nmt.specs.declared.answers.Answers.{Answers}
+use Rattle.cm_nmt.specs.declared.status.Status.{Status}
 use Rattle.cm_history.specs.declared.call.Entry.{Entry}
 use Rattle.cm_history.specs.declared.call.Call.TheVariants as call
 use Rattle.cm_history.specs.declared.call.Reply.TheVariants as reply

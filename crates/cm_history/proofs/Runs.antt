@@ -7,8 +7,8 @@ use Rattle.cm_nmt.specs.Codes.{state_left}
 use Rattle.cm_nmt.specs.declared.command.Command.{Command}
 use Rattle.cm_nmt.specs.declared.command.Command.TheVariants as command
 use Rattle.cm_nmt.specs.declared.state.NmtState.{NmtState}
-use Rattle.cm_objects.specs.Listing.{Listing, is_listed}
-use Rattle.cm_objects.proofs.Ids.{agree_on_ids}
+use Rattle.cm_nmt.specs.Listing.{Listing, is_listed}
+use Rattle.cm_nmt.proofs.Ids.{agree_on_ids}
 use Rattle.cm_history.specs.declared.call.Call.{Call}
 use Rattle.cm_history.specs.declared.call.Reply.{Reply}
 use Rattle.cm_history.specs.declared.call.Orders.{Orders}

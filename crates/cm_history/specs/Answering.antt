@@ -8,11 +8,11 @@ use Rattle.cm_nmt.specs.declared.command.Command.{Command}
 use Rattle.cm_nmt.specs.declared.state.NmtState.{NmtState}
 use Rattle.cm_nmt.specs.declared.state.NmtState.TheVariants as state
 use Rattle.cm_nmt.specs.declared.command.Command.TheVariants as command
-use Rattle.cm_answers.specs.Status.{is_good, is_ok}
-use Rattle.cm_answers.specs.Verdict.{judged}
-use Rattle.cm_answers.specs.declared.status.Status.{Status}
-use Rattle.cm_answers.specs.declared.status.Status.TheVariants as status
-use Rattle.cm_objects.specs.Listing.{Listing, is_listed, is_to_be_booted, is_mandatory, is_master, starts_all_at_once, leaves_operational_to_application, starts_no_slave, resets_all_on_error, stops_all_on_error}
+use Rattle.cm_nmt.specs.Status.{is_good, is_ok}
+use Rattle.cm_nmt.specs.Verdict.{judged}
+use Rattle.cm_nmt.specs.declared.status.Status.{Status}
+use Rattle.cm_nmt.specs.declared.status.Status.TheVariants as status
+use Rattle.cm_nmt.specs.Listing.{Listing, is_listed, is_to_be_booted, is_mandatory, is_master, starts_all_at_once, leaves_operational_to_application, starts_no_slave, resets_all_on_error, stops_all_on_error}
 use Rattle.cm_history.specs.Orders.{to_every, to_node}
 use Rattle.cm_history.specs.Phases.{is_idle, is_booting, is_ready, is_halted}
 use Rattle.cm_history.specs.History.{is_fatal, is_empty, is_reset_value, phase_of, own_of, begun_in, open_of, state_of, is_booted, session_of}

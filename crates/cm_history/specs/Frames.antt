@@ -3,7 +3,7 @@ use Rattle.std.specs.Prelude.{ℕ, Bool, ◌&&◌, not, if◌then◌else◌, Lis
 use Rattle.cm_nmt.specs.declared.command.Command.TheVariants as command
 use Rattle.cm_nmt.specs.declared.frame.Frame.{Frame}
 use Rattle.cm_nmt.specs.declared.frame.Target.TheVariants as target
-use Rattle.cm_objects.specs.Listing.{node_ids, Listing, is_listed, is_kept}
+use Rattle.cm_nmt.specs.Listing.{node_ids, Listing, is_listed, is_kept}
 use Rattle.cm_history.specs.History.{is_empty}
 use Rattle.cm_history.specs.declared.call.Entry.{Entry}
 use Rattle.cm_history.specs.declared.call.Orders.{Orders}

@@ -8,13 +8,13 @@ use Rattle.cm_nmt.specs.Codes.{state_code, state_left, state_of_code}
 use Rattle.cm_nmt.specs.declared.state.NmtState.{NmtState}
 use Rattle.cm_nmt.specs.declared.state.NmtState.TheVariants as state
 use Rattle.cm_nmt.specs.declared.command.Command.{Command}
-use Rattle.cm_objects.specs.Listing.{node_ids, Listing, is_listed, is_mandatory, leaves_operational_to_application}
-use Rattle.cm_answers.specs.Got.{is_answered}
-use Rattle.cm_answers.specs.Status.{is_good, is_missing, is_retried}
-use Rattle.cm_answers.specs.declared.answers.Answers.{Answers}
-use Rattle.cm_answers.specs.declared.heard.Heard.{Heard}
-use Rattle.cm_answers.specs.declared.heard.Heard.TheVariants as heard
-use Rattle.cm_answers.specs.declared.status.Status.{Status}
+use Rattle.cm_nmt.specs.Listing.{node_ids, Listing, is_listed, is_mandatory, leaves_operational_to_application}
+use Rattle.cm_nmt.specs.Got.{is_answered}
+use Rattle.cm_nmt.specs.Status.{is_good, is_missing, is_retried}
+use Rattle.cm_nmt.specs.declared.answers.Answers.{Answers}
+use Rattle.cm_nmt.specs.declared.heard.Heard.{Heard}
+use Rattle.cm_nmt.specs.declared.heard.Heard.TheVariants as heard
+use Rattle.cm_nmt.specs.declared.status.Status.{Status}
 use Rattle.cm_history.specs.Orders.{to_all, is_start_of, is_reset, is_reset_all, is_stop_all}
 use Rattle.cm_history.specs.Phases.{is_booting, is_ready}
 use Rattle.cm_history.specs.declared.call.Call.{Call}

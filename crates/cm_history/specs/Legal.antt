@@ -1,6 +1,6 @@
 -- Which histories are legal (own). A history is given with its newest entry first.
 use Rattle.std.specs.Prelude.{◌≡◌, ℕ, ◌+◌, ◌<◌, List, [], ◌∷◌, length, take, reverse}
-use Rattle.cm_objects.specs.Listing.{Listing}
+use Rattle.cm_nmt.specs.Listing.{Listing}
 use Rattle.cm_history.specs.Answering.{answer_of}
 use Rattle.cm_history.specs.declared.call.Call.{Call}
 use Rattle.cm_history.specs.declared.call.Entry.{Entry}

@@ -6,3 +6,4 @@ pub mod Machine
 pub mod Legal
 pub mod Frames
 pub mod NodeSets
+pub mod Laws

@@ -8,7 +8,7 @@ use Rattle.cm_nmt.specs.Codes.{state_left}
 use Rattle.cm_nmt.specs.declared.state.NmtState.{NmtState}
 use Rattle.cm_nmt.specs.declared.state.NmtState.TheVariants as state
 use Rattle.cm_nmt.specs.declared.command.Command.{Command}
-use Rattle.cm_objects.specs.Listing.{node_ids, Listing, is_listed, is_mandatory}
+use Rattle.cm_nmt.specs.Listing.{node_ids, Listing, is_listed, is_mandatory}
 use Rattle.cm_history.specs.Orders.{to_all}
 use Rattle.cm_history.specs.History.{phase_of, own_of, begun_in, open_of, boots_by, clears_by, sets_by, reports_by, begins_by, begun_number, is_start_by, decides_by, own_by, becomes_operational}
 use Rattle.cm_history.specs.Answering.{Seen, blank_slave, slave_of, node_named, answer_from, answer_of}

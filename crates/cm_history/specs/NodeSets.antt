@@ -1,7 +1,7 @@
 -- What a set of node-IDs holds.
 use Rattle.std.specs.Prelude.{ℕ, Bool, ◌==◌, List, filter}
 use Rattle.std.specs.Int.{bit_at}
-use Rattle.cm_objects.specs.Listing.{node_ids}
+use Rattle.cm_nmt.specs.Listing.{node_ids}
 use Rattle.cm_history.specs.declared.node_set.NodeSet.{NodeSet}
 
 -- node i is in the set

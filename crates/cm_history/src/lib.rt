@@ -2,15 +2,24 @@
 //! node-IDs as the open slaves are, and, in specs/, what a history says, what the answer to a call is
 //! after it, and the frames that orders send.
 //! Nothing here takes memory.
+//! === MERGED
+//! What holds in every legal history, as laws over the definitions alone: no boot starts a slave of
+//! wrong identity, the network becomes operational only with every mandatory slave booted, and the
+//! machine by which the manager is programmed shows its history. And a law of every history: a read is
+//! answered with what the history shows of the node.
 #![tactic(auto)]
 
 mod call;
+mod laws;
 mod node_set;
 mod phase;
 mod refusal;
 mod slave;
 
 pub use call::{ALL_NODES, Call, Entry, Orders, Reply, abort_code};
+pub use laws::{
+    boots_start_rightly, machine_shows_its_history, network_becomes_operational_rightly, reads_show,
+};
 pub use node_set::NodeSet;
 pub use phase::Phase;
 pub use refusal::Refusal;

@@ -1,6 +1,6 @@
 ghost use Rattle.std.specs.Prelude.{◌≡◌, ◌==◌, false, not, ◌&&◌, ◌||◌, ℕ, filter, length};
 ghost use Rattle.std.specs.Int.{bit_at};
-ghost use Rattle.cm_objects.specs.Listing.{node_ids};
+ghost use Rattle.cm_nmt.specs.Listing.{node_ids};
 
 use cm_nmt::NodeId;
 

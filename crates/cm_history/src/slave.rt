@@ -2,8 +2,7 @@ ghost use Rattle.std.specs.Prelude.{◌≡◌};
 ghost use Rattle.cm_history.specs.History.{state_reported};
 ghost use Rattle.cm_history.specs.Answering.{blank_slave, has_session};
 
-use cm_answers::{Answers, Got, Heard, Status};
-use cm_nmt::NmtState;
+use cm_nmt::{Answers, Got, Heard, NmtState, Status};
 
 /// The state of a slave of which nothing is known, as object 1F82h reads it.
 pub const UNKNOWN: u8 = 0;

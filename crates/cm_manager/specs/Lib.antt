@@ -1,4 +1,4 @@
-pub use Rattle.cm_objects.specs.Listing
+pub use Rattle.cm_nmt.specs.Listing
 pub use Rattle.cm_history.specs.Phases
 pub use Rattle.cm_history.specs.Orders
 pub use Rattle.cm_history.specs.History
@@ -6,7 +6,7 @@ pub use Rattle.cm_history.specs.Answering
 pub use Rattle.cm_history.specs.Legal
 pub use Rattle.cm_history.specs.Frames
 pub use Rattle.cm_sequential.specs.Standing
-pub use Rattle.cm_laws.specs.Laws
+pub use Rattle.cm_history.specs.Laws
 pub use Rattle.cm_replay.specs.Compact
 pub use Rattle.cm_format.specs.Text
 pub use Rattle.cm_format.specs.Fits

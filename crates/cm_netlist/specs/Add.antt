@@ -1,8 +1,8 @@
 -- Which entries a network list takes.
 use Rattle.std.specs.Prelude.{ℕ, ◌==◌, not, if◌then◌else◌, Option, Some, None}
-use Rattle.cm_objects.specs.Bits.{has_bit}
+use Rattle.cm_nmt.specs.Bits.{has_bit}
 use Rattle.cm_netlist.specs.Network.{Network, is_listed}
-use Rattle.cm_objects.specs.Write.{all_fit}
+use Rattle.cm_nmt.specs.Write.{all_fit}
 use Rattle.cm_netlist.specs.declared.entry.SlaveEntry.{SlaveEntry}
 use Rattle.cm_netlist.specs.declared.fault.NetFault.{NetFault}
 use Rattle.cm_netlist.specs.declared.fault.NetFault.TheVariants.{DoubleSlave, OwnListed, NotListedBit, ValueTooWide}

@@ -6,11 +6,11 @@ use Rattle.std.specs.List.{filter}
 use Rattle.std.specs.FinMap as map
 use Rattle.std.specs.FinMap.{FinMap}
 use Rattle.cm_nmt.specs.NodeId.{IsNodeId}
-use Rattle.cm_objects.specs.Listing.{Listing, node_ids}
-use Rattle.cm_objects.specs.Bits.{has_bit}
-use Rattle.cm_objects.specs.Write.{all_fit}
+use Rattle.cm_nmt.specs.Listing.{Listing, node_ids}
+use Rattle.cm_nmt.specs.Bits.{has_bit}
+use Rattle.cm_nmt.specs.Write.{all_fit}
 use Rattle.cm_netlist.specs.declared.entry.SlaveEntry.{SlaveEntry}
-use Rattle.cm_objects.specs.declared.terms.Terms.{Terms}
+use Rattle.cm_nmt.specs.declared.terms.Terms.{Terms}
 
 -- the own node-ID, 1F80h, 1F89h, and what is listed of each slave (CiA 302-2)
 pub record Network : Type 0 where

@@ -11,7 +11,7 @@ mod entry;
 mod fault;
 mod network;
 
-pub use cm_objects::{Assignment, Startup, Terms, Write};
+pub use cm_nmt::{Assignment, Startup, Terms, Write};
 pub use entry::SlaveEntry;
 pub use fault::NetFault;
 pub use network::Network;

@@ -5,8 +5,7 @@ ghost use Rattle.cm_netlist.specs.Add.{add_fault};
 
 use crate::{NetFault, SlaveEntry};
 use arrayvec::ArrayVec;
-use cm_nmt::NodeId;
-use cm_objects::{Startup, Terms};
+use cm_nmt::{NodeId, Startup, Terms};
 use std::alloc::Global;
 use std::collections::BTreeMap;
 use std::marker::Model;

@@ -1,0 +1,3 @@
+pub mod Ids
+mod Agreeing
+pub mod Both

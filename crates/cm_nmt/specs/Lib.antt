@@ -1,3 +1,15 @@
 pub mod NodeId
 pub mod Codes
 pub mod Frames
+pub mod Bits
+pub mod Size
+pub mod Write
+pub mod Listing
+pub mod Got
+pub mod Heard
+pub mod Answers
+pub mod Fields
+pub mod Conditions
+pub mod Status
+pub mod Verdict
+pub mod Judging

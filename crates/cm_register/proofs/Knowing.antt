@@ -4,7 +4,7 @@ use Rattle.std.specs.Prelude.{reverse}
 use Rattle.std.proofs.lemmas.List.{take-append-drop, reverse-append}
 use mathlib.Core.List.{IsPrefix}
 use base.Growing.{prefix_trans}
-use Rattle.cm_objects.specs.Listing.{Listing}
+use Rattle.cm_nmt.specs.Listing.{Listing}
 use Rattle.cm_history.specs.Legal.{IsLegal}
 use Rattle.cm_history.specs.declared.call.Call.{Call}
 use Rattle.cm_history.specs.declared.call.Entry.{Entry}

@@ -1,6 +1,6 @@
 -- When a call gets into no history, and when a read shows nothing (own).
 use Rattle.std.specs.Prelude.{◌≡◌, ◌≢◌, ◌<◌, ◌≤◌, ℕ, length, reverse}
-use Rattle.cm_objects.specs.Listing.{Listing}
+use Rattle.cm_nmt.specs.Listing.{Listing}
 use Rattle.cm_history.specs.Answering.{answer_of}
 use Rattle.cm_history.specs.Frames.{frames_of}
 use Rattle.cm_history.specs.declared.call.Call.{Call}

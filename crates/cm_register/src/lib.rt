@@ -17,13 +17,12 @@ mod opened;
 mod register;
 mod run_name;
 mod seat;
-mod wire;
 
 pub use book::Book;
 pub use closing::{BookFault, CloseKind, Closed, SeatList};
+pub use cm_nmt::Wire;
 pub use fault::{CallFault, OpenFault, ReadFault};
 pub use opened::Opened;
 pub use register::{CloseFault, Register};
 pub use run_name::RunName;
 pub use seat::{Made, Receipt, Seat, Seen};
-pub use wire::Wire;

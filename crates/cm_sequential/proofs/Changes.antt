@@ -6,10 +6,10 @@ use Rattle.std.proofs.lemmas.Bool.{cases_Bool, eqb-true, eq-eqb, ne_eqb}
 use Rattle.std.proofs.lemmas.Grind.{common_steps}
 use Rattle.cm_nmt.specs.Codes.{state_left, command_of_request, state_of_code}
 use Rattle.cm_nmt.specs.declared.command.Command.{Command}
-use Rattle.cm_objects.specs.Listing.{Listing, is_listed}
-use Rattle.cm_answers.specs.Status.{is_good}
-use Rattle.cm_answers.specs.declared.answers.Answers.{Answers}
-use Rattle.cm_answers.specs.declared.status.Status.{Status}
+use Rattle.cm_nmt.specs.Listing.{Listing, is_listed}
+use Rattle.cm_nmt.specs.Status.{is_good}
+use Rattle.cm_nmt.specs.declared.answers.Answers.{Answers}
+use Rattle.cm_nmt.specs.declared.status.Status.{Status}
 use Rattle.cm_history.specs.declared.call.Call.{Call}
 use Rattle.cm_history.specs.declared.call.Call.TheVariants as call
 use Rattle.cm_history.specs.declared.call.Reply.{Reply}

@@ -6,8 +6,8 @@ use Rattle.std.proofs.lemmas.Bool.{cases_lt, eq-eqb, false≢true, le-ltb, lt-lt
 use Rattle.cm_nmt.specs.Codes.{command_of_request, state_left, state_of_code}
 use Rattle.cm_nmt.specs.declared.command.Command.{Command}
 use Rattle.cm_nmt.specs.declared.state.NmtState.{NmtState}
-use Rattle.cm_objects.specs.Listing.{Listing, is_listed}
-use Rattle.cm_objects.proofs.Ids.{agree_on_ids}
+use Rattle.cm_nmt.specs.Listing.{Listing, is_listed}
+use Rattle.cm_nmt.proofs.Ids.{agree_on_ids}
 use Rattle.cm_history.specs.declared.call.Call.{Call}
 use Rattle.cm_history.specs.declared.call.Reply.{Reply}
 use Rattle.cm_history.specs.declared.call.Orders.{Orders}

@@ -5,7 +5,7 @@ use Rattle.std.proofs.lemmas.Grind.{common_steps}
 use Rattle.cm_nmt.specs.Codes.{command_of_request}
 use Rattle.cm_nmt.specs.NodeId.{IsNodeId}
 use Rattle.cm_nmt.specs.declared.command.Command.{Command}
-use Rattle.cm_objects.specs.Listing.{Listing, is_listed}
+use Rattle.cm_nmt.specs.Listing.{Listing, is_listed}
 use Rattle.cm_history.specs.declared.call.Call.{Call}
 use Rattle.cm_history.specs.declared.call.Call.TheVariants as call
 use Rattle.cm_history.specs.declared.call.Reply.{Reply}

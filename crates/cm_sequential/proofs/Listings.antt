@@ -8,10 +8,10 @@ use Rattle.std.proofs.lemmas.List.{get_or_past}
 use Rattle.cm_netlist.specs.Network.{Network, IsEntry, IsNetwork, terms_of, listing}
 use Rattle.cm_netlist.specs.Network as network
 use Rattle.cm_netlist.specs.declared.entry.SlaveEntry.{SlaveEntry}
-use Rattle.cm_objects.specs.declared.terms.Terms.{Terms}
+use Rattle.cm_nmt.specs.declared.terms.Terms.{Terms}
 use Rattle.cm_netlist.proofs.Networks.{terms_above, terms_zero}
-use Rattle.cm_objects.specs.Listing.{Listing, is_listed, is_mandatory}
-use Rattle.cm_objects.specs.Bits.{has_bit}
+use Rattle.cm_nmt.specs.Listing.{Listing, is_listed, is_mandatory}
+use Rattle.cm_nmt.specs.Bits.{has_bit}
 use Rattle.cm_history.specs.Machine.{ListsNodes}
 use Rattle.cm_sequential.specs.States.{kept_listing}
 use Rattle.cm_sequential.specs.declared.listing_copy.ListingCopy.{ListingCopy}

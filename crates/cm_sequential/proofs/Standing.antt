@@ -4,8 +4,8 @@ use Rattle.std.specs.Prelude.{nat_lt, ◌+◌}
 use Rattle.std.specs.Option.{is_some}
 use Rattle.std.proofs.lemmas.Bool.{lt-ltb, ltb-true, ltb-false}
 use Rattle.cm_netlist.specs.Network.{Network, listing}
-use Rattle.cm_objects.specs.Listing.{Listing, is_listed, is_mandatory}
-use Rattle.cm_objects.proofs.Ids.{agree_on_ids}
+use Rattle.cm_nmt.specs.Listing.{Listing, is_listed, is_mandatory}
+use Rattle.cm_nmt.proofs.Ids.{agree_on_ids}
 use Rattle.cm_history.specs.declared.call.Call.{Call}
 use Rattle.cm_history.specs.declared.call.Reply.{Reply}
 use Rattle.cm_history.specs.declared.call.Orders.{Orders}

@@ -3,7 +3,7 @@
 use Rattle.std.specs.Prelude.{◌≡◌, ◌<◌, ℕ, Bool, false, ◌==◌, ◌&&◌, ◌||◌, not, if◌then◌else◌, Option, Some, None}
 use Rattle.cm_nmt.specs.Codes.{state_left}
 use Rattle.cm_nmt.specs.declared.command.Command.{Command}
-use Rattle.cm_objects.specs.Listing.{Listing, is_listed, is_mandatory}
+use Rattle.cm_nmt.specs.Listing.{Listing, is_listed, is_mandatory}
 use Rattle.cm_history.specs.Orders.{is_reset}
 use Rattle.cm_history.specs.Machine.{ListsNodes, Machine, after, obeyed, of_nodes, seen_in}
 use Rattle.cm_history.specs.Answering.{first_refusal, granted_answer, node_named, refusals}

@@ -1,7 +1,7 @@
 -- When a manager stands for a history: what its readers show is what the history says (own).
 use Rattle.std.specs.Prelude.{◌≡◌, ◌&&◌, not, ℕ, if◌then◌else◌, List, filter}
 use Rattle.cm_netlist.specs.Network.{Network, IsNetwork, listing}
-use Rattle.cm_objects.specs.Listing.{Listing, is_listed, is_mandatory, node_ids}
+use Rattle.cm_nmt.specs.Listing.{Listing, is_listed, is_mandatory, node_ids}
 use Rattle.cm_history.specs.Answering.{Seen, answer_from, blank_slave, node_named}
 use Rattle.cm_history.specs.declared.call.Call.{Call}
 use Rattle.cm_history.specs.declared.call.Reply.{Reply}

@@ -1,7 +1,7 @@
 -- What the manager keeps, and when it is what a history says (own).
 use Rattle.std.specs.Prelude.{◌≡◌, ◌<◌, ℕ, if◌then◌else◌, ◌==◌, List, Option, Some, None}
 use Rattle.std.specs.List.{slice_index_or}
-use Rattle.cm_objects.specs.Listing.{Listing}
+use Rattle.cm_nmt.specs.Listing.{Listing}
 use Rattle.cm_history.specs.History.{begun_in, is_booted, own_of, phase_of, session_of, state_of}
 use Rattle.cm_history.specs.declared.call.Entry.{Entry}
 use Rattle.cm_history.specs.declared.slave.Slave.{Slave}

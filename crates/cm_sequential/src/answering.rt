@@ -7,9 +7,8 @@ ghost use Rattle.cm_sequential.specs.Standing.{listing_in, open_in, seen_by, IsA
 use crate::effects::is_fatal;
 use crate::manager::Manager;
 use crate::slaves::is_reset;
-use cm_answers::{Answers, Status, judged_listed};
+use cm_nmt::{Answers, Command, NmtState, NodeId, Signal, Status, judged_listed};
 use cm_history::{ALL_NODES, Call, Orders, Refusal, Reply};
-use cm_nmt::{Command, NmtState, NodeId, Signal};
 
 /// A refused call has no orders.
 #[inline(always)]

@@ -1,7 +1,7 @@
 ghost use Rattle.std.specs.Prelude.{◌≡◌, ◌<◌, ◌≤◌, ◌+◌, ◌-◌, ◌^◌, ℕ, true, false, None, Some, if◌then◌else◌, unwrap_or, IsTrue};
 ghost use Rattle.cm_nmt.specs.Codes.{command_of_request, state_left, state_of_code};
-ghost use Rattle.cm_objects.specs.Listing.{is_listed};
-ghost use Rattle.cm_answers.specs.Status.{is_good};
+ghost use Rattle.cm_nmt.specs.Listing.{is_listed};
+ghost use Rattle.cm_nmt.specs.Status.{is_good};
 ghost use Rattle.cm_history.specs.Orders.{is_start_of, is_stop_all, to_every, to_node};
 ghost use Rattle.cm_history.specs.History.{becomes_operational, is_empty, is_fatal, state_reported};
 ghost use Rattle.cm_history.specs.Machine.{phase_then};
@@ -12,9 +12,8 @@ ghost use Rattle.cm_sequential.specs.Kept.{Goes, IsGranted};
 use crate::listing_copy::ListingCopy;
 use crate::slaves::{SlaveTable, is_reset};
 use crate::state::NetworkState;
-use cm_answers::{Answers, Status};
+use cm_nmt::{Answers, Command, NmtState, NodeId, Status};
 use cm_history::{ALL_NODES, Call, MISSING, Orders, Phase, Reply, state_reported};
-use cm_nmt::{Command, NmtState, NodeId};
 
 /// Whether the status halts the boot of the network.
 #[inline(always)]

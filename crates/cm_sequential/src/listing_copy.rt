@@ -6,13 +6,12 @@ ghost use Rattle.cm_sequential.specs.Listed.{listed_mandatory};
 ghost use Rattle.std.specs.List.{slice_index_or};
 ghost use Rattle.std.specs.Option.{option_copied};
 ghost use Rattle.cm_netlist.specs.Network.{listing};
-ghost use Rattle.cm_objects.specs.Listing.{is_listed, is_mandatory, is_to_be_booted};
+ghost use Rattle.cm_nmt.specs.Listing.{is_listed, is_mandatory, is_to_be_booted};
 ghost use Rattle.cm_netlist.specs.Network as network;
 
 use cm_history::NodeSet;
 use cm_netlist::Network;
-use cm_nmt::NodeId;
-use cm_objects::{Startup, Terms};
+use cm_nmt::{NodeId, Startup, Terms};
 
 /// The manager's own copy of its network list, which never changes. The terms of node i stand at
 /// place i.

@@ -1,7 +1,7 @@
 ghost use Rattle.std.specs.Prelude.{◌≡◌, ◌≤◌, ◌<◌, ◌==◌, not, ℕ, Some, length, filter, if◌then◌else◌};
 ghost use Rattle.std.specs.List.{slice_index_or};
 ghost use Rattle.cm_nmt.specs.Codes.{state_left};
-ghost use Rattle.cm_objects.specs.Listing.{Listing};
+ghost use Rattle.cm_nmt.specs.Listing.{Listing};
 ghost use Rattle.cm_history.specs.Answering.{blank_slave};
 ghost use Rattle.cm_history.specs.Machine.{obeyed};
 ghost use Rattle.cm_history.specs.History.{is_empty};

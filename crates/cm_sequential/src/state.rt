@@ -1,6 +1,6 @@
 ghost use Rattle.std.specs.Prelude.{◌≡◌, ◌==◌, false, if◌then◌else◌, List, length};
 ghost use Rattle.cm_nmt.specs.Codes.{state_code};
-ghost use Rattle.cm_objects.specs.Listing.{Listing, is_listed};
+ghost use Rattle.cm_nmt.specs.Listing.{Listing, is_listed};
 ghost use Rattle.cm_history.specs.History.{begun_in, is_booted, own_of, phase_of, session_of, shown, state_of};
 ghost use Rattle.cm_history.specs.Machine.{idle, ListsNodes};
 ghost use Rattle.cm_history.specs.declared.call.Entry.{Entry};

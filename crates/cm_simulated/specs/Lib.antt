@@ -1,2 +1,3 @@
 pub mod Slaves
 pub mod Buses
+pub mod Wires

@@ -1,6 +1,6 @@
 -- What a simulated slave answers (own).
 use Rattle.std.specs.Prelude.{◌==◌, ◌&&◌, ◌-◌, ℕ, Bool, true, nat_lt, if◌then◌else◌, [], ◌∷◌, Option, option_map}
-use Rattle.cm_objects.specs.declared.terms.Terms.{Terms}
+use Rattle.cm_nmt.specs.declared.terms.Terms.{Terms}
 use Rattle.cm_nmt.specs.declared.command.Command.{Command}
 use Rattle.cm_nmt.specs.declared.command.Command.TheVariants as command
 use Rattle.cm_nmt.specs.declared.frame.Frame.{Frame}
@@ -9,8 +9,8 @@ use Rattle.cm_nmt.specs.declared.frame.Target.TheVariants as target
 use Rattle.cm_nmt.specs.declared.state.NmtState.{NmtState}
 use Rattle.cm_nmt.specs.declared.state.NmtState.TheVariants as state
 use Rattle.std.specs.List.{slice_index_or}
-use Rattle.cm_answers.specs.declared.got.Got.{Got}
-use Rattle.cm_answers.specs.declared.got.Got.TheVariants as got
+use Rattle.cm_nmt.specs.declared.got.Got.{Got}
+use Rattle.cm_nmt.specs.declared.got.Got.TheVariants as got
 use Rattle.cm_boot.specs.declared.question.Answer.{Answer}
 use Rattle.cm_boot.specs.declared.question.Answer.TheVariants as answer
 use Rattle.cm_boot.specs.declared.question.Question.{Question}

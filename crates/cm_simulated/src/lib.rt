@@ -1,8 +1,10 @@
-//! Simulated slaves on a bus, for whoever tries a boot without a CAN network.
+//! Simulated slaves on a bus, and a simulated wire, for whoever tries a boot without a CAN network.
 #![tactic(auto)]
 
 mod bus;
 mod slave;
+mod wire;
 
 pub use bus::SimBus;
 pub use slave::SimSlave;
+pub use wire::SimWire;

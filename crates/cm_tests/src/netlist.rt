@@ -3,8 +3,7 @@ ghost use Rattle.std.specs.Prelude.{◌≡◌, []};
 use crate::support::{sure, terms_of};
 use arrayvec::ArrayVec;
 use cm_netlist::{NetFault, Network, SlaveEntry};
-use cm_nmt::{Command, Frame, NmtState, NodeId, Signal, Target};
-use cm_objects::{Assignment, Startup, Terms, Write};
+use cm_nmt::{Assignment, Command, Frame, NmtState, NodeId, Signal, Startup, Target, Terms, Write};
 use std::test::Fail;
 
 fn node(number: u8) -> Result<NodeId, Fail> {

@@ -8,7 +8,7 @@ ghost use Rattle.cm_sequential.specs.Standing.{Stands, sessions_begun};
 use crate::support::{node, sure};
 use cm_history::{Call, Entry};
 use cm_netlist::Network;
-use cm_objects::Startup;
+use cm_nmt::Startup;
 use cm_past::{HistoryName, Past, UnnamedLog};
 use cm_sequential::Manager;
 use std::marker::Brand;

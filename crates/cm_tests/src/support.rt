@@ -1,7 +1,6 @@
 //! What the tests of several topics call.
 
-use cm_nmt::NodeId;
-use cm_objects::{Assignment, Terms};
+use cm_nmt::{Assignment, NodeId, Terms};
 use std::process::Abort;
 
 // Each comparison is asserted here, since an assertion of its own in each place is long to prove.

@@ -6,3 +6,4 @@ pub mod Words
 pub mod Left
 pub mod Reading
 pub mod Ends
+pub mod Input

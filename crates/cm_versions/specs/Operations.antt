@@ -1,6 +1,6 @@
 -- What an operation makes of a history that is given with its oldest entry first (own).
 use Rattle.std.specs.Prelude.{◌≡◌, List, [], ◌∷◌, ◌++◌, Option, None, Some, reverse}
-use Rattle.cm_objects.specs.Listing.{Listing}
+use Rattle.cm_nmt.specs.Listing.{Listing}
 use Rattle.cm_history.specs.Legal.{answered}
 use Rattle.cm_history.specs.declared.call.Entry.{Entry}
 use Rattle.cm_versions.specs.declared.operation.Operation.{Operation}

@@ -1,14 +1,14 @@
 use Rattle.std.proofs.Common.{◌≡◌, ◌∙◌, ◌≤◌, true, Some, Option, ap, sym, subst, arith}
 use Rattle.std.specs.Option.{option_copied}
 use Rattle.cm_netlist.specs.Network.{terms_of}
-use Rattle.cm_objects.specs.declared.terms.Terms.{Terms}
-use Rattle.cm_answers.specs.Conditions.{is_proper}
+use Rattle.cm_nmt.specs.declared.terms.Terms.{Terms}
+use Rattle.cm_nmt.specs.Conditions.{is_proper}
 use Rattle.cm_boot.specs.Machine.{next_field, terms}
 use Rattle.cm_boot.specs.BootView.{view_of}
 use Rattle.cm_boot.proofs.Kept.{proper_kept}
 use Rattle.cm_boot.proofs.Stays.{four_stay}
 use Rattle.cm_boot.proofs.Due.{writes_room}
-use Rattle.cm_answers.specs.declared.field.Field.TheVariants.{Writes}
+use Rattle.cm_nmt.specs.declared.field.Field.TheVariants.{Writes}
 use Rattle.cm_boot.proofs.boot.Boot.answer.Goals as goal
 
 pub invariant_of-self : goal.invariant_of-self

@@ -1,11 +1,11 @@
 use Rattle.std.proofs.Common.{◌≡◌, ◌∙◌, true, Some, None, Option, refl, ap, sym, subst}
 use Rattle.std.specs.Option.{option_copied}
 use Rattle.cm_netlist.specs.Network.{terms_of}
-use Rattle.cm_objects.specs.declared.terms.Terms.{Terms}
+use Rattle.cm_nmt.specs.declared.terms.Terms.{Terms}
 use Rattle.cm_boot.specs.BootView.{view_of}
-use Rattle.cm_answers.specs.Conditions.{is_proper}
+use Rattle.cm_nmt.specs.Conditions.{is_proper}
 use Rattle.cm_boot.specs.Machine.{next_field, terms}
-use Rattle.cm_answers.specs.Verdict.{verdict}
+use Rattle.cm_nmt.specs.Verdict.{verdict}
 use Rattle.cm_boot.proofs.Due.{ask_next, done_next, question_is_there}
 use Rattle.cm_boot.proofs.boot.Boot.next.Goals as goal
 

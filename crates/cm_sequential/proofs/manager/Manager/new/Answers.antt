@@ -1,6 +1,6 @@
 use Rattle.std.proofs.Common.{ap, [], ◌∙◌}
 use Rattle.cm_netlist.specs.Network.{listing}
-use Rattle.cm_objects.specs.Listing.{Listing}
+use Rattle.cm_nmt.specs.Listing.{Listing}
 use Rattle.cm_history.proofs.Runs.{run_said}
 use Rattle.cm_sequential.proofs.Listings.{lists_nodes}
 use Rattle.cm_sequential.proofs.Standing.{said_shown}

@@ -1,2 +1,0 @@
-mod Agreeing
-pub mod Both

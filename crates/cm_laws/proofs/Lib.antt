@@ -1,4 +1,0 @@
-mod Identity
-pub mod Started
-pub mod Operational
-mod Shown

@@ -1,5 +1,0 @@
-use Rattle.cm_laws.proofs.Operational.{network_becomes_operational}
-use Rattle.cm_laws.proofs.laws.network_becomes_operational_rightly.Goals as goal
-
-pub returns : goal.returns
-returns c = record { law = λ net past h. network_becomes_operational net past h }

@@ -1,5 +1,0 @@
-use Rattle.cm_laws.proofs.Shown.{reads_show}
-use Rattle.cm_laws.proofs.laws.reads_show.Goals as goal
-
-pub returns : goal.returns
-returns c = record { law = λ net past node. reads_show net past node }

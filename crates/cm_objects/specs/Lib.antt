@@ -1,4 +1,0 @@
-pub mod Bits
-pub mod Size
-pub mod Write
-pub mod Listing
