@@ -6,7 +6,7 @@ use crate::simulation::Options;
 use canboot_check::{
     FAILED, MISUSED, check_file, fault_line, output_status, read_fault, replay_text,
 };
-use canboot_words::{NoOrder, Order, read_words};
+use canboot_words::{NoAction, Action, read_words};
 use std::alloc::Global;
 use std::io::{self, BufWriter, Read, Write};
 use std::process::ExitCode;
@@ -51,9 +51,9 @@ pub fn run_words<
     E: Write,
 >(rt: &R, words: &[String], input: &mut I, out: &mut W, err: &mut E) -> u8 {
     match read_words(rt.alloc(), words) {
-        Ok(Order::Check { network }) => check_file(rt, network, out, err),
+        Ok(Action::Check { network }) => check_file(rt, network, out, err),
         Ok(
-            Order::Run {
+            Action::Run {
                 network,
                 workers,
                 attempts,
@@ -68,22 +68,22 @@ pub fn run_words<
             };
             run_file(rt, network, options, journal, out, err)
         }
-        Ok(Order::Replay) => replay_text(rt.alloc(), input, out, err),
+        Ok(Action::Replay) => replay_text(rt.alloc(), input, out, err),
         Err(none) => say(&none, out, err),
     }
 }
 
 /// Says why nothing is run: help and the version on `out`, what is wrong on `err`.
-fn say<W: Write, E: Write>(none: &NoOrder, out: &mut W, err: &mut E) -> u8
+fn say<W: Write, E: Write>(none: &NoAction, out: &mut W, err: &mut E) -> u8
     ensures { EndsWithout none.now result }
 {
     match none {
-        NoOrder::Shown(text) => output_status(err, show(text.as_str(), out)),
-        NoOrder::Wrong(text) => {
+        NoAction::Shown(text) => output_status(err, show(text.as_str(), out)),
+        NoAction::Wrong(text) => {
             let _ = err.write_all(text.as_str().as_bytes());
             MISUSED
         }
-        NoOrder::OutOfMemory => fault_line(err, FAILED, "out of memory"),
+        NoAction::OutOfMemory => fault_line(err, FAILED, "out of memory"),
     }
 }
 

@@ -1,5 +1,5 @@
 ghost use Rattle.std.specs.Prelude.{◌≤◌, IfOk};
-ghost use Rattle.canboot_words.specs.Orders.{IsInRange};
+ghost use Rattle.canboot_words.specs.CommandLine.{IsInRange};
 
 use clap::error::ErrorKind;
 use clap::{Arg, ArgMatches, Command, Error, value_parser};
@@ -8,7 +8,7 @@ use std::alloc::{AllocError, Global};
 
 /// What the command line asks for.
 #[derive(Clone, Copy, Debug, PartialEq, Eq)]
-pub enum Order<'a> {
+pub enum Action<'a> {
     /// Read the network list of this path, and print how many slaves it lists.
     Check {
         network: &'a str,
@@ -31,7 +31,7 @@ pub enum Order<'a> {
 
 /// Why a command line asks for no run.
 #[derive(Debug, Drop)]
-pub enum NoOrder {
+pub enum NoAction {
     /// It asks for this text: help, or the version.
     Shown(String),
     /// It is wrong, as this text says.
@@ -295,10 +295,10 @@ fn number_of(given: &ArgMatches<'_>, name: &str, most: u8) -> u8
     }
 }
 
-fn run_order<'a>(given: &ArgMatches<'a>) -> Order<'a>
+fn run_order<'a>(given: &ArgMatches<'a>) -> Action<'a>
     ensures { IsInRange result }
 {
-    Order::Run {
+    Action::Run {
         network: given.get_str("network").unwrap_or(""),
         workers: number_of(given, "workers", 16),
         attempts: number_of(given, "attempts", 10),
@@ -307,43 +307,43 @@ fn run_order<'a>(given: &ArgMatches<'a>) -> Order<'a>
     }
 }
 
-fn order_of<'a>(matches: &ArgMatches<'a>) -> Order<'a>
+fn order_of<'a>(matches: &ArgMatches<'a>) -> Action<'a>
     ensures { IsInRange result }
 {
     match matches.subcommand() {
-        Some(("check", given)) => Order::Check {
+        Some(("check", given)) => Action::Check {
             network: given.get_str("network").unwrap_or(""),
         },
         Some(("run", given)) => run_order(given),
-        _ => Order::Replay,
+        _ => Action::Replay,
     }
 }
 
 /// What `clap` says where it gives no matches.
-fn no_order_of(alloc: Global, error: &Error) -> NoOrder {
+fn no_order_of(alloc: Global, error: &Error) -> NoAction {
     if error.kind() == ErrorKind::OutOfMemory {
-        return NoOrder::OutOfMemory;
+        return NoAction::OutOfMemory;
     }
     match format!(in alloc; "{error}") {
         Ok(text) => {
             if error.use_stderr() {
-                NoOrder::Wrong(text)
+                NoAction::Wrong(text)
             } else {
-                NoOrder::Shown(text)
+                NoAction::Shown(text)
             }
         }
-        Err(_) => NoOrder::OutOfMemory,
+        Err(_) => NoAction::OutOfMemory,
     }
 }
 
 /// Reads the words of a command line; the first is the program's name. The numbers of a run are those
 /// that were given, or 1; where they aren't in range, the command line is wrong.
-pub fn read_words<'a>(alloc: Global, words: &'a [String]) -> Result<Order<'a>, NoOrder>
+pub fn read_words<'a>(alloc: Global, words: &'a [String]) -> Result<Action<'a>, NoAction>
     ensures range { IfOk result IsInRange }
 {
     let parsed = match command(alloc) {
         Ok(command) => command.try_get_matches_from(words),
-        Err(_) => return Err(NoOrder::OutOfMemory),
+        Err(_) => return Err(NoAction::OutOfMemory),
     };
     match parsed {
         Ok(matches) => Ok(order_of(&matches)),

@@ -14,7 +14,7 @@ use Rattle.cm_nmt.specs.Answers.{id_of}
 use Rattle.cm_nmt.specs.Fields.{fields}
 use Rattle.cm_nmt.specs.Conditions.{is_complete, is_proper, is_used}
 use Rattle.cm_boot.specs.Questions.{question}
-use Rattle.cm_boot.specs.Machine.{got_of, heard_of, next_field, with_answer, with_write}
+use Rattle.cm_boot.specs.Progress.{got_of, heard_of, next_field, with_answer, with_write}
 use Rattle.cm_boot.specs.Talk.{asked, asked_of, each_of, given, given_state}
 use Rattle.cm_nmt.specs.declared.answers.Answers.{Answers}
 use Rattle.cm_nmt.specs.declared.got.Got.{Got}
@@ -30,7 +30,7 @@ use Rattle.cm_boot.specs.declared.question.Answer.TheVariants as answer
 use Rattle.cm_nmt.proofs.Both.{and_left, and_right}
 use Rattle.cm_boot.proofs.Order.{place}
 use Rattle.cm_boot.proofs.Stays.{IsKept, by_field, of_four, uses_stay}
-use Rattle.cm_boot.proofs.Kept.{none_later, due_field}
+use Rattle.cm_boot.proofs.Proper.{none_later, due_field}
 
 -- ---- one field
 asks : (e : SlaveEntry) (a : Answers) (v p r s : Got) (f g : Field) → (place g == place f) ≡ false → IsKept (λ b. asked_of e b g ≡ asked_of e (record a { ids = v ∷ p ∷ r ∷ s ∷ [] }) g) (record a { ids = v ∷ p ∷ r ∷ s ∷ [] }) f

@@ -8,7 +8,7 @@ use Rattle.cm_nmt.specs.Answers.{none, id_of}
 use Rattle.cm_nmt.specs.Fields.{fields}
 use Rattle.cm_nmt.specs.Conditions.{condition, is_complete, is_lawful, is_proper, is_used, writes_are_counted}
 use Rattle.cm_boot.specs.Questions.{question}
-use Rattle.cm_boot.specs.Machine.{Booting, due, next_field, next_step, question_due, step_of, terms}
+use Rattle.cm_boot.specs.Progress.{Booting, due, next_field, next_step, question_due, step_of, terms}
 use Rattle.cm_nmt.specs.Verdict.{judged, verdict}
 use Rattle.cm_nmt.specs.declared.answers.Answers.{Answers}
 use Rattle.cm_nmt.specs.declared.status.Status.{Status}

@@ -1,7 +1,7 @@
 pub mod Due
 pub mod Order
 pub mod Stays
-pub mod Kept
+pub mod Proper
 pub mod Moves
 pub mod Asked
 pub mod Talked

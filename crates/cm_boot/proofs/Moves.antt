@@ -9,7 +9,7 @@ use Rattle.cm_nmt.specs.Heard.{is_heard, is_silent, is_operational, is_other_sta
 use Rattle.cm_nmt.specs.Answers.{id_of}
 use Rattle.cm_nmt.specs.Fields.{fields}
 use Rattle.cm_nmt.specs.Conditions.{condition, is_used, is_complete, is_proper, answers_are_due, writes_are_counted, matches, device_agrees, asks_identity, vendor_agrees, product_agrees, revision_agrees, identity_agrees, may_configure, must_write, comes_to_beat, is_dated, date_agrees, date_differs}
-use Rattle.cm_boot.specs.Machine.{due}
+use Rattle.cm_boot.specs.Progress.{due}
 use Rattle.cm_boot.specs.Procedure.{Move, Asks, Ends, move, move_in, is_configurable, is_wanted, ends_with}
 use Rattle.cm_nmt.specs.Verdict.{verdict}
 use Rattle.cm_nmt.specs.declared.answers.Answers.{Answers}
@@ -20,7 +20,7 @@ use Rattle.cm_nmt.specs.declared.heard.Heard.TheVariants as heard
 use Rattle.cm_nmt.specs.declared.status.Status.{Status}
 use Rattle.cm_nmt.specs.declared.status.Status.TheVariants.{Ok, A, B, C, D, E, F, G, J, K, L, M, N, O}
 use Rattle.cm_nmt.proofs.Both.{and_right}
-use Rattle.cm_boot.proofs.Kept.{used_has_condition}
+use Rattle.cm_boot.proofs.Proper.{used_has_condition}
 use Rattle.cm_boot.proofs.Order.{has_value_answered, is_value_answered}
 
 -- a field to ask, or the status to end with

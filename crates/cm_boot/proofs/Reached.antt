@@ -9,7 +9,7 @@ use Rattle.cm_nmt.specs.Heard.{is_heard}
 use Rattle.cm_nmt.specs.Answers.{id_of}
 use Rattle.cm_nmt.specs.Fields.{fields}
 use Rattle.cm_nmt.specs.Conditions.{answers_are_due, asks_identity, comes_to_beat, condition, date_agrees, date_differs, device_agrees, identity_agrees, is_complete, is_dated, is_finished, is_proper, is_used, matches, may_configure, must_write, product_agrees, revision_agrees, vendor_agrees, writes_are_counted}
-use Rattle.cm_boot.specs.Machine.{due, got_of, heard_of, next_field, with_answer}
+use Rattle.cm_boot.specs.Progress.{due, got_of, heard_of, next_field, with_answer}
 use Rattle.cm_boot.specs.Procedure.{IsEnd, Reached}
 use Rattle.cm_boot.specs.Procedure.Move.{Asks, Ends}
 use Rattle.cm_boot.specs.Procedure.Reached.{start, more}
@@ -29,7 +29,7 @@ use Rattle.cm_boot.proofs.Due.{judged_from_lawful, lawful_from_due, none_from_la
 use Rattle.cm_boot.proofs.Moves.{move_is, move_to}
 use Rattle.cm_boot.proofs.Order.{place, stands}
 use Rattle.cm_boot.proofs.Stays.{of_four, four_stay}
-use Rattle.cm_boot.proofs.Kept.{used_has_condition, proper_kept}
+use Rattle.cm_boot.proofs.Proper.{used_has_condition, proper_kept}
 use Rattle.cm_boot.proofs.Asked.{before, after, parts, all_before}
 
 -- ---- what is reached is proper

@@ -4,7 +4,7 @@ use Rattle.cm_nmt.specs.declared.terms.Terms.{Terms}
 use Rattle.cm_nmt.specs.Got.{is_refusal}
 use Rattle.cm_nmt.specs.Answers.{id_of}
 use Rattle.cm_nmt.specs.Conditions.{asks_identity, comes_to_beat, condition, date_agrees, date_differs, device_agrees, identity_agrees, is_dated, is_used, matches, may_configure, must_write, product_agrees, revision_agrees, vendor_agrees}
-use Rattle.cm_boot.specs.Machine.{got_of, heard_of, with_answer}
+use Rattle.cm_boot.specs.Progress.{got_of, heard_of, with_answer}
 use Rattle.cm_nmt.specs.declared.answers.Answers.{Answers}
 use Rattle.cm_nmt.specs.declared.got.Got.{Got}
 use Rattle.cm_nmt.specs.declared.got.Got.TheVariants as got

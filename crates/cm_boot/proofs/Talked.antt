@@ -11,7 +11,7 @@ use Rattle.cm_nmt.specs.Got.{is_answered, is_refusal}
 use Rattle.cm_nmt.specs.Fields.{fields}
 use Rattle.cm_nmt.specs.Conditions.{is_lawful, is_proper, writes_are_counted}
 use Rattle.cm_boot.specs.Questions.{counted, fits, question}
-use Rattle.cm_boot.specs.Machine.{Booting, IsBooting, answered, due, got_of, heard_of, next_field, question_due, terms, with_answer, with_write}
+use Rattle.cm_boot.specs.Progress.{Booting, IsBooting, answers_after, due, got_of, heard_of, next_field, question_due, terms, with_answer, with_write}
 use Rattle.cm_boot.specs.Talk.{Talks, asked, asked_of, each_of, given, given_state}
 use Rattle.cm_nmt.specs.declared.answers.Answers.{Answers}
 use Rattle.cm_nmt.specs.declared.got.Got.{Got}
@@ -28,7 +28,7 @@ use Rattle.cm_boot.proofs.Order.{place}
 use Rattle.cm_nmt.specs.Answers.{none, id_of}
 use Rattle.cm_nmt.proofs.Both.{and_left, both}
 use Rattle.cm_boot.proofs.Due.{lawful_from_none, question_is_there}
-use Rattle.cm_boot.proofs.Kept.{proper_kept}
+use Rattle.cm_boot.proofs.Proper.{proper_kept}
 use Rattle.cm_boot.proofs.Stays.{four_stay}
 use Rattle.cm_boot.proofs.Asked.{asked_more, write_asked, none_of}
 
@@ -155,16 +155,16 @@ due_of b q i = go b.entry refl i
     go (Some e) is i = at e (next_field (terms_of e) b.answers) is refl (subst (λ (o : Option SlaveEntry). option_and_then (λ f. question e b.answers f) (due (option_map terms_of o) b.answers) ≡ Some q) is i)
 
 -- what an answer does, by the field
-answered_by : (b : Booting) (q : Question) (d : Due b q) (x : Answer) → answered b x ≡ with_answer b.answers d.field x
+answered_by : (b : Booting) (q : Question) (d : Due b q) (x : Answer) → answers_after b x ≡ with_answer b.answers d.field x
 answered_by b q d x = subst (λ (o : Option SlaveEntry). option_and_then (λ f. with_answer b.answers f x) (due (option_map terms_of o) b.answers) ≡ with_answer b.answers d.field x) (sym d.listed) (ap (option_and_then (λ f. with_answer b.answers f x)) d.due)
 
 -- an answer that can be recorded counts as it is, and any other as silence
-pub counted_kept : (b : Booting) (q : Question) (y : Answer) (a : Answers) → question_due b ≡ Some q → answered b y ≡ Some a → counted q y ≡ y
+pub counted_kept : (b : Booting) (q : Question) (y : Answer) (a : Answers) → question_due b ≡ Some q → answers_after b y ≡ Some a → counted q y ≡ y
 counted_kept b q y a i h =
     let d = due_of b q i in
     ap (λ z. cond z y answer.Silent) (fits_as d.entry b.answers d.field q y d.asks ∙ (ap is_some (sym (answered_by b q d y)) ∙ ap is_some h))
 
-pub counted_silent : (b : Booting) (q : Question) (y : Answer) → question_due b ≡ Some q → answered b y ≡ None → counted q y ≡ answer.Silent
+pub counted_silent : (b : Booting) (q : Question) (y : Answer) → question_due b ≡ Some q → answers_after b y ≡ None → counted q y ≡ answer.Silent
 counted_silent b q y i h =
     let d = due_of b q i in
     ap (λ z. cond z y answer.Silent) (fits_as d.entry b.answers d.field q y d.asks ∙ (ap is_some (sym (answered_by b q d y)) ∙ ap is_some h))
@@ -172,15 +172,15 @@ counted_silent b q y i h =
 silence_fits : (q : Question) → fits q answer.Silent ≡ true
 silence_fits q = refl
 
-pub silence_kept : (b : Booting) (q : Question) → question_due b ≡ Some q → answered b answer.Silent ≡ None → ⊥
+pub silence_kept : (b : Booting) (q : Question) → question_due b ≡ Some q → answers_after b answer.Silent ≡ None → ⊥
 silence_kept b q i h =
     let d = due_of b q i in
-    let none : is_some (answered b answer.Silent) ≡ false = ap is_some h in
-    let some : is_some (answered b answer.Silent) ≡ true = ap is_some (answered_by b q d answer.Silent) ∙ sym (fits_as d.entry b.answers d.field q answer.Silent d.asks) in
+    let none : is_some (answers_after b answer.Silent) ≡ false = ap is_some h in
+    let some : is_some (answers_after b answer.Silent) ≡ true = ap is_some (answered_by b q d answer.Silent) ∙ sym (fits_as d.entry b.answers d.field q answer.Silent d.asks) in
     cc
 
 -- an answer that is recorded was asked for last
-pub turn_asked : (b : Booting) (q : Question) (x : Answer) (a : Answers) → IsBooting b → question_due b ≡ Some q → answered b x ≡ Some a → asked b.entry a ≡ asked b.entry b.answers ++ (q, x) ∷ []
+pub turn_asked : (b : Booting) (q : Question) (x : Answer) (a : Answers) → IsBooting b → question_due b ≡ Some q → answers_after b x ≡ Some a → asked b.entry a ≡ asked b.entry b.answers ++ (q, x) ∷ []
 turn_asked b q x a h i k =
     let d = due_of b q i in
     let proper = subst (λ (o : Option SlaveEntry). is_proper (option_map terms_of o) b.answers ≡ true) d.listed h.proper in
@@ -192,7 +192,7 @@ pub record Turned {B : Type 0} (step : B → Question → Answer → B → Type 
   pub talk : Talks step old (asked b.entry a) new
   pub more : length (asked b.entry a) ≡ length (asked b.entry b.answers) + 1
 
-pub turn : {B : Type 0} (step : B → Question → Answer → B → Type 0) (old mid new : B) (b : Booting) (q : Question) (y : Answer) (a : Answers) → IsBooting b → question_due b ≡ Some q → answered b (counted q y) ≡ Some a → Talks step old (asked b.entry b.answers) mid → step mid q y new → Turned step old new b a
+pub turn : {B : Type 0} (step : B → Question → Answer → B → Type 0) (old mid new : B) (b : Booting) (q : Question) (y : Answer) (a : Answers) → IsBooting b → question_due b ≡ Some q → answers_after b (counted q y) ≡ Some a → Talks step old (asked b.entry b.answers) mid → step mid q y new → Turned step old new b a
 turn step old mid new b q y a h i k talk s =
     let e = turn_asked b q (counted q y) a h i k in
     record {

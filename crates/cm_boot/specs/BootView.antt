@@ -1,6 +1,6 @@
 -- What contracts see of a `Boot`.
 use Rattle.std.specs.Option.{option_copied}
-use Rattle.cm_boot.specs.Machine.{Booting, IsBooting}
+use Rattle.cm_boot.specs.Progress.{Booting, IsBooting}
 use Rattle.cm_boot.specs.declared.boot.Boot.TheInside.{Inside}
 
 -- the listed entry, without the reference to it, and the answers

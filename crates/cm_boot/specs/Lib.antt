@@ -1,5 +1,5 @@
 pub mod Questions
-pub mod Machine
+pub mod Progress
 pub mod BootView
 pub mod Procedure
 pub mod Talk

@@ -10,7 +10,7 @@ use Rattle.cm_nmt.specs.Heard.{is_operational, is_silent}
 use Rattle.cm_nmt.specs.Answers.{none}
 use Rattle.cm_nmt.specs.Fields.{fields}
 use Rattle.cm_nmt.specs.Conditions.{date_agrees, is_complete, is_dated}
-use Rattle.cm_boot.specs.Machine.{with_answer}
+use Rattle.cm_boot.specs.Progress.{with_answer}
 use Rattle.cm_nmt.specs.Verdict.{is_wrong}
 use Rattle.cm_nmt.specs.declared.answers.Answers.{Answers}
 use Rattle.cm_nmt.specs.declared.field.Field.{Field}

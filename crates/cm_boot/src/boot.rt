@@ -2,7 +2,7 @@ ghost use Rattle.std.specs.Prelude.{◌≡◌, ◌<◌, ◌≤◌, length, IsErr
 ghost use Rattle.cm_netlist.specs.Network.{entry as entry_of};
 ghost use Rattle.cm_nmt.specs.Answers.{none};
 ghost use Rattle.cm_nmt.specs.Conditions.{is_proper};
-ghost use Rattle.cm_boot.specs.Machine.{IsBooting, answered, due, got_of, heard_of, next_step, terms as terms_of_boot, with_answer, with_write};
+ghost use Rattle.cm_boot.specs.Progress.{IsBooting, answers_after, due, got_of, heard_of, next_step, terms as terms_of_boot, with_answer, with_write};
 ghost use Rattle.cm_boot.specs.Procedure.{Reached};
 ghost use Rattle.cm_boot.specs.Questions.{question};
 ghost use Rattle.cm_boot.specs.Talk.{asked};
@@ -30,7 +30,7 @@ pub struct Boot<'n> {
 }
 
 impl<'n> Model for Boot<'n> {
-    ghost use Rattle.cm_boot.specs.Machine.{Booting};
+    ghost use Rattle.cm_boot.specs.Progress.{Booting};
     ghost use Rattle.cm_boot.specs.BootView.{IsKept, view_of};
 
     ghost Value = { Booting };
@@ -122,7 +122,7 @@ fn with_id(answers: &Answers, place: usize, answer: Answer) -> Option<Answers>
 }
 
 /// The answers with this answer in the field; `None` where it doesn't fit the field's question.
-#[tactic(auto, unfolding(crate::specs::Machine::with_answer))]
+#[tactic(auto, unfolding(crate::specs::Progress::with_answer))]
 fn with_answer(answers: &Answers, field: Field, answer: Answer) -> Option<Answers>
     requires { field ≡ Field.Writes → answers.now.acked < 255 }
     ensures { result ≡ with_answer answers.now field answer }
@@ -198,8 +198,8 @@ impl<'n> Boot<'n> {
     /// answer, and each one after the end, is refused and changes nothing.
     pub fn answer(&mut self, answer: Answer) -> Result<(), WrongAnswer>
         ensures entry { self.new.entry ≡ self.old.entry }
-        ensures ok { OnOk result (answered self.old answer ≡ Some self.new.answers) }
-        ensures refused { IsErr result → answered self.old answer ≡ None }
+        ensures ok { OnOk result (answers_after self.old answer ≡ Some self.new.answers) }
+        ensures refused { IsErr result → answers_after self.old answer ≡ None }
         ensures err { OnErr result (self.new ≡ self.old) }
     {
         let Some(entry) = self.entry else {

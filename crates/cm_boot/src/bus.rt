@@ -1,7 +1,7 @@
 ghost use Rattle.std.specs.Prelude.{◌≡◌, ◌≤◌, ℕ, true, Some, length};
 ghost use Rattle.cm_netlist.specs.Network.{entry as entry_of, terms as terms_in};
 ghost use Rattle.cm_nmt.specs.Conditions.{is_lawful};
-ghost use Rattle.cm_boot.specs.Machine.{answered, question_due};
+ghost use Rattle.cm_boot.specs.Progress.{answers_after, question_due};
 ghost use Rattle.cm_boot.specs.Questions.{counted};
 ghost use Rattle.cm_boot.specs.Talk.{Talks, asked};
 
@@ -27,7 +27,7 @@ pub trait Bus: Drop {
 fn take(boot: &mut Boot<'_>, answer: Answer)
     ensures entry { boot.new.entry ≡ boot.old.entry }
     ensures taken { (q : _) → question_due boot.old ≡ Some q
-        → answered boot.old (counted q answer) ≡ Some boot.new.answers }
+        → answers_after boot.old (counted q answer) ≡ Some boot.new.answers }
 {
     match boot.answer(answer) {
         Ok(()) => {}

@@ -17,7 +17,7 @@ use Rattle.cm_history.specs.declared.phase.Phase.{Phase}
 use Rattle.cm_history.specs.declared.slave.Slave.{Slave}
 use Rattle.cm_history.specs.Orders.{to_all, is_reset}
 use Rattle.cm_history.specs.History.{is_booted, session_of, last_set, state_under, sets_by, open_of, phase_of, own_of}
-use Rattle.cm_history.specs.Answering.{Seen, blank_slave, slave_of, node_named, answer_from, answer_of}
+use Rattle.cm_history.specs.Answering.{Lookup, blank_slave, slave_of, node_named, answer_from, answer_of}
 use Rattle.cm_history.specs.Legal.{IsLegal}
 use Rattle.cm_history.specs.Machine.{Machine, of_nodes, open_in, answer_in, obeyed, slave_after, slaves_after, phase_after, own_after, after, step, run, said, ListsNodes, ShowsItsHistory}
 use Rattle.cm_history.proofs.PhaseSteps.{phase_more}
@@ -130,7 +130,7 @@ slave_seen net past i true true h = refl
 slave_seen net past i true false h = let wrong = h refl in cc
 
 pub seen_parts : {p : Phase} {own : NmtState} {b : ℕ} {l l' : List ℕ} {s s' : Slave} → l ≡ l' → s ≡ s'
-    → ◌≡◌ {A = Seen} (record { phase = p; own = own; begun = b; open_slaves = l; slave = s }) (record { phase = p; own = own; begun = b; open_slaves = l'; slave = s' })
+    → ◌≡◌ {A = Lookup} (record { phase = p; own = own; begun = b; open_slaves = l; slave = s }) (record { phase = p; own = own; begun = b; open_slaves = l'; slave = s' })
 seen_parts h k = rw (h, k) refl
 
 pub answer_said : (net : Listing) (past : List Entry) (c : Call) → ListsNodes net → answer_in net (said net past) c ≡ answer_of net past c

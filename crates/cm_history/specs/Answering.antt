@@ -39,7 +39,7 @@ abbrev pub blank_slave : Slave
 blank_slave = record { state = 0; booted = false; session = None }
 
 -- what a history says of the manager, of its open slaves, and of the node that a call names
-pub record Seen : Type 0 where
+pub record Lookup : Type 0 where
   pub phase : Phase
   pub own : NmtState
   pub begun : ℕ
@@ -57,7 +57,7 @@ node_named (call.Request t v) = t
 node_named (call.Read t) = t
 node_named (call.Elapsed ms) = 0
 
-abbrev pub seen_of : Listing → List Entry → ℕ → Seen
+abbrev pub seen_of : Listing → List Entry → ℕ → Lookup
 seen_of net past i = record {
   phase = phase_of net past;
   own = own_of net past;
@@ -87,7 +87,7 @@ has_session (Some m) n = m == n
 --   11 the value is none of 4, 5, 6, 7, 127
 --   12 a start of all or of the manager itself, while a mandatory slave is open
 --   13 a reset of the manager itself
-abbrev pub refusals : Listing → Seen → Call → List (ℕ × Bool)
+abbrev pub refusals : Listing → Lookup → Call → List (ℕ × Bool)
 refusals net s call.StartNetwork = (1, not (is_master net)) ∷ (2, is_booting s.phase || is_ready s.phase) ∷ []
 refusals net s (call.Begin i) =
     (3, is_idle s.phase || is_halted s.phase)
@@ -124,14 +124,14 @@ refusal_number refusal.NotMaster = 1
 refusal_number refusal.AlreadyStarted = 2
 refusal_number refusal.NotStarted = 3
 refusal_number refusal.NotListed = 4
-refusal_number refusal.HasSession = 5
+refusal_number refusal.Busy = 5
 refusal_number refusal.AlreadyBooted = 6
-refusal_number refusal.OtherSession = 7
-refusal_number refusal.NoSuchBoot = 8
-refusal_number refusal.NoSignal = 9
-refusal_number refusal.NoTarget = 10
-refusal_number refusal.NoValue = 11
-refusal_number refusal.OpenSlave = 12
+refusal_number refusal.Stale = 7
+refusal_number refusal.BadReport = 8
+refusal_number refusal.BadState = 9
+refusal_number refusal.BadTarget = 10
+refusal_number refusal.BadValue = 11
+refusal_number refusal.MandatoryOpen = 12
 refusal_number refusal.OwnReset = 13
 
 -- the SDO abort codes of refused requests: invalid value for parameter, not possible in the present device state
@@ -197,7 +197,7 @@ request_orders to_own to_all t (Some c) =
 
 -- what a read of node t shows: of the manager itself its own state, of any other node the slave's, 0 where it isn't
 -- listed
-abbrev pub shown_of : Listing → Seen → ℕ → ℕ
+abbrev pub shown_of : Listing → Lookup → ℕ → ℕ
 shown_of net s t = if t == net.own then state_code s.own else s.slave.state
 
 -- the time for the mandatory slaves is up: they are being booted, one is open, and more ms went by than 1F89h allows,
@@ -213,7 +213,7 @@ signal_reply _ = reply.Noted
 -- ---- the answer
 
 -- the reply and the orders of a call that isn't refused
-abbrev pub granted_answer : Listing → Seen → Call → Reply × Orders
+abbrev pub granted_answer : Listing → Lookup → Call → Reply × Orders
 granted_answer net s call.StartNetwork = (reply.Started, orders.ResetUnkept)
 granted_answer net s (call.Begin i) = (reply.Begun (s.begun + 1), orders.None)
 granted_answer net s (call.Report i n a) =
@@ -233,7 +233,7 @@ refused_or None granted = granted
 refused_or (Some r) granted = (reply.Refused r, orders.None)
 
 -- the answer from what was looked up
-abbrev pub answer_from : Listing → Seen → Call → Reply × Orders
+abbrev pub answer_from : Listing → Lookup → Call → Reply × Orders
 answer_from net s c = refused_or (first_refusal (refusals net s c)) (granted_answer net s c)
 
 -- the answer to the call after the history

@@ -4,6 +4,6 @@ pub mod History
 pub mod Answering
 pub mod Machine
 pub mod Legal
-pub mod Frames
+pub mod OrderFrames
 pub mod NodeSets
 pub mod Laws

@@ -11,7 +11,7 @@ use Rattle.cm_nmt.specs.declared.command.Command.{Command}
 use Rattle.cm_nmt.specs.Listing.{node_ids, Listing, is_listed, is_mandatory}
 use Rattle.cm_history.specs.Orders.{to_all}
 use Rattle.cm_history.specs.History.{phase_of, own_of, begun_in, open_of, boots_by, clears_by, sets_by, reports_by, begins_by, begun_number, is_start_by, decides_by, own_by, becomes_operational}
-use Rattle.cm_history.specs.Answering.{Seen, blank_slave, slave_of, node_named, answer_from, answer_of}
+use Rattle.cm_history.specs.Answering.{Lookup, blank_slave, slave_of, node_named, answer_from, answer_of}
 use Rattle.cm_history.specs.declared.call.Call.{Call}
 use Rattle.cm_history.specs.declared.call.Reply.{Reply}
 use Rattle.cm_history.specs.declared.call.Orders.{Orders}
@@ -43,7 +43,7 @@ open_in net slaves = filter (λ i. is_mandatory net i && not (slaves i).booted) 
 -- ---- the answer
 
 -- what the tables look up
-abbrev pub seen_in : Listing → Machine → ℕ → Seen
+abbrev pub seen_in : Listing → Machine → ℕ → Lookup
 seen_in net m i = record {
   phase = m.phase;
   own = m.own;

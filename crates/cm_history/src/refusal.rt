@@ -13,21 +13,21 @@ pub enum Refusal {
     /// 4: the node isn't listed; for a request, nor the own node-ID nor all.
     NotListed,
     /// 5: the slave has a session.
-    HasSession,
+    Busy,
     /// 6: the slave is booted.
     AlreadyBooted,
     /// 7: the slave has no session of that number.
-    OtherSession,
+    Stale,
     /// 8: no boot of this slave gives these answers.
-    NoSuchBoot,
+    BadReport,
     /// 9: no error control message has this byte.
-    NoSignal,
+    BadState,
     /// 10: no such target.
-    NoTarget,
+    BadTarget,
     /// 11: no such value of 1F82h.
-    NoValue,
+    BadValue,
     /// 12: a mandatory slave isn't booted, so neither all nodes nor the manager are started.
-    OpenSlave,
+    MandatoryOpen,
     /// 13: a reset of the manager itself.
     OwnReset,
 }
@@ -43,14 +43,14 @@ impl Refusal {
             Refusal::AlreadyStarted => 2,
             Refusal::NotStarted => 3,
             Refusal::NotListed => 4,
-            Refusal::HasSession => 5,
+            Refusal::Busy => 5,
             Refusal::AlreadyBooted => 6,
-            Refusal::OtherSession => 7,
-            Refusal::NoSuchBoot => 8,
-            Refusal::NoSignal => 9,
-            Refusal::NoTarget => 10,
-            Refusal::NoValue => 11,
-            Refusal::OpenSlave => 12,
+            Refusal::Stale => 7,
+            Refusal::BadReport => 8,
+            Refusal::BadState => 9,
+            Refusal::BadTarget => 10,
+            Refusal::BadValue => 11,
+            Refusal::MandatoryOpen => 12,
             Refusal::OwnReset => 13,
         }
     }

@@ -4,7 +4,7 @@ pub use Rattle.cm_history.specs.Orders
 pub use Rattle.cm_history.specs.History
 pub use Rattle.cm_history.specs.Answering
 pub use Rattle.cm_history.specs.Legal
-pub use Rattle.cm_history.specs.Frames
+pub use Rattle.cm_history.specs.OrderFrames
 pub use Rattle.cm_sequential.specs.Standing
 pub use Rattle.cm_history.specs.Laws
 pub use Rattle.cm_replay.specs.Compact

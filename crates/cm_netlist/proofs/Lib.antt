@@ -1,5 +1,5 @@
 pub mod Maps
-pub mod Kept
+pub mod Inserts
 pub mod Listed
 pub mod Networks
 mod Items

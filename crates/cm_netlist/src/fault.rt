@@ -1,5 +1,5 @@
 ghost use Rattle.std.specs.Prelude.{◌≡◌, Some};
-ghost use Rattle.cm_netlist.specs.Faults.{number_of, words_of};
+ghost use Rattle.cm_netlist.specs.ListFaults.{number_of, words_of};
 
 use std::error::Error;
 use std::fmt;

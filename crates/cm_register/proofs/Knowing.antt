@@ -12,7 +12,7 @@ use Rattle.cm_history.specs.declared.call.Orders.{Orders}
 use Rattle.cm_history.specs.declared.call.Reply.{Reply}
 use Rattle.cm_past.proofs.Prefixes.{prefix_length}
 use Rattle.cm_register.specs.Knowing.{ArePlaced, IsKnowing, seat_view, told_by}
-use Rattle.cm_register.specs.Reading.{AllBegin, AllLegal, IsKnown, IsToldOf}
+use Rattle.cm_register.specs.Reads.{AllBegin, AllLegal, IsKnown, IsToldOf}
 use Rattle.cm_register.specs.SeatCalls.{made}
 use Rattle.cm_register.specs.declared.seat.Made.{Made}
 use Rattle.cm_register.specs.declared.seat.Receipt.{Receipt}

@@ -9,7 +9,7 @@ use Rattle.std.proofs.lemmas.Grind.{get_or-set_at}
 use Rattle.cm_history.specs.declared.call.Entry.{Entry}
 use Rattle.cm_register.specs.declared.seat.Made.{Made}
 use Rattle.cm_register.specs.SeatCalls.{AreOfSeats, calls_behind, calls_of, made}
-use Rattle.cm_register.specs.Kept.{AreCounts}
+use Rattle.cm_register.specs.BookInvariant.{AreCounts}
 
 -- the call of an entry that stands behind n others
 abbrev made_by : ℕ → Entry → Made

@@ -1,7 +1,7 @@
 //! What is compared where a register closes: the seats' lists, and what they know, with the history.
 ghost use Rattle.std.specs.Prelude.{◌≡◌, ◌<◌, ◌^◌, ◌↔◌, length, IsTrue, Some, slice_get};
 ghost use Rattle.cm_register.specs.Closing.{AreApart, HaveTheirCalls};
-ghost use Rattle.cm_register.specs.Reading.{AllKnown, IsKnown};
+ghost use Rattle.cm_register.specs.Reads.{AllKnown, IsKnown};
 ghost use Rattle.cm_register.specs.SeatCalls.{calls_of};
 
 use crate::run_name::RunName;

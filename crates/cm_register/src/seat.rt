@@ -3,9 +3,9 @@ ghost use mathlib.Core.List.{IsPrefix};
 ghost use Rattle.cm_netlist.specs.Network.{listing};
 ghost use Rattle.cm_history.specs.History.{shown};
 ghost use Rattle.cm_history.specs.Legal.{IsLegal};
-ghost use Rattle.cm_register.specs.Faults.{IsReadCause, IsTarget};
+ghost use Rattle.cm_register.specs.Causes.{IsReadCause, IsTarget};
 ghost use Rattle.cm_register.specs.Opening.{fresh_seat};
-ghost use Rattle.cm_register.specs.Reading.{AllBegin, AllLegal, HasSameCalls};
+ghost use Rattle.cm_register.specs.Reads.{AllBegin, AllLegal, HasSameCalls};
 
 use crate::fault::ReadFault;
 use crate::run_name::RunName;

@@ -21,7 +21,7 @@ use Rattle.cm_history.specs.History.{is_reset_value, state_reported, state_reque
 use Rattle.cm_history.specs.Answering.{node_named}
 use Rattle.cm_history.specs.Machine.{obeyed, slave_after}
 use Rattle.cm_history.proofs.Refused.{and_false, names_all, unreached}
-use Rattle.cm_sequential.specs.Kept.{boot_ended, cleared, in_state, obeying, obeying_alone}
+use Rattle.cm_sequential.specs.Changes.{boot_ended, cleared, in_state, obeying, obeying_alone}
 
 -- what isn't listed has no state
 abbrev pub Unlisted : Listing → ℕ → Slave → Type 0

@@ -24,7 +24,7 @@ use Rattle.cm_history.proofs.Refused.{names_all, own_still, phase_same}
 use Rattle.cm_history.specs.Machine.{begun_after, of_nodes, open_in, own_after, phase_after, slave_after, slaves_after}
 use Rattle.cm_history.specs.NodeSets.{members_of}
 use Rattle.cm_sequential.specs.States.{kept_slave}
-use Rattle.cm_sequential.specs.Kept.{at_node, cleared, in_state, obeying_alone, Goes, IsCounted}
+use Rattle.cm_sequential.specs.Changes.{at_node, cleared, in_state, obeying_alone, Goes, IsCounted}
 use Rattle.cm_sequential.specs.declared.slaves.SlaveTable.{SlaveTable}
 use Rattle.cm_sequential.specs.declared.state.NetworkState.{NetworkState}
 use Rattle.cm_sequential.proofs.Changes.{asked_alone, requested, set_named, Unlisted}

@@ -15,17 +15,17 @@ use Rattle.cm_history.specs.declared.call.Orders.TheVariants as orders
 use Rattle.cm_history.specs.declared.slave.Slave.{Slave}
 use Rattle.cm_history.specs.Orders.{to_every}
 use Rattle.cm_history.specs.History.{is_granted}
-use Rattle.cm_history.specs.Answering.{Seen, blank_slave, first_refusal, granted_answer, node_named, refusals, refused_or}
+use Rattle.cm_history.specs.Answering.{Lookup, blank_slave, first_refusal, granted_answer, node_named, refusals, refused_or}
 use Rattle.cm_history.specs.Machine.{answer_in, after, seen_in}
 use Rattle.cm_history.proofs.Refused.{after_refused, own_still, phase_same, state_stays}
 use Rattle.cm_sequential.specs.States.{kept_slave}
-use Rattle.cm_sequential.specs.Kept.{machine, Fits, Goes, GoneOn, IsGranted}
+use Rattle.cm_sequential.specs.Changes.{machine, Fits, Goes, GoneOn, IsGranted}
 use Rattle.cm_sequential.specs.declared.state.NetworkState.{NetworkState}
 use Rattle.cm_sequential.proofs.Going.{goes}
 
 -- ---- replies
 
-granted_reply : (net : Listing) (s : Seen) (c : Call) → is_granted (granted_answer net s c).0 ≡ true
+granted_reply : (net : Listing) (s : Lookup) (c : Call) → is_granted (granted_answer net s c).0 ≡ true
 granted_reply net s call.StartNetwork = refl
 granted_reply net s (call.Begin id) = refl
 granted_reply net s (call.Report id number a) = refl
@@ -47,7 +47,7 @@ is_granted_by net s c r o e g =
     record { unrefused = parts.0; answer = parts.1 }
 
 -- a refusal has no orders
-refused_parts : (net : Listing) (s : Seen) (c : Call) (q : Option ℕ) (r : Reply) (o : Orders) → (r, o) ≡ refused_or q (granted_answer net s c) → is_granted r ≡ false
+refused_parts : (net : Listing) (s : Lookup) (c : Call) (q : Option ℕ) (r : Reply) (o : Orders) → (r, o) ≡ refused_or q (granted_answer net s c) → is_granted r ≡ false
     → (n : ℕ) × ◌≡◌ {A = Reply × Orders} (r, o) (reply.Refused n, orders.None)
 refused_parts net s c None r o e f = absurd (false≢true (sym f ∙ ap (λ (p : Reply × Orders). is_granted p.0) e ∙ granted_reply net s c))
 refused_parts net s c (Some n) r o e f = (n, e)

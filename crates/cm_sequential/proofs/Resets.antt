@@ -5,7 +5,7 @@ use Rattle.std.proofs.lemmas.Grind.{common_steps}
 use Rattle.cm_netlist.specs.Network.{Network, listed_ids, listing}
 use Rattle.cm_netlist.specs.Network as network
 use Rattle.cm_nmt.specs.Listing.{is_kept, node_ids}
-use Rattle.cm_history.specs.Frames.{is_unkept}
+use Rattle.cm_history.specs.OrderFrames.{is_unkept}
 use Rattle.cm_history.specs.History.{is_empty}
 use Rattle.cm_history.proofs.OpenSlaves.{filter_twice}
 

@@ -17,7 +17,7 @@ use Rattle.cm_history.specs.Machine.{Machine, after, answer_in, begun_after, sai
 use Rattle.cm_history.proofs.Runs.{answer_said, machine_parts, machine_step, seen_parts}
 use Rattle.cm_sequential.specs.States.{kept_slave, Shows}
 use Rattle.cm_sequential.specs.Standing.{IsAnswer, listing_in, open_in, seen_by, Stands}
-use Rattle.cm_sequential.specs.Kept.{machine, GoneOn}
+use Rattle.cm_sequential.specs.Changes.{machine, GoneOn}
 use Rattle.cm_history.specs.NodeSets.{members_of}
 use Rattle.cm_sequential.proofs.Listings.{lists_nodes}
 use Rattle.cm_sequential.specs.declared.manager.Manager.{Manager}

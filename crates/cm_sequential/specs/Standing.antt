@@ -2,7 +2,7 @@
 use Rattle.std.specs.Prelude.{◌≡◌, ◌&&◌, not, ℕ, if◌then◌else◌, List, filter}
 use Rattle.cm_netlist.specs.Network.{Network, IsNetwork, listing}
 use Rattle.cm_nmt.specs.Listing.{Listing, is_listed, is_mandatory, node_ids}
-use Rattle.cm_history.specs.Answering.{Seen, answer_from, blank_slave, node_named}
+use Rattle.cm_history.specs.Answering.{Lookup, answer_from, blank_slave, node_named}
 use Rattle.cm_history.specs.declared.call.Call.{Call}
 use Rattle.cm_history.specs.declared.call.Reply.{Reply}
 use Rattle.cm_history.specs.declared.call.Orders.{Orders}
@@ -29,7 +29,7 @@ abbrev pub open_in : Manager → List ℕ
 open_in m = filter (λ i. is_mandatory (listing_in m) i && not (kept_slave m.state.slaves i).booted) node_ids
 
 -- what the tables of the answers look up, as the manager has it
-abbrev pub seen_by : Manager → ℕ → Seen
+abbrev pub seen_by : Manager → ℕ → Lookup
 seen_by m i = record {
   phase = m.state.phase;
   own = m.state.own;

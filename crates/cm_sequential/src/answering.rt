@@ -88,7 +88,7 @@ impl Manager {
             return refused(Refusal::NotListed);
         }
         if self.state.slaves.session(id).is_some() {
-            return refused(Refusal::HasSession);
+            return refused(Refusal::Busy);
         }
         if self.state.slaves.booted(id) {
             return refused(Refusal::AlreadyBooted);
@@ -158,11 +158,11 @@ impl Manager {
             return refused(Refusal::NotListed);
         };
         if self.state.slaves.session(id) != Some(number) {
-            return refused(Refusal::OtherSession);
+            return refused(Refusal::Stale);
         }
         match judged_listed(terms, answers) {
             Some(status) => (Reply::Reported(status), self.report_orders(id, status)),
-            None => refused(Refusal::NoSuchBoot),
+            None => refused(Refusal::BadReport),
         }
     }
 
@@ -181,7 +181,7 @@ impl Manager {
         match Signal::read(byte) {
             Some(Signal::BootUp) => (Reply::BootAgain, Orders::None),
             Some(Signal::State(_)) => (Reply::Noted, Orders::None),
-            None => refused(Refusal::NoSignal),
+            None => refused(Refusal::BadState),
         }
     }
 
@@ -230,10 +230,10 @@ impl Manager {
             return refused(Refusal::NotStarted);
         }
         if target == 0 || ALL_NODES < target {
-            return refused(Refusal::NoTarget);
+            return refused(Refusal::BadTarget);
         }
         let Some(command) = Command::of_request(value) else {
-            return refused(Refusal::NoValue);
+            return refused(Refusal::BadValue);
         };
         let to_own = target == self.listing.own_id().get();
         let to_self_or_all = to_own || target == ALL_NODES;
@@ -241,7 +241,7 @@ impl Manager {
             return refused(Refusal::NotListed);
         }
         if command == Command::Start && to_self_or_all && !self.none_open() {
-            return refused(Refusal::OpenSlave);
+            return refused(Refusal::MandatoryOpen);
         }
         if to_own && is_reset(command) {
             return refused(Refusal::OwnReset);
@@ -260,7 +260,7 @@ impl Manager {
         }
         match NodeId::new(target) {
             Some(id) => (Reply::State(self.state.shown(id)), Orders::None),
-            None => refused(Refusal::NoTarget),
+            None => refused(Refusal::BadTarget),
         }
     }
 

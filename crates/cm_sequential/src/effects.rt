@@ -7,7 +7,7 @@ ghost use Rattle.cm_history.specs.History.{becomes_operational, is_empty, is_fat
 ghost use Rattle.cm_history.specs.Machine.{phase_then};
 ghost use Rattle.cm_history.specs.NodeSets.{members_of};
 ghost use Rattle.cm_sequential.specs.States.{kept_listing};
-ghost use Rattle.cm_sequential.specs.Kept.{Goes, IsGranted};
+ghost use Rattle.cm_sequential.specs.Changes.{Goes, IsGranted};
 
 use crate::listing_copy::ListingCopy;
 use crate::slaves::{SlaveTable, is_reset};

@@ -4,7 +4,7 @@ ghost use Rattle.cm_history.specs.History.{begun_in, state_of, own_of, phase_of,
 ghost use Rattle.cm_history.specs.Answering.{answer_of};
 ghost use Rattle.cm_history.specs.declared.call.Entry.{Entry};
 ghost use Rattle.cm_sequential.specs.States.{kept_listing, Shows};
-ghost use Rattle.cm_sequential.specs.Kept.{Fits};
+ghost use Rattle.cm_sequential.specs.Changes.{Fits};
 
 use crate::listing_copy::ListingCopy;
 use crate::state::NetworkState;

@@ -2,7 +2,7 @@ ghost use Rattle.std.specs.Prelude.{◌≡◌, filter, map};
 ghost use Rattle.cm_nmt.specs.Listing.{node_ids, is_kept};
 ghost use Rattle.cm_netlist.specs.Network.{listing};
 ghost use Rattle.cm_history.specs.History.{is_empty};
-ghost use Rattle.cm_history.specs.Frames.{frames_of, is_unkept, reset_of};
+ghost use Rattle.cm_history.specs.OrderFrames.{frames_of, is_unkept, reset_of};
 
 use arrayvec::ArrayVec;
 use cm_history::Orders;

@@ -8,7 +8,7 @@ ghost use Rattle.cm_history.specs.History.{is_empty};
 ghost use Rattle.cm_history.specs.Orders.{is_reset};
 ghost use Rattle.cm_history.specs.NodeSets.{members_of};
 ghost use Rattle.cm_sequential.specs.States.{kept_listing, kept_slave, session_numbered};
-ghost use Rattle.cm_sequential.specs.Kept.{at_node, boot_ended, cleared, in_session, in_state, obeying, obeying_alone, IsCounted};
+ghost use Rattle.cm_sequential.specs.Changes.{at_node, boot_ended, cleared, in_session, in_state, obeying, obeying_alone, IsCounted};
 
 use crate::listing_copy::ListingCopy;
 use cm_history::{MISSING, NodeSet, UNKNOWN};

@@ -6,7 +6,7 @@ ghost use Rattle.cm_history.specs.Machine.{idle, ListsNodes};
 ghost use Rattle.cm_history.specs.declared.call.Entry.{Entry};
 ghost use Rattle.cm_history.specs.NodeSets.{members_of};
 ghost use Rattle.cm_sequential.specs.States.{kept_listing, kept_slave, Shows};
-ghost use Rattle.cm_sequential.specs.Kept.{machine, Fits};
+ghost use Rattle.cm_sequential.specs.Changes.{machine, Fits};
 
 use crate::listing_copy::ListingCopy;
 use crate::slaves::SlaveTable;

@@ -7,7 +7,7 @@ use Rattle.std.proofs.lemmas.List.Elements.{All-nil, All-cons}
 use Rattle.std.proofs.lemmas.List.Splits.{slice_split_none, slice_split_at}
 use Rattle.cm_text.specs.Plain.{is_plain}
 use Rattle.cm_text.specs.Words.{Words, split}
-use Rattle.cm_text.specs.Reading.{with_rest, field_at}
+use Rattle.cm_text.specs.FieldReading.{with_rest, field_at}
 use Rattle.cm_text.specs.Ends.{behind, Lacks, IsOfOtherWidth, IsFirst}
 use Rattle.cm_text.proofs.Digits.{respelled_is, not_some}
 

@@ -9,7 +9,7 @@ use Rattle.cm_text.specs.Plain.{is_plain}
 use Rattle.cm_text.specs.Words.{Words, split}
 use Rattle.cm_text.specs.Decimal.{dec_of}
 use Rattle.cm_text.specs.Hex.{hex_eight, two_of, four_of, eight_of}
-use Rattle.cm_text.specs.Reading.{with_rest, field_at, word_is}
+use Rattle.cm_text.specs.FieldReading.{with_rest, field_at, word_is}
 use Rattle.cm_text.specs.Ends.{behind, Lacks, Holds, IsOfOtherWidth, IsFirst}
 use Rattle.cm_text.proofs.Fronts.{same, same_itself, word_takes, field_again}
 use Rattle.cm_text.proofs.Decimals.{dec_exact}

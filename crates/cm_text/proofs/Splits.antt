@@ -8,7 +8,7 @@ use Rattle.std.proofs.lemmas.Simd.{length-chunk, trailing_mask_l, run_in_chunk_f
 use Rattle.std.proofs.lemmas.List.Splits.{slice_split_first, length-slice_split}
 use Rattle.cm_text.specs.Words.{Words, split}
 use Rattle.cm_text.specs.Left.{parts}
-use Rattle.cm_text.specs.Reading.{is_empty}
+use Rattle.cm_text.specs.FieldReading.{is_empty}
 use denote.Ref.{Bor}
 use Rattle.std.proofs.lemmas.Bool.{cases_Bool, cases_lt, le-ltb, lt-ltb, ltb-true, ltb-false}
 use Rattle.std.proofs.lemmas.List.Sums.{position_or_len_is}

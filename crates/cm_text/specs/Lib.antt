@@ -4,6 +4,6 @@ pub mod Hex
 pub mod Plain
 pub mod Words
 pub mod Left
-pub mod Reading
+pub mod FieldReading
 pub mod Ends
 pub mod Input

@@ -2,7 +2,7 @@ ghost use Rattle.std.specs.Prelude.{◌≡◌, ◌≤◌, ◌∷◌, [], MatchOp
 ghost use Rattle.cm_text.specs.Words.{split};
 ghost use Rattle.cm_text.specs.Decimal.{dec_of};
 ghost use Rattle.cm_text.specs.Hex.{two_of, four_of, eight_of};
-ghost use Rattle.cm_text.specs.Reading.{with_rest, field_at, word_is, is_empty};
+ghost use Rattle.cm_text.specs.FieldReading.{with_rest, field_at, word_is, is_empty};
 ghost use Rattle.cm_text.specs.Ends.{IsOfOtherWidth, IsFirst};
 
 use crate::decimal::read_decimal;
@@ -55,7 +55,7 @@ impl<'a> Fields<'a> {
     /// `Some` where the next field is just this text; `None` where it is another, or no field is
     /// left, and then nothing was read.
     #[inline(always)]
-    #[tactic(auto, unfolding(crate::specs::Reading::field_at), using(crate::proofs::Fronts::keyword_again))]
+    #[tactic(auto, unfolding(crate::specs::FieldReading::field_at), using(crate::proofs::Fronts::keyword_again))]
     pub fn keyword(&mut self, text: &[u8]) -> Option<()>
         ensures value { field_at (word_is text.now) (left self.old)
             ≡ with_rest result (left self.new) }
@@ -144,7 +144,7 @@ impl<'a> Fields<'a> {
 
     // As `decimal`, whatever the separator is, however many digits there are and wherever they end.
     #[inline(never)]
-    #[tactic(auto, unfolding(crate::specs::Reading::field_at))]
+    #[tactic(auto, unfolding(crate::specs::FieldReading::field_at))]
     fn any_decimal(&mut self, most: u64) -> Option<u64>
         ensures value { field_at (dec_of most) (left self.old) ≡ with_rest result (left self.new) }
         ensures small { IfSome result (λ n. n ≤ most) }

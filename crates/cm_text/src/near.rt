@@ -2,7 +2,7 @@
 
 ghost use Rattle.std.specs.Prelude.{◌≡◌, ◌<◌, ◌≤◌, ◌+◌, ◌∷◌, ◌++◌, true, false, Some, None, MatchOption, IfSome, decimal};
 ghost use Rattle.cm_text.specs.Words.{split};
-ghost use Rattle.cm_text.specs.Reading.{field_at, word_is};
+ghost use Rattle.cm_text.specs.FieldReading.{field_at, word_is};
 ghost use Rattle.cm_text.specs.Left.{parts};
 ghost use Rattle.cm_text.specs.Ends.{behind, Lacks, Holds, IsOfOtherWidth, IsFirst};
 

@@ -1,5 +1,5 @@
 use Rattle.std.proofs.Common.{◌≡◌, ◌∙◌, ◌≤◌, ◌+◌, Some, length, refl, ap, arith}
-use Rattle.cm_boot.specs.Machine.{question_due}
+use Rattle.cm_boot.specs.Progress.{question_due}
 use Rattle.cm_boot.specs.Talk.{asked}
 use Rattle.cm_boot.proofs.Due.{asked_next, lawful_next}
 use Rattle.cm_boot.proofs.Talked.{none_at_first, turn, turns_over}

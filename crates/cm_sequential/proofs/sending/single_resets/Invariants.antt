@@ -1,5 +1,5 @@
 use Rattle.std.proofs.Common.{◌≡◌, map, take}
-use Rattle.cm_history.specs.Frames.{reset_of}
+use Rattle.cm_history.specs.OrderFrames.{reset_of}
 use Rattle.cm_sequential.proofs.sending.single_resets.Given as goal
 
 -- the resets of the slaves so far

@@ -3,9 +3,9 @@ use Rattle.std.specs.Option.{option_copied}
 use Rattle.cm_netlist.specs.Network.{terms_of}
 use Rattle.cm_nmt.specs.declared.terms.Terms.{Terms}
 use Rattle.cm_nmt.specs.Conditions.{is_proper}
-use Rattle.cm_boot.specs.Machine.{next_field, terms}
+use Rattle.cm_boot.specs.Progress.{next_field, terms}
 use Rattle.cm_boot.specs.BootView.{view_of}
-use Rattle.cm_boot.proofs.Kept.{proper_kept}
+use Rattle.cm_boot.proofs.Proper.{proper_kept}
 use Rattle.cm_boot.proofs.Stays.{four_stay}
 use Rattle.cm_boot.proofs.Due.{writes_room}
 use Rattle.cm_nmt.specs.declared.field.Field.TheVariants.{Writes}

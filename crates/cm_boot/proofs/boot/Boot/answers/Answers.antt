@@ -1,5 +1,5 @@
 use Rattle.cm_boot.specs.BootView.{view_of}
-use Rattle.cm_boot.specs.Machine.{terms}
+use Rattle.cm_boot.specs.Progress.{terms}
 use Rattle.cm_boot.proofs.Reached.{proper_reached}
 use Rattle.cm_boot.proofs.Talked.{asked_few}
 use Rattle.cm_boot.proofs.boot.Boot.answers.Goals as goal

@@ -4,7 +4,7 @@ use Rattle.cm_netlist.specs.Network.{terms_of}
 use Rattle.cm_nmt.specs.declared.terms.Terms.{Terms}
 use Rattle.cm_boot.specs.BootView.{view_of}
 use Rattle.cm_nmt.specs.Conditions.{is_proper}
-use Rattle.cm_boot.specs.Machine.{next_field, terms}
+use Rattle.cm_boot.specs.Progress.{next_field, terms}
 use Rattle.cm_nmt.specs.Verdict.{verdict}
 use Rattle.cm_boot.proofs.Due.{ask_next, done_next, question_is_there}
 use Rattle.cm_boot.proofs.boot.Boot.next.Goals as goal

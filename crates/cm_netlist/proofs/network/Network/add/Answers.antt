@@ -2,7 +2,7 @@ use Rattle.std.proofs.Common.{◌≡◌, ◌∙◌, ap, None, arith}
 use Rattle.std.proofs.lemmas.Grind.{common_steps}
 use Rattle.cm_netlist.specs.Add.{add_fault}
 use Rattle.cm_netlist.specs.Network.{with_entry}
-use Rattle.cm_netlist.proofs.Kept.{IsKept-insert, view-insert, IsEntry-from_no_fault}
+use Rattle.cm_netlist.proofs.Inserts.{IsKept-insert, view-insert, IsEntry-from_no_fault}
 use Rattle.cm_netlist.proofs.network.Network.add.Goals as goal
 
 pub invariant_of-self-2 : goal.invariant_of-self-2

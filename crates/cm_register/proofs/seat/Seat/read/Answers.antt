@@ -2,7 +2,7 @@ use Rattle.std.proofs.Common.{◌≡◌, ℕ, List, length, take, drop, sym, ap,
 use mathlib.Core.List.{IsPrefix}
 use Rattle.cm_history.specs.declared.call.Entry.{Entry}
 use Rattle.cm_register.specs.Knowing.{IsKnowing, told_by}
-use Rattle.cm_register.specs.Reading.{AllBegin}
+use Rattle.cm_register.specs.Reads.{AllBegin}
 use Rattle.cm_register.proofs.Knowing.{drop_whole, is_known, knowing_read, take_all}
 use Rattle.cm_register.proofs.seat.Seat.read.Goals as goal
 

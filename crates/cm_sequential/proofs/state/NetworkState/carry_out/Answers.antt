@@ -5,7 +5,7 @@ use Rattle.cm_history.specs.declared.call.Orders.TheVariants as orders
 use Rattle.cm_history.specs.Answering.{shown_of}
 use Rattle.cm_history.specs.Machine.{seen_in}
 use Rattle.cm_sequential.specs.States.{kept_listing}
-use Rattle.cm_sequential.specs.Kept.{machine}
+use Rattle.cm_sequential.specs.Changes.{machine}
 use Rattle.cm_sequential.proofs.Granting.{goes_read, in_time_reply, late_orders}
 use Rattle.cm_sequential.proofs.state.NetworkState.carry_out.Goals as goal
 

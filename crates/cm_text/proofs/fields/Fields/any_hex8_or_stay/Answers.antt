@@ -1,6 +1,6 @@
 use Rattle.std.proofs.Common.{sym, ap, ◌∙◌}
 use Rattle.cm_text.specs.Left.{left}
-use Rattle.cm_text.specs.Reading.{with_rest}
+use Rattle.cm_text.specs.FieldReading.{with_rest}
 use Rattle.cm_text.proofs.Heads.{eight_first, eight_none}
 use Rattle.cm_text.proofs.fields.Fields.any_hex8_or_stay.Goals as goal
 

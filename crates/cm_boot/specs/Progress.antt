@@ -22,7 +22,7 @@ use Rattle.cm_boot.specs.declared.question.Step.{Step}
 use Rattle.cm_boot.specs.declared.question.Step.TheVariants.{Ask, Done}
 use Rattle.cm_nmt.specs.declared.status.Status.{Status}
 
--- a boot: what is listed of the slave, if it is listed, and what it answered so far
+-- a boot: what is listed of the slave, if it is listed, and what it answers_after so far
 pub record Booting : Type 0 where
   pub entry : Option SlaveEntry
   pub answers : Answers
@@ -88,8 +88,8 @@ next_step b = step_of (judged (terms b) b.answers) (question_due b)
 
 -- the answers after this answer to the question that is due; none after the last question, and where
 -- the answer doesn't fit
-abbrev pub answered : Booting → Answer → Option Answers
-answered b x = option_and_then (λ f. with_answer b.answers f x) (due (terms b) b.answers)
+abbrev pub answers_after : Booting → Answer → Option Answers
+answers_after b x = option_and_then (λ f. with_answer b.answers f x) (due (terms b) b.answers)
 
 -- what every boot keeps
 pub record IsBooting (b : Booting) : Type 0 where

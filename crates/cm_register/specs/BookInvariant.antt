@@ -3,7 +3,7 @@ use Rattle.std.specs.Prelude.{◌≡◌, ◌+◌, ◌<◌, ◌≤◌, ℕ, List,
 use Rattle.std.specs.List.{slice_index_or}
 use Rattle.cm_nmt.specs.declared.frame.Frame.{Frame}
 use Rattle.cm_netlist.specs.Network.{Network, listing}
-use Rattle.cm_history.specs.Frames.{frames_in}
+use Rattle.cm_history.specs.OrderFrames.{frames_in}
 use Rattle.cm_history.specs.Legal.{IsLegal}
 use Rattle.cm_history.specs.declared.call.Entry.{Entry}
 use Rattle.cm_register.specs.SeatCalls.{AreOfSeats, calls_of}

@@ -2,7 +2,7 @@
 use Rattle.std.specs.Prelude.{◌≡◌, ◌≢◌, ◌<◌, ◌≤◌, ℕ, length, reverse}
 use Rattle.cm_nmt.specs.Listing.{Listing}
 use Rattle.cm_history.specs.Answering.{answer_of}
-use Rattle.cm_history.specs.Frames.{frames_of}
+use Rattle.cm_history.specs.OrderFrames.{frames_of}
 use Rattle.cm_history.specs.declared.call.Call.{Call}
 use Rattle.cm_register.specs.declared.fault.CallFault.{CallFault}
 use Rattle.cm_register.specs.declared.fault.CallFault.TheVariants as fault

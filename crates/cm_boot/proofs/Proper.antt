@@ -7,7 +7,7 @@ use Rattle.cm_nmt.specs.declared.terms.Terms.{Terms}
 use Rattle.cm_nmt.specs.Got.{is_answered}
 use Rattle.cm_nmt.specs.Fields.{fields}
 use Rattle.cm_nmt.specs.Conditions.{answers_are_due, condition, is_complete, is_proper, is_used, writes_are_counted}
-use Rattle.cm_boot.specs.Machine.{next_field, with_answer}
+use Rattle.cm_boot.specs.Progress.{next_field, with_answer}
 use Rattle.cm_nmt.specs.declared.answers.Answers.{Answers}
 use Rattle.cm_nmt.specs.declared.field.Field.{Field}
 use Rattle.cm_nmt.specs.declared.field.Field.TheVariants.{Device, Vendor, Product, Revision, Serial, State, Date, Time, Writes, Beat}
