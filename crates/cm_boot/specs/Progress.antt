@@ -22,7 +22,7 @@ use Rattle.cm_boot.specs.declared.question.Step.{Step}
 use Rattle.cm_boot.specs.declared.question.Step.TheVariants.{Ask, Done}
 use Rattle.cm_nmt.specs.declared.status.Status.{Status}
 
--- a boot: what is listed of the slave, if it is listed, and what it answers_after so far
+-- a boot: what is listed of the slave, if it is listed, and what it answered so far
 pub record Booting : Type 0 where
   pub entry : Option SlaveEntry
   pub answers : Answers
