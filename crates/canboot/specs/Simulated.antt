@@ -1,20 +1,9 @@
--- Working definitions, behind the contracts of private functions: what a closed register gives of a history, and what
--- the types give of a network list's slaves.
-use Rattle.std.specs.Prelude.{ℕ, ◌<◌, ◌≤◌, List, length, reverse, IfSome}
-use Rattle.cm_netlist.specs.Network.{Network, entry, listing}
-use Rattle.cm_history.specs.Legal.{IsLegal}
-use Rattle.cm_history.specs.declared.call.Entry.{Entry}
-use Rattle.cm_register.specs.SeatCalls.{AreOfSeats}
+-- Working definitions, behind the contracts of private functions: what the types give of a network list's slaves.
+use Rattle.std.specs.Prelude.{ℕ, ◌<◌, ◌≤◌, length, IfSome}
+use Rattle.cm_netlist.specs.Network.{Network, entry}
 use Rattle.cm_netlist.specs.declared.entry.SlaveEntry.{SlaveEntry}
 use Rattle.cm_format.specs.Text.{listed_of}
 use Rattle.cm_format.specs.Fits.{SlaveFits}
-
--- the entries, the oldest first, are a legal history of this network; each is of one of this many seats, and there are
--- no more than the limit
-pub record IsHistory (net : Network) (seats limit : ℕ) (entries : List Entry) : Type 0 where
-  pub legal : IsLegal (listing net) (reverse entries)
-  pub seated : AreOfSeats seats entries
-  pub few : length entries ≤ limit
 
 -- what is listed of a slave fits, and it has 32 writes at most
 abbrev pub IsFitting : ℕ → SlaveEntry → Type 0

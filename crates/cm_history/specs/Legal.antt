@@ -1,5 +1,5 @@
 -- Which histories are legal (own). A history is given with its newest entry first.
-use Rattle.std.specs.Prelude.{◌≡◌, ℕ, ◌+◌, ◌<◌, List, [], ◌∷◌, length, take, reverse}
+use Rattle.std.specs.Prelude.{◌≡◌, ℕ, ◌+◌, ◌<◌, ◌≤◌, List, [], ◌∷◌, length, take, reverse}
 use Rattle.cm_nmt.specs.Listing.{Listing}
 use Rattle.cm_history.specs.Answering.{answer_of}
 use Rattle.cm_history.specs.declared.call.Call.{Call}
@@ -23,3 +23,14 @@ pub record IsFirstFault (net : Listing) (entries : List Entry) (place : ℕ) : T
   pub inside : place < length entries
   pub before : IsLegal net (reverse (take place entries))
   pub wrong : IsLegal net (reverse (take (place + 1) entries)) → ⊥
+
+-- of entries whose oldest comes first, each is of one of the seats 1 to this number
+abbrev pub AreOfSeats : ℕ → List Entry → Type 0
+AreOfSeats seats [] = Unit {0}
+AreOfSeats seats (e ∷ es) = (0 < e.seat) × (e.seat ≤ seats) × AreOfSeats seats es
+
+-- the whole history of a register, its oldest entry first: legal, of its seats alone, with no more entries than are allowed
+pub record IsHistory (net : Listing) (seats limit : ℕ) (entries : List Entry) : Type 0 where
+  pub legal : IsLegal net (reverse entries)
+  pub seated : AreOfSeats seats entries
+  pub few : length entries ≤ limit

@@ -8,7 +8,8 @@ use Rattle.std.proofs.Math.Seq.{take-suc, drop-cons}
 use Rattle.std.proofs.lemmas.Grind.{get_or-set_at}
 use Rattle.cm_history.specs.declared.call.Entry.{Entry}
 use Rattle.cm_register.specs.declared.seat.Made.{Made}
-use Rattle.cm_register.specs.SeatCalls.{AreOfSeats, calls_behind, calls_of, made}
+use Rattle.cm_history.specs.Legal.{AreOfSeats}
+use Rattle.cm_register.specs.SeatCalls.{calls_behind, calls_of, made}
 use Rattle.cm_register.specs.BookInvariant.{AreCounts}
 
 -- the call of an entry that stands behind n others

@@ -4,9 +4,9 @@ use Rattle.std.specs.List.{slice_index_or}
 use Rattle.cm_nmt.specs.declared.frame.Frame.{Frame}
 use Rattle.cm_netlist.specs.Network.{Network, listing}
 use Rattle.cm_history.specs.OrderFrames.{frames_in}
-use Rattle.cm_history.specs.Legal.{IsLegal}
+use Rattle.cm_history.specs.Legal.{AreOfSeats, IsLegal}
 use Rattle.cm_history.specs.declared.call.Entry.{Entry}
-use Rattle.cm_register.specs.SeatCalls.{AreOfSeats, calls_of}
+use Rattle.cm_register.specs.SeatCalls.{calls_of}
 
 -- how many entries each seat has: place k counts those of seat k + 1
 abbrev pub AreCounts : List ℕ → List Entry → Type 0

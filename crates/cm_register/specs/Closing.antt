@@ -1,13 +1,13 @@
 -- What is handed in where a register closes, and why it doesn't (own).
-use Rattle.std.specs.Prelude.{◌≡◌, ◌≢◌, ◌+◌, ◌<◌, ◌≤◌, ℕ, List, [], ◌∷◌, length, reverse, All}
+use Rattle.std.specs.Prelude.{◌≡◌, ◌≢◌, ◌+◌, ◌<◌, ◌≤◌, ℕ, List, [], ◌∷◌, length, All}
 use Rattle.cm_nmt.specs.Listing.{Listing}
-use Rattle.cm_history.specs.Legal.{IsLegal}
+use Rattle.cm_history.specs.Legal.{IsHistory}
 use Rattle.cm_history.specs.declared.call.Entry.{Entry}
 use Rattle.cm_register.specs.declared.closing.CloseKind.{CloseKind}
 use Rattle.cm_register.specs.declared.closing.CloseKind.TheVariants as kind
 use Rattle.cm_register.specs.declared.closing.SeatList.{SeatList}
 use Rattle.cm_register.specs.declared.seat.Made.{Made}
-use Rattle.cm_register.specs.SeatCalls.{AreOfSeats, calls_of}
+use Rattle.cm_register.specs.SeatCalls.{calls_of}
 use Rattle.cm_register.specs.Views.{SeatView}
 
 -- the number and the calls of a list, and those of a seat
@@ -38,14 +38,8 @@ IsBookCause entries seats given (kind.SeatsMissing n) = (0 < n) × (length given
 IsBookCause entries seats given kind.NoVersion = seats ≤ length given
 IsBookCause entries seats given kind.SeatDiffers = (seats ≤ length given) × ((HaveTheirCalls entries given × AreApart given) → ⊥)
 
--- a history as a register may hold it: legal, of its seats alone, with no more entries than are allowed
-pub record MayHold (net : Listing) (seats limit : ℕ) (entries : List Entry) : Type 0 where
-  pub legal : IsLegal net (reverse entries)
-  pub seated : AreOfSeats seats entries
-  pub few : length entries ≤ limit
-
 -- where a register isn't closed: its book, with some history, isn't
 pub record IsCloseCause (net : Listing) (seats limit : ℕ) (given : List SeatView) (kind : CloseKind) : Type 0 where
   pub entries : List Entry
-  pub held : MayHold net seats limit entries
+  pub held : IsHistory net seats limit entries
   pub cause : IsBookCause entries seats given kind

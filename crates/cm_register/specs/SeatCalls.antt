@@ -1,5 +1,5 @@
 -- The calls of one seat in a history that is given with its oldest entry first (own).
-use Rattle.std.specs.Prelude.{ℕ, ◌+◌, ◌<◌, ◌≤◌, ◌==◌, List, [], ◌∷◌, if◌then◌else◌}
+use Rattle.std.specs.Prelude.{ℕ, ◌+◌, ◌==◌, List, [], ◌∷◌, if◌then◌else◌}
 use Rattle.cm_history.specs.declared.call.Call.{Call}
 use Rattle.cm_history.specs.declared.call.Entry.{Entry}
 use Rattle.cm_history.specs.declared.call.Reply.{Reply}
@@ -19,8 +19,3 @@ calls_behind seat n (e ∷ es) =
 -- the calls of this seat in the history, in order
 abbrev pub calls_of : List Entry → ℕ → List Made
 calls_of entries seat = calls_behind seat 0 entries
-
--- every entry is of one of the seats 1 to this number
-abbrev pub AreOfSeats : ℕ → List Entry → Type 0
-AreOfSeats seats [] = Unit {0}
-AreOfSeats seats (e ∷ es) = (0 < e.seat) × (e.seat ≤ seats) × AreOfSeats seats es

@@ -1,11 +1,10 @@
 ghost use Rattle.std.specs.Prelude.{◌≡◌, ◌≤◌, [], length, map, reverse, vec_capacity, vec_len, IfOk, IfErr, IsTrue, ◌↔◌};
 ghost use Rattle.cm_netlist.specs.Network.{listing};
 ghost use Rattle.cm_history.specs.OrderFrames.{frames_in};
-ghost use Rattle.cm_history.specs.Legal.{IsLegal};
+ghost use Rattle.cm_history.specs.Legal.{AreOfSeats, IsLegal};
 ghost use Rattle.cm_sequential.specs.Standing.{Stands};
 ghost use Rattle.cm_register.specs.Closing.{AreApart, HaveTheirCalls, IsBookCause, calls_by, calls_in, count_calls};
 ghost use Rattle.cm_register.specs.Reads.{AllKnown};
-ghost use Rattle.cm_register.specs.SeatCalls.{AreOfSeats};
 
 use crate::book::Book;
 use crate::compare::{are_apart, are_known, have_their_calls};
