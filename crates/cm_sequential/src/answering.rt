@@ -7,8 +7,8 @@ ghost use Rattle.cm_sequential.specs.Standing.{listing_in, open_in, seen_by, IsA
 use crate::effects::is_fatal;
 use crate::manager::Manager;
 use crate::slaves::is_reset;
-use cm_nmt::{Answers, Command, NmtState, NodeId, Signal, Status, judged_listed};
 use cm_history::{ALL_NODES, Call, Orders, Refusal, Reply};
+use cm_nmt::{Answers, Command, NmtState, NodeId, Signal, Status, judged_by_tables};
 
 /// A refused call has no orders.
 #[inline(always)]
@@ -160,7 +160,7 @@ impl Manager {
         if self.state.slaves.session(id) != Some(number) {
             return refused(Refusal::Stale);
         }
-        match judged_listed(terms, answers) {
+        match judged_by_tables(Some(terms), answers) {
             Some(status) => (Reply::Reported(status), self.report_orders(id, status)),
             None => refused(Refusal::BadReport),
         }
