@@ -8,8 +8,10 @@ ghost use Rattle.cm_boot.specs.Questions.{question};
 ghost use Rattle.cm_boot.specs.Talk.{asked};
 
 use crate::{Answer, Question, Step};
-use cm_nmt::{Answers, Field, Got, Heard, NodeId, Terms, condition, fields, is_complete, status_of};
 use cm_netlist::{Network, SlaveEntry};
+use cm_nmt::{
+    Answers, Field, Got, Heard, NodeId, Terms, condition, fields, is_complete, status_of,
+};
 use std::marker::Model;
 use thiserror::Error;
 

@@ -6,8 +6,8 @@ ghost use Rattle.cm_boot.specs.Questions.{counted};
 ghost use Rattle.cm_boot.specs.Talk.{Talks, asked};
 
 use crate::{Answer, Boot, Question, Step};
-use cm_nmt::{Answers, NodeId};
 use cm_netlist::Network;
+use cm_nmt::{Answers, NodeId};
 
 /// A way to ask slaves: SDO transfers, heartbeats and guard requests.
 pub trait Bus: Drop {

@@ -8,7 +8,7 @@
 //! ```
 //!
 //! Whoever asks by himself takes a [`Boot`], which says what to ask next. Two tables over the
-//! finished record, in the crate cm_answers, say which answers are those of a boot and which status
+//! finished record, in the crate cm_nmt, say which answers are those of a boot and which status
 //! comes of them; that the boot, question by question, ends with just these records and statuses is
 //! a clause of [`judge`].
 #![tactic(auto)]

@@ -3,8 +3,8 @@ ghost use Rattle.cm_netlist.specs.Network.{terms};
 ghost use Rattle.cm_boot.specs.Procedure.{IsEnd};
 ghost use Rattle.cm_nmt.specs.Verdict.{judged};
 
-use cm_nmt::{Answers, NodeId, Status, Terms, count_ids, judged_by_tables};
 use cm_netlist::Network;
+use cm_nmt::{Answers, NodeId, Status, Terms, count_ids, judged_by_tables};
 
 /// The status of a boot of the slave that ended with these answers; `None` exactly where no boot
 /// ends with them. `terms` is what is listed of the slave, `None` for one that isn't listed.
@@ -16,7 +16,7 @@ pub fn judge_terms(terms: Option<Terms>, answers: &Answers) -> Option<Status>
     ensures ends { (s : _) → result ≡ Some s ↔ IsEnd terms answers.now s }
 {
     count_ids(answers);
-    judged_by_tables(terms, answers)
+    judged_by_tables(terms.as_ref(), answers)
 }
 
 /// The status of a boot of this node that ended with these answers; `None` exactly where no boot of

@@ -1,6 +1,5 @@
 ghost use Rattle.std.specs.Prelude.{◌≡◌};
 ghost use Rattle.cm_history.specs.History.{state_reported};
-ghost use Rattle.cm_history.specs.Answering.{blank_slave, has_session};
 
 use cm_nmt::{Answers, Got, Heard, NmtState, Status};
 
@@ -18,29 +17,6 @@ pub struct Slave {
     pub booted: bool,
     /// The number of the session that is open.
     pub session: Option<u64>,
-}
-
-impl Slave {
-    /// State unknown, not booted, no session.
-    pub const fn blank() -> Slave
-        ensures { result ≡ blank_slave }
-    {
-        Slave {
-            state: UNKNOWN,
-            booted: false,
-            session: None,
-        }
-    }
-
-    /// Whether the session of this number is open.
-    pub fn has_session(self, number: u64) -> bool
-        ensures { result ≡ has_session self.session number }
-    {
-        match self.session {
-            Some(open) => open == number,
-            None => false,
-        }
-    }
 }
 
 /// The state in which a boot left its slave.

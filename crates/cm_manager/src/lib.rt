@@ -11,5 +11,5 @@ pub use cm_history::{
     boots_start_rightly, machine_shows_its_history, network_becomes_operational_rightly, reads_show,
 };
 pub use cm_replay::{Cause, CompactReplay, Untaken, follows, replay, replay_to_fault};
-pub use cm_sequential::{Manager, NetworkState, frames};
+pub use cm_sequential::{Manager, frames};
 pub use cm_writer::{journal_write, replay_report, report};

@@ -17,21 +17,21 @@ pub enum Got {
 
 impl Got {
     /// Whether the question was asked.
-    pub fn is_answered(self) -> bool
+    pub(crate) fn is_answered(self) -> bool
         ensures { result ≡ is_answered self }
     {
         !matches!(self, Got::NotAsked)
     }
 
     /// Whether a value was read.
-    pub fn has_value(self) -> bool
+    pub(crate) fn has_value(self) -> bool
         ensures { result ≡ has_value self }
     {
         matches!(self, Got::Value(_))
     }
 
     /// Whether this value was read.
-    pub fn is_value(self, expected: u32) -> bool
+    pub(crate) fn is_value(self, expected: u32) -> bool
         ensures { result ≡ is_value self expected }
     {
         match self {
@@ -41,7 +41,7 @@ impl Got {
     }
 
     /// Whether the question was asked and failed: an abort or silence.
-    pub fn is_refusal(self) -> bool
+    pub(crate) fn is_refusal(self) -> bool
         ensures { result ≡ is_refusal self }
     {
         matches!(self, Got::Silent | Got::Abort(_))

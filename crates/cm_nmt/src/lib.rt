@@ -11,7 +11,7 @@
 //!   question is asked. They speak of the finished record; how it comes about, cm_boot says.
 //!
 //! ```text
-//! let status = judged_by_tables(network.terms(id), &answers);
+//! let status = judged_by_tables(network.terms(id).as_ref(), &answers);
 //! ```
 #![tactic(auto)]
 
@@ -48,6 +48,6 @@ pub use startup::Startup;
 pub use state::NmtState;
 pub use status::Status;
 pub use terms::Terms;
-pub use verdict::{judged_by_tables, judged_listed, status_of};
+pub use verdict::{judged_by_tables, status_of};
 pub use wire::Wire;
 pub use write::Write;

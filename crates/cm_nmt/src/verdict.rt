@@ -1,4 +1,5 @@
 ghost use Rattle.std.specs.Prelude.{◌≡◌, ◌<◌, true, Some};
+ghost use Rattle.std.specs.Option.{option_copied};
 ghost use Rattle.cm_nmt.specs.Verdict.{is_wrong, judged, verdict};
 ghost use Rattle.cm_nmt.specs.Conditions.{identity_agrees};
 ghost use Rattle.cm_nmt.specs.Judging.{are_settled, IsIdentified};
@@ -6,8 +7,8 @@ ghost use Rattle.cm_nmt.specs.Fields.{fields};
 
 use crate::conditions::has_no_answer;
 use crate::judging::lawful_identity;
-use crate::{Answers, Status};
 use crate::terms::Terms;
+use crate::{Answers, Status};
 
 /// Whether an identity was read and isn't the expected one.
 fn is_wrong(answers: &Answers, place: usize, expected: u32) -> bool
@@ -87,10 +88,9 @@ pub fn status_of(terms: Option<Terms>, answers: &Answers) -> Status
     }
 }
 
-/// The status of a boot that ended with these answers, of a slave of which this is listed; `None`
-/// exactly where no boot ends with them. It goes by the tables, as [`judged_by_tables`] does.
+/// As [`judged_by_tables`], of a slave of which this is listed.
 #[tactic(auto, unfolding(crate::specs::Verdict::judged))]
-pub fn judged_listed(terms: &Terms, answers: &Answers) -> Option<Status>
+fn judged_listed(terms: &Terms, answers: &Answers) -> Option<Status>
     ensures { result ≡ judged (Some terms.now) answers.now }
 {
     match lawful_identity(terms, answers) {
@@ -105,10 +105,10 @@ pub fn judged_listed(terms: &Terms, answers: &Answers) -> Option<Status>
 /// tables (CiA 302-2, boot slave): which answers are those of a boot, and which status they come
 /// to.
 #[tactic(auto, unfolding(crate::specs::Verdict::judged, crate::specs::Verdict::verdict))]
-pub fn judged_by_tables(terms: Option<Terms>, answers: &Answers) -> Option<Status>
-    ensures { result ≡ judged terms answers.now }
+pub fn judged_by_tables(terms: Option<&Terms>, answers: &Answers) -> Option<Status>
+    ensures { result ≡ judged (option_copied terms.entry) answers.now }
 {
-    match &terms {
+    match terms {
         Some(terms) => judged_listed(terms, answers),
         None if has_no_answer(answers) => Some(Status::A),
         None => None,

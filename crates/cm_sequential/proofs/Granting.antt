@@ -57,7 +57,7 @@ refused_parts net s c (Some n) r o e f = (n, e)
 above_blank : (s : NetworkState) (i : ℕ) → 128 ≤ i → (machine s).slaves i ≡ blank_slave
 above_blank s i high = rw (le-ltb i 128 high) refl
 
-below_kept : (s : NetworkState) (i : ℕ) → i < 128 → (machine s).slaves i ≡ kept_slave s.slaves i
+pub below_kept : (s : NetworkState) (i : ℕ) → i < 128 → (machine s).slaves i ≡ kept_slave s.slaves i
 below_kept s i low = rw (lt-ltb i 128 low) refl
 
 pub goes_refused : (net : Listing) (s : NetworkState) (c : Call) (r : Reply) (o : Orders) → Fits net s → (r, o) ≡ answer_in net (machine s) c → is_granted r ≡ false → GoneOn net s c r o s

@@ -2,9 +2,9 @@
 use Rattle.std.proofs.Common.{◌≡◌, ℕ, ◌<◌, ◌≤◌, List, ◌∷◌, arith, refl, ap, sym, subst, ◌∙◌, cond, Bool, true, false, not, ◌&&◌}
 use Rattle.std.specs.Prelude.{nat_lt, ◌+◌}
 use Rattle.std.specs.Option.{is_some}
-use Rattle.std.proofs.lemmas.Bool.{lt-ltb, ltb-true, ltb-false}
+use Rattle.std.proofs.lemmas.Bool.{lt-ltb, ltb-true}
 use Rattle.cm_netlist.specs.Network.{Network, listing}
-use Rattle.cm_nmt.specs.Listing.{Listing, is_listed, is_mandatory}
+use Rattle.cm_nmt.specs.Listing.{Listing, is_mandatory}
 use Rattle.cm_nmt.proofs.Ids.{agree_on_ids}
 use Rattle.cm_history.specs.declared.call.Call.{Call}
 use Rattle.cm_history.specs.declared.call.Reply.{Reply}
@@ -12,30 +12,17 @@ use Rattle.cm_history.specs.declared.call.Orders.{Orders}
 use Rattle.cm_history.specs.declared.call.Entry.{Entry}
 use Rattle.cm_history.specs.declared.slave.Slave.{Slave}
 use Rattle.cm_history.specs.History.{begun_number, open_of}
-use Rattle.cm_history.specs.Answering.{answer_from, answer_of, blank_slave, node_named, slave_of}
-use Rattle.cm_history.specs.Machine.{Machine, after, answer_in, begun_after, said, seen_in}
-use Rattle.cm_history.proofs.Runs.{answer_said, machine_parts, machine_step, seen_parts}
+use Rattle.cm_history.specs.Answering.{answer_of, blank_slave, slave_of}
+use Rattle.cm_history.specs.Machine.{Machine, after, answer_in, begun_after, said}
+use Rattle.cm_history.proofs.Runs.{answer_said, machine_parts, machine_step}
 use Rattle.cm_sequential.specs.States.{kept_slave, Shows}
-use Rattle.cm_sequential.specs.Standing.{IsAnswer, listing_in, open_in, seen_by, Stands}
+use Rattle.cm_sequential.specs.Standing.{IsAnswer, listing_in, still_open, Stands}
 use Rattle.cm_sequential.specs.Changes.{machine, GoneOn}
 use Rattle.cm_history.specs.NodeSets.{members_of}
+use Rattle.cm_sequential.proofs.Going.{open_counted}
 use Rattle.cm_sequential.proofs.Listings.{lists_nodes}
 use Rattle.cm_sequential.specs.declared.manager.Manager.{Manager}
 use Rattle.cm_sequential.specs.declared.state.NetworkState.{NetworkState}
-
--- what a manager has is what its machine has
-listed_slave : (listed small : Bool) (s : Slave) → (small ≡ false → listed ≡ false) → cond listed s blank_slave ≡ cond listed (cond small s blank_slave) blank_slave
-listed_slave false small s h = refl
-listed_slave true true s h = refl
-listed_slave true false s h = let wrong = h refl in cc
-
-pub seen_same : (m : Manager) (i : ℕ) → seen_by m i ≡ seen_in (listing_in m) (machine m.state) i
-seen_same m i =
-    seen_parts (agree_on_ids _ _ (λ j small. rw (lt-ltb j 128 small) refl))
-    (listed_slave (is_listed (listing_in m) i) (nat_lt i 128) (kept_slave m.state.slaves i) (λ large. m.fits.nodes i (ltb-false i 128 large)))
-
-pub own_answer : (m : Manager) (c : Call) (r : Reply) (o : Orders) → IsAnswer m c r o → (r, o) ≡ answer_in (listing_in m) (machine m.state) c
-own_answer m c r o is = is ∙ ap (λ s. answer_from (listing_in m) s c) (seen_same m (node_named c))
 
 -- a state that shows a history is what the history says
 node_said : (s : NetworkState) (net : Listing) (past : List Entry) (i : ℕ) (small : Bool) → nat_lt i 128 ≡ small → Shows s net past
@@ -65,7 +52,7 @@ said_shown s net past own_id e = record {
 pub stands_answer : (m : Manager) (net : Network) (past : List Entry) (c : Call) (r : Reply) (o : Orders) → Stands m net past → IsAnswer m c r o
     → (r, o) ≡ answer_of (listing net) past c
 stands_answer m net past c r o st is =
-    own_answer m c r o is
+    is
     ∙ ap (λ l. answer_in l (machine m.state) c) st.same_listing
     ∙ ap (λ k. answer_in (listing net) k c) (shown_said m.state (listing net) past st.same_state)
     ∙ answer_said (listing net) past c (lists_nodes net st.network)
@@ -90,10 +77,11 @@ begun_few net s s' c r o goes =
     omega (arith, same, begun_most r s.begun)
 
 -- the open slaves that the state counts are those of the manager
-pub open_kept : (m : Manager) → members_of m.state.slaves.unbooted ≡ open_in m
-open_kept m = agree_on_ids _ _ (λ i small. m.fits.counted i small)
+pub open_kept : (m : Manager) → members_of m.state.slaves.unbooted ≡ still_open m
+open_kept m = open_counted (listing_in m) m.state.slaves m.fits.counted
 
 pub open_shown : (m : Manager) (net : Network) (past : List Entry) → Stands m net past → members_of m.state.slaves.unbooted ≡ open_of (listing net) past
 open_shown m net past st =
-    open_kept m ∙ agree_on_ids _ _ (λ i small. ap (λ (l : Listing). is_mandatory l i && not (kept_slave m.state.slaves i).booted) st.same_listing
+    agree_on_ids _ _ (λ i small. m.fits.counted i small
+    ∙ ap (λ (l : Listing). is_mandatory l i && not (kept_slave m.state.slaves i).booted) st.same_listing
     ∙ ap (λ (b : Bool). is_mandatory (listing net) i && not b) (st.same_state.booted i small))

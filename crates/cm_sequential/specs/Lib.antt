@@ -1,4 +1,4 @@
 pub mod Listed
 pub mod States
-pub mod Standing
 pub mod Changes
+pub mod Standing

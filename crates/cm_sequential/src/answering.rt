@@ -1,14 +1,14 @@
 ghost use Rattle.std.specs.Prelude.{◌≡◌, ◌<◌, ◌≤◌, ◌==◌, ◌^◌, ◌-◌, ℕ, List, Some};
 ghost use Rattle.cm_history.specs.History.{is_empty};
 ghost use Rattle.cm_history.specs.declared.call.Call.TheVariants as call;
-ghost use Rattle.cm_history.specs.Answering.{answer_from, is_late, lost_orders, open_less, refusal_number, report_orders, request_orders, starts_every, starts_one};
-ghost use Rattle.cm_sequential.specs.Standing.{listing_in, open_in, seen_by, IsAnswer};
+ghost use Rattle.cm_history.specs.Answering.{is_late, lost_orders, open_less, refusal_number, report_orders, request_orders, starts_every, starts_one};
+ghost use Rattle.cm_sequential.specs.Standing.{listing_in, still_open, IsAnswer};
 
 use crate::effects::is_fatal;
 use crate::manager::Manager;
 use crate::slaves::is_reset;
-use cm_nmt::{Answers, Command, NmtState, NodeId, Signal, Status, judged_listed};
 use cm_history::{ALL_NODES, Call, Orders, Refusal, Reply};
+use cm_nmt::{Answers, Command, NmtState, NodeId, Signal, Status, judged_by_tables};
 
 /// A refused call has no orders.
 #[inline(always)]
@@ -42,7 +42,7 @@ impl Manager {
     #[inline(always)]
     #[tactic(auto, using(crate::proofs::Standing::open_kept))]
     fn none_open(&self) -> bool
-        ensures { result ≡ is_empty (open_in self.now) }
+        ensures { result ≡ is_empty (still_open self.now) }
     {
         self.state.slaves.none_open()
     }
@@ -51,7 +51,7 @@ impl Manager {
     #[inline(always)]
     #[tactic(auto, using(crate::proofs::Standing::open_kept))]
     fn none_left(&self, id: NodeId, status: Status) -> bool
-        ensures { result ≡ is_empty (open_less (open_in self.now) id status) }
+        ensures { result ≡ is_empty (open_less (still_open self.now) id status) }
     {
         if status.is_good() {
             self.state.slaves.none_open_but(id)
@@ -62,8 +62,7 @@ impl Manager {
 
     /// The answer to a start of the network.
     fn answer_start(&self) -> (Reply, Orders)
-        ensures { (result.0, result.1)
-            ≡ answer_from (listing_in self.now) (seen_by self.now 0) call.StartNetwork }
+        ensures { IsAnswer self.now call.StartNetwork result.0 result.1 }
     {
         if !self.listing.startup().is_master() {
             return refused(Refusal::NotMaster);
@@ -76,10 +75,10 @@ impl Manager {
 
     /// The answer to a begin of a boot.
     #[inline(always)]
+    #[tactic(auto, using(crate::proofs::Granting::below_kept))]
     fn answer_begin(&self, id: NodeId) -> (Reply, Orders)
         requires { self.now.state.begun < 2 ^ 64 - 1 }
-        ensures { (result.0, result.1)
-            ≡ answer_from (listing_in self.now) (seen_by self.now id) (call.Begin id) }
+        ensures { IsAnswer self.now (call.Begin id) result.0 result.1 }
     {
         if self.state.phase.is_idle() || self.state.phase.is_halted() {
             return refused(Refusal::NotStarted);
@@ -126,7 +125,7 @@ impl Manager {
     fn report_orders(&self, id: NodeId, status: Status) -> Orders
         ensures { result
             ≡ report_orders (listing_in self.now) self.now.state.phase self.now.state.own
-            (open_less (open_in self.now) id status) id status }
+            (open_less (still_open self.now) id status) id status }
     {
         if self.state.phase.is_halted() {
             return Orders::None;
@@ -146,10 +145,9 @@ impl Manager {
 
     /// The answer to a report of a boot.
     #[inline(always)]
+    #[tactic(auto, using(crate::proofs::Granting::below_kept))]
     fn answer_report(&self, id: NodeId, number: u64, answers: &Answers) -> (Reply, Orders)
-        ensures { (result.0, result.1)
-            ≡ answer_from (listing_in self.now) (seen_by self.now id)
-            (call.Report id number answers.now) }
+        ensures { IsAnswer self.now (call.Report id number answers.now) result.0 result.1 }
     {
         if self.state.phase.is_idle() {
             return refused(Refusal::NotStarted);
@@ -160,7 +158,7 @@ impl Manager {
         if self.state.slaves.session(id) != Some(number) {
             return refused(Refusal::Stale);
         }
-        match judged_listed(terms, answers) {
+        match judged_by_tables(Some(terms), answers) {
             Some(status) => (Reply::Reported(status), self.report_orders(id, status)),
             None => refused(Refusal::BadReport),
         }
@@ -169,8 +167,7 @@ impl Manager {
     /// The answer to an error control message.
     #[inline(always)]
     fn answer_signal(&self, id: NodeId, byte: u8) -> (Reply, Orders)
-        ensures { (result.0, result.1)
-            ≡ answer_from (listing_in self.now) (seen_by self.now id) (call.Signal id byte) }
+        ensures { IsAnswer self.now (call.Signal id byte) result.0 result.1 }
     {
         if self.state.phase.is_idle() {
             return refused(Refusal::NotStarted);
@@ -202,9 +199,9 @@ impl Manager {
 
     /// The answer to a loss.
     #[inline(always)]
+    #[tactic(auto, using(crate::proofs::Granting::below_kept))]
     fn answer_lost(&self, id: NodeId) -> (Reply, Orders)
-        ensures { (result.0, result.1)
-            ≡ answer_from (listing_in self.now) (seen_by self.now id) (call.Lost id) }
+        ensures { IsAnswer self.now (call.Lost id) result.0 result.1 }
     {
         if self.state.phase.is_idle() {
             return refused(Refusal::NotStarted);
@@ -222,9 +219,7 @@ impl Manager {
     /// The answer to a request.
     #[inline(always)]
     fn answer_request(&self, target: u8, value: u8) -> (Reply, Orders)
-        ensures { (result.0, result.1)
-            ≡ answer_from (listing_in self.now) (seen_by self.now target)
-            (call.Request target value) }
+        ensures { IsAnswer self.now (call.Request target value) result.0 result.1 }
     {
         if self.state.phase.is_idle() {
             return refused(Refusal::NotStarted);
@@ -251,9 +246,9 @@ impl Manager {
 
     /// The answer to a read.
     #[inline(always)]
+    #[tactic(auto, using(crate::proofs::Granting::below_kept))]
     fn answer_read(&self, target: u8) -> (Reply, Orders)
-        ensures { (result.0, result.1)
-            ≡ answer_from (listing_in self.now) (seen_by self.now target) (call.Read target) }
+        ensures { IsAnswer self.now (call.Read target) result.0 result.1 }
     {
         if self.state.phase.is_idle() {
             return refused(Refusal::NotStarted);
@@ -268,7 +263,7 @@ impl Manager {
     #[inline(always)]
     fn is_late(&self, ms: u32) -> bool
         ensures { result
-            ≡ is_late (listing_in self.now) self.now.state.phase (open_in self.now) ms }
+            ≡ is_late (listing_in self.now) self.now.state.phase (still_open self.now) ms }
     {
         let limit = self.listing.boot_time();
         let booting = self.state.phase.is_booting();
@@ -278,8 +273,7 @@ impl Manager {
     /// The answer to a passing of time.
     #[inline(always)]
     fn answer_elapsed(&self, ms: u32) -> (Reply, Orders)
-        ensures { (result.0, result.1)
-            ≡ answer_from (listing_in self.now) (seen_by self.now 0) (call.Elapsed ms) }
+        ensures { IsAnswer self.now (call.Elapsed ms) result.0 result.1 }
     {
         if self.state.phase.is_idle() {
             return refused(Refusal::NotStarted);

@@ -12,8 +12,8 @@ ghost use Rattle.cm_sequential.specs.Changes.{Goes, IsGranted};
 use crate::listing_copy::ListingCopy;
 use crate::slaves::{SlaveTable, is_reset};
 use crate::state::NetworkState;
-use cm_nmt::{Answers, Command, NmtState, NodeId, Status};
 use cm_history::{ALL_NODES, Call, MISSING, Orders, Phase, Reply, state_reported};
+use cm_nmt::{Answers, Command, NmtState, NodeId, Status};
 
 /// Whether the status halts the boot of the network.
 #[inline(always)]

@@ -13,4 +13,3 @@ mod state;
 
 pub use manager::Manager;
 pub use sending::frames;
-pub use state::NetworkState;

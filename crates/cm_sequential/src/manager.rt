@@ -3,7 +3,7 @@ ghost use Rattle.cm_netlist.specs.Network.{Network as AnyNetwork, listing};
 ghost use Rattle.cm_history.specs.History.{begun_in, state_of, own_of, phase_of, is_booted, session_of, open_of, shown};
 ghost use Rattle.cm_history.specs.Answering.{answer_of};
 ghost use Rattle.cm_history.specs.declared.call.Entry.{Entry};
-ghost use Rattle.cm_sequential.specs.States.{kept_listing, Shows};
+ghost use Rattle.cm_sequential.specs.States.{kept_listing};
 ghost use Rattle.cm_sequential.specs.Changes.{Fits};
 
 use crate::listing_copy::ListingCopy;
@@ -83,14 +83,6 @@ impl Manager {
         let (reply, orders) = self.answer(&call);
         self.carry_out(&call, reply, &orders);
         (reply, orders)
-    }
-
-    /// All of the manager that changes.
-    pub fn state_now(&self) -> NetworkState
-        ensures { (net : AnyNetwork) (past : List Entry) → Stands self.now net past
-            → Shows result (listing net) past }
-    {
-        self.state
     }
 
     /// What a read of the node shows, in every phase: the state of a slave as [`Manager::state`]

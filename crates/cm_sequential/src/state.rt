@@ -17,7 +17,7 @@ use cm_nmt::{NmtState, NodeId};
 /// manager's own state, how many sessions were begun, and of each slave its state, whether it is
 /// booted, and its session.
 #[derive(Clone, Copy, Debug, PartialEq, Eq)]
-pub struct NetworkState {
+pub(crate) struct NetworkState {
     own_id: NodeId,
     pub(crate) phase: Phase,
     pub(crate) own: NmtState,
@@ -44,7 +44,7 @@ impl NetworkState {
 
     /// What a read of the node shows: the state of a slave as [`NetworkState::state`] gives it, and
     /// of the manager itself its own state, in every phase.
-    pub fn shown(&self, id: NodeId) -> u8
+    pub(crate) fn shown(&self, id: NodeId) -> u8
         ensures value { result ≡ (if id == self.now.own_id then state_code self.now.own
             else (kept_slave self.now.slaves id).state) }
         ensures shows { (net : Listing) (past : List Entry) → Shows self.now net past
@@ -59,7 +59,7 @@ impl NetworkState {
 
     /// The state of a slave as object 1F82h reads it: 0 unknown or not listed, 1 missing,
     /// 4 stopped, 5 operational, 127 pre-operational.
-    pub fn state(&self, id: NodeId) -> u8
+    pub(crate) fn state(&self, id: NodeId) -> u8
         ensures { (net : Listing) (past : List Entry) → Shows self.now net past
             → result ≡ state_of net past id }
     {
@@ -67,7 +67,7 @@ impl NetworkState {
     }
 
     /// The manager's own NMT state.
-    pub fn own(&self) -> NmtState
+    pub(crate) fn own(&self) -> NmtState
         ensures { (net : Listing) (past : List Entry) → Shows self.now net past
             → result ≡ own_of net past }
     {
@@ -75,7 +75,7 @@ impl NetworkState {
     }
 
     /// How far the manager has come with its network.
-    pub fn phase(&self) -> Phase
+    pub(crate) fn phase(&self) -> Phase
         ensures { (net : Listing) (past : List Entry) → Shows self.now net past
             → result ≡ phase_of net past }
     {
@@ -83,14 +83,14 @@ impl NetworkState {
     }
 
     /// How many mandatory slaves aren't booted.
-    pub fn open_mandatory(&self) -> u8
+    pub(crate) fn open_mandatory(&self) -> u8
         ensures { result ≡ length (members_of self.now.slaves.unbooted) }
     {
         self.slaves.count_open()
     }
 
     /// Whether the slave is booted.
-    pub fn booted(&self, id: NodeId) -> bool
+    pub(crate) fn booted(&self, id: NodeId) -> bool
         ensures { (net : Listing) (past : List Entry) → Shows self.now net past
             → result ≡ is_booted past id }
     {
@@ -98,7 +98,7 @@ impl NetworkState {
     }
 
     /// The number of the slave's session, if one is open.
-    pub fn session(&self, id: NodeId) -> Option<u64>
+    pub(crate) fn session(&self, id: NodeId) -> Option<u64>
         ensures { (net : Listing) (past : List Entry) → Shows self.now net past
             → result ≡ session_of past id }
     {
@@ -106,7 +106,7 @@ impl NetworkState {
     }
 
     /// How many sessions were begun.
-    pub fn begun(&self) -> u64
+    pub(crate) fn begun(&self) -> u64
         ensures value { result ≡ self.now.begun }
         ensures shows { (net : Listing) (past : List Entry) → Shows self.now net past
             → result ≡ begun_in past }

@@ -5,7 +5,7 @@ ghost use Rattle.cm_replay.specs.Compact.{IsReplayOfSome};
 use crate::support::{node, sure, terms_of};
 use arrayvec::ArrayVec;
 use cm_nmt::{Answers, Frame, Got, NmtState, NodeId, Startup, Status};
-use cm_history::{Call, Entry, Orders, Phase, Reply, Slave, abort_code};
+use cm_history::{Call, Entry, Orders, Phase, Reply, abort_code};
 use cm_netlist::{Network, SlaveEntry};
 use cm_replay::{Cause, CompactReplay, Untaken, replay, replay_to_fault};
 use cm_sequential::{Manager, frames};
@@ -87,16 +87,6 @@ fn two_refusals_have_an_abort_code(rt: HostRuntime) {
     ] {
         assert_eq!(rt; abort_code(refusal), code, "{refusal}");
     }
-}
-
-#[test]
-fn of_a_blank_slave_nothing_is_known(rt: HostRuntime) {
-    let blank = Slave {
-        state: 0,
-        booted: false,
-        session: None,
-    };
-    assert_eq!(rt; Slave::blank(), blank);
 }
 
 #[test]
@@ -189,7 +179,6 @@ fn a_call_is_answered_before_it_is_carried_out(rt: HostRuntime) {
         sure(&rt, applied.apply(call) == (reply, orders));
         sure(&rt, asked == applied);
         sure(&rt, asked.shown(two) == shown);
-        sure(&rt, asked.state_now().shown(two) == shown);
     }
     sure(&rt, asked.shown(node(&rt, 1)) == 5);
 }

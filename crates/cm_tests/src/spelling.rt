@@ -1,5 +1,5 @@
 use crate::support::sure;
-use cm_text::{Fields, hex2, hex4, hex8, is_word, read_decimal, read_hex2, read_hex4, read_hex8};
+use cm_text::{Fields, hex2, hex4, hex8, is_word, read_hex8};
 
 #[test]
 fn decimals_have_up_to_64_bits(rt: HostRuntime) {
@@ -8,14 +8,16 @@ fn decimals_have_up_to_64_bits(rt: HostRuntime) {
         (b"10".as_slice(), 10),
         (b"18446744073709551615".as_slice(), 18446744073709551615),
     ] {
-        sure(&rt, read_decimal(word, u64::MAX) == Some(number));
-        sure(&rt, read_decimal(word, number) == Some(number));
-        sure(
-            &rt,
-            Fields::new(word, b' ').decimal(u64::MAX) == Some(number),
-        );
-        if 0 < number {
-            sure(&rt, read_decimal(word, number - 1) == None);
+        for separator in [b' ', b'\n'] {
+            let fields = Fields::new(word, separator);
+            for most in [u64::MAX, number] {
+                let mut left = fields;
+                sure(&rt, left.decimal(most) == Some(number));
+            }
+            if 0 < number {
+                let mut left = fields;
+                sure(&rt, left.decimal(number - 1) == None);
+            }
         }
     }
     for word in [
@@ -25,7 +27,7 @@ fn decimals_have_up_to_64_bits(rt: HostRuntime) {
         b"18446744073709551616".as_slice(),
         b"\xD9\xA1".as_slice(),
     ] {
-        sure(&rt, read_decimal(word, u64::MAX) == None);
+        sure(&rt, Fields::new(word, b'\n').decimal(u64::MAX) == None);
     }
 }
 
@@ -44,8 +46,9 @@ fn digits_are_capital_and_as_many_as_the_width(rt: HostRuntime) {
         (b"0006019a".as_slice(), None, None, None),
         (b"00006019A".as_slice(), None, None, None),
     ] {
-        sure(&rt, read_hex2(word) == two);
-        sure(&rt, read_hex4(word) == four);
+        sure(&rt, Fields::new(word, b' ').hex2() == two);
+        sure(&rt, Fields::new(word, b' ').hex4() == four);
+        sure(&rt, Fields::new(word, b' ').hex8() == eight);
         sure(&rt, read_hex8(word) == eight);
     }
 }

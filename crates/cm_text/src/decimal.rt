@@ -3,7 +3,7 @@ ghost use Rattle.cm_text.specs.Decimal.{dec_of};
 
 /// The number, 0 to `most`, that a field of decimal digits spells; `None` exactly where it spells
 /// none: no digits, a leading zero, a sign, any other byte, or a number above `most`.
-pub fn read_decimal(word: &[u8], most: u64) -> Option<u64>
+pub(crate) fn read_decimal(word: &[u8], most: u64) -> Option<u64>
     ensures value { result ≡ dec_of most word.now }
     ensures small { IfSome result (λ n. n ≤ most) }
     ensures exact { MatchOption result

@@ -130,7 +130,7 @@ fn number(word: &[u8], width: usize) -> u64
 
 /// The byte that exactly two digits, `0` to `9` and `A` to `F`, spell; `None` exactly where the
 /// field is no such digits.
-pub fn read_hex2(word: &[u8]) -> Option<u8>
+pub(crate) fn read_hex2(word: &[u8]) -> Option<u8>
     ensures value { result ≡ two_of word.now }
     ensures exact { MatchOption result
         ((n : ℕ) → n < 2 ^ 8 → word.now ≢ hex_two n)
@@ -141,7 +141,7 @@ pub fn read_hex2(word: &[u8]) -> Option<u8>
 
 /// The number of 16 bits that exactly four digits, `0` to `9` and `A` to `F`, spell; `None`
 /// exactly where the field is no such digits.
-pub fn read_hex4(word: &[u8]) -> Option<u16>
+pub(crate) fn read_hex4(word: &[u8]) -> Option<u16>
     ensures value { result ≡ four_of word.now }
     ensures exact { MatchOption result
         ((n : ℕ) → n < 2 ^ 16 → word.now ≢ hex_four n)

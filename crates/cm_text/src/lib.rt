@@ -5,16 +5,14 @@
 //! 2, 4 or 8 digits of `0` to `9` and `A` to `F`. So each value has one spelling, and bytes that
 //! are the spelling of none are refused.
 //!
-//! Nothing here takes memory. `read_decimal`, `read_hex2`, `read_hex4` and `read_hex8` read one
-//! whole field, and `is_word` compares one with a text; `Fields` goes over the fields of a line, or
-//! the lines of a text, and reads them. Most fields it reads where they stand (`near.rt`), with no
-//! look for their end.
-//! === MERGED
-//! Reading an input to its end, whole or block by block, and never more of it than is allowed.
+//! `Fields` goes over the fields of a line, or the lines of a text, and reads them; most fields it
+//! reads where they stand (`near.rt`), with no look for their end. `read_hex8` reads one whole
+//! field, and `is_word` compares one with a text. None of this takes memory.
 //!
-//! Contracts hold for every reader. What they say of the bytes is what `std::io::Read` lets a
-//! reader promise; any error of a reader is a failed read, and nothing is tried again. No clause can
-//! say that no other error comes, however long the input is.
+//! `read_input` and `read_until` read an input to its end, whole or block by block, and never more
+//! of it than is allowed. Contracts hold for every reader. What they say of the bytes is what
+//! `std::io::Read` lets a reader promise; any error of a reader is a failed read, and nothing is
+//! tried again. No clause can say that no other error comes, however long the input is.
 #![tactic(auto)]
 
 mod decimal;
@@ -25,8 +23,7 @@ mod places;
 mod reading;
 mod words;
 
-pub use decimal::read_decimal;
 pub use fields::Fields;
-pub use hex::{hex2, hex4, hex8, read_hex2, read_hex4, read_hex8};
-pub use reading::{Block, InputFault, read_input, read_more, read_until, skip_rest};
+pub use hex::{hex2, hex4, hex8, read_hex8};
+pub use reading::{Block, InputFault, read_input, read_until, skip_rest};
 pub use words::is_word;

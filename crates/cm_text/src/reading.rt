@@ -7,6 +7,10 @@ use std::io::Read;
 /// Room for the bytes of one read.
 pub type Block = [u8; 16384];
 
+// A loop must be known to end, and where an input ends is known only once it is read: so a loop over
+// reads counts to this, which no input comes to.
+const ENDLESS: u64 = u64::MAX;
+
 /// Why an input was not read.
 #[derive(Clone, Copy, Debug, PartialEq, Eq)]
 pub enum InputFault {
@@ -18,7 +22,7 @@ pub enum InputFault {
 
 /// Puts the bytes of one read, at most `most`, behind others. The answer is their number, which is
 /// 0 at the end of the input alone.
-pub fn read_more<R: Read>(
+fn read_more<R: Read>(
     reader: &mut R,
     block: &mut Block,
     bytes: &mut Vec<u8>,
@@ -54,7 +58,7 @@ pub fn read_until<R: Read>(
     // Before the end it doesn't stop with fewer bytes than are enough.
     ensures enough { IfOk result (λ ended. ended ≡ false → enough ≤ length bytes.new.items) }
 {
-    for _ in 0..u64::MAX {
+    for _ in 0..ENDLESS {
         if bytes.len() >= enough {
             return Ok(false);
         }
@@ -93,7 +97,7 @@ pub fn skip_rest<R: Read>(
     ensures { IfOk result (λ n. SkipsAll most (R.remaining reader.old) (R.remaining reader.new) n) }
 {
     let mut skipped = 0;
-    for _ in 0..u64::MAX {
+    for _ in 0..ENDLESS {
         let Ok(count) = reader.read(block) else {
             return Err(InputFault::Read);
         };

@@ -4,13 +4,15 @@ use Rattle.std.specs.Prelude.{reverse}
 use Rattle.std.proofs.lemmas.List.{length-reverse, reverse-append}
 use mathlib.Core.List.{IsPrefix}
 use Rattle.cm_netlist.specs.Network.{Network, listing}
-use Rattle.cm_history.specs.Answering.{answer_from, answer_of, node_named}
+use Rattle.cm_history.specs.Answering.{answer_of}
+use Rattle.cm_history.specs.Machine.{answer_in}
 use Rattle.cm_history.specs.declared.call.Call.{Call}
 use Rattle.cm_history.specs.declared.call.Entry.{Entry}
 use Rattle.cm_history.specs.declared.call.Orders.{Orders}
 use Rattle.cm_history.specs.declared.call.Reply.{Reply}
 use Rattle.cm_history.proofs.LegalHistories.{begun_most}
-use Rattle.cm_sequential.specs.Standing.{IsAnswer, Stands, listing_in, seen_by, sessions_begun}
+use Rattle.cm_sequential.specs.Changes.{machine}
+use Rattle.cm_sequential.specs.Standing.{IsAnswer, Stands, listing_in, sessions_begun}
 use Rattle.cm_sequential.specs.declared.manager.Manager.{Manager}
 use Rattle.cm_sequential.proofs.Standing.{stands_answer}
 use Rattle.cm_past.proofs.Prefixes.{one_longer}
@@ -20,7 +22,7 @@ use Rattle.cm_versions.specs.Operations.{IsLast}
 pub own_of_answer : (m : Manager) (net : Network) (past : List Entry) (c : Call) (r : Reply) (o : Orders) → Stands m net past
     → (r, o) ≡ answer_of (listing net) past c → IsAnswer m c r o
 own_of_answer m net past c r o stands answered =
-    let own : Reply × Orders = answer_from (listing_in m) (seen_by m (node_named c)) c in
+    let own : Reply × Orders = answer_in (listing_in m) (machine m.state) c in
     answered ∙ sym (stands_answer m net past c own.0 own.1 stands refl)
 
 -- a version has begun few sessions, since it has few entries
