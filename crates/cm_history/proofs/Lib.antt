@@ -8,3 +8,4 @@ mod Identity
 pub mod Started
 pub mod Operational
 mod Shown
+pub mod Replies

@@ -7,3 +7,4 @@ pub mod Legal
 pub mod OrderFrames
 pub mod NodeSets
 pub mod Laws
+pub mod Replies

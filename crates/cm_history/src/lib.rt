@@ -14,6 +14,7 @@ mod laws;
 mod node_set;
 mod phase;
 mod refusal;
+mod same_call;
 mod slave;
 
 pub use call::{ALL_NODES, Call, Entry, Orders, Reply, abort_code};
@@ -23,4 +24,5 @@ pub use laws::{
 pub use node_set::NodeSet;
 pub use phase::Phase;
 pub use refusal::Refusal;
+pub use same_call::is_same_call;
 pub use slave::{MISSING, Slave, UNKNOWN, state_reported};

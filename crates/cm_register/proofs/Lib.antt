@@ -1,6 +1,5 @@
 pub mod SeatCalls
 pub mod SeatLists
 pub mod Knowing
-pub mod Replies
 pub mod Longer
 pub mod Room

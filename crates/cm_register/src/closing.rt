@@ -1,20 +1,15 @@
-ghost use Rattle.std.specs.Prelude.{◌≡◌, ◌≤◌, [], length, map, reverse, vec_capacity, vec_len, IfOk, IfErr, IsTrue, ◌↔◌};
-ghost use Rattle.cm_netlist.specs.Network.{listing};
-ghost use Rattle.cm_history.specs.OrderFrames.{frames_in};
-ghost use Rattle.cm_history.specs.Legal.{AreOfSeats, IsLegal};
-ghost use Rattle.cm_sequential.specs.Standing.{Stands};
-ghost use Rattle.cm_register.specs.Closing.{AreApart, HaveTheirCalls, IsBookCause, calls_by, calls_in, count_calls};
-ghost use Rattle.cm_register.specs.Reads.{AllKnown};
+ghost use Rattle.std.specs.Prelude.{◌≡◌, ◌≤◌, length, map, vec_capacity, vec_len, IfOk, IfErr};
+ghost use Rattle.cm_register.specs.Closing.{IsBookCause, IsClosed, MayClose, calls_by, calls_in, count_calls};
 
 use crate::book::Book;
 use crate::compare::{are_apart, are_known, have_their_calls};
 use crate::run_name::RunName;
 use crate::seat::{Made, Seat};
 use cm_history::Entry;
+use cm_nmt::Wire;
 use cm_sequential::Manager;
 use cm_versions::{Operation, Version};
 use left_right::Absorb;
-use cm_nmt::Wire;
 use std::sync::Wait;
 use std::sync::ledger::Share;
 use thiserror::Error;
@@ -94,10 +89,8 @@ fn gather<K: RunName>(
 impl<'n, W: Wire, K: RunName, R: Wait + Drop> Book<'n, W, K, R> {
     /// Why this book can't be closed with these seats, if anything is in the way.
     fn close_cause(&self, seats: &[Seat<K>]) -> Result<(), CloseKind>
-        ensures may { IfOk result (λ u. (K.seats ≤ length seats.now)
-            × HaveTheirCalls self.now.history seats.now × AreApart seats.now
-            × AllKnown self.now.history seats.now) }
-        ensures fault { IfErr result (λ f. IsBookCause self.now.history K.seats seats.now f) }
+        ensures may { IfOk result (λ u. MayClose self.now.history K.seats seats.now) }
+        ensures fault { IfErr result (IsBookCause self.now.history K.seats seats.now) }
     {
         let given = seats.len();
         let wanted = usize::from(self.seats);
@@ -115,16 +108,9 @@ impl<'n, W: Wire, K: RunName, R: Wait + Drop> Book<'n, W, K, R> {
 
     /// Takes the book apart, and the seats.
     fn finish(self, seats: Vec<Seat<K>>) -> Closed<W>
-        requires all { K.seats ≤ length seats.items }
+        requires may { MayClose self.history K.seats seats.items }
         ensures history { result.history.items ≡ self.entry.history }
-        ensures legal { IsLegal (listing K.net) (reverse result.history.items) }
-        ensures few { length result.history.items ≤ K.limit }
-        ensures seated { AreOfSeats K.seats result.history.items }
-        ensures frames { W.sent result.wire ≡ frames_in (listing K.net) result.history.items }
-        ensures stands { Stands result.manager K.net (reverse result.history.items) }
-        ensures lists { map calls_in result.lists.items ≡ map calls_by seats.items }
-        ensures total { count_calls seats.items ≡ length result.history.items }
-        ensures all { length seats.items ≡ K.seats }
+        ensures closed { IsClosed W.sent K.net K.seats K.limit seats.items result }
     {
         let Book {
             net: _,
@@ -154,18 +140,7 @@ impl<'n, W: Wire, K: RunName, R: Wait + Drop> Book<'n, W, K, R> {
     /// where a number comes twice, and where what a seat knows isn't found to be of the history.
     pub fn close(self, seats: Vec<Seat<K>>) -> Result<Closed<W>, BookFault<'n, W, K, R>>
         ensures history { IfOk result (λ c. c.history.items ≡ self.entry.history) }
-        ensures legal { IfOk result (λ c. IsLegal (listing K.net) (reverse c.history.items)) }
-        ensures calls { IfOk result (λ c. HaveTheirCalls c.history.items seats.items) }
-        ensures seats { IfOk result (λ c. (length seats.items ≡ K.seats) × AreApart seats.items) }
-        ensures few { IfOk result (λ c. length c.history.items ≤ K.limit) }
-        ensures seated { IfOk result (λ c. AreOfSeats K.seats c.history.items) }
-        ensures total { IfOk result (λ c. count_calls seats.items ≡ length c.history.items) }
-        ensures lists { IfOk result (λ c. map calls_in c.lists.items ≡ map calls_by seats.items) }
-        ensures frames { IfOk result
-            (λ c. W.sent c.wire ≡ frames_in (listing K.net) c.history.items) }
-        ensures stands { IfOk result
-            (λ c. Stands c.manager K.net (reverse c.history.items)) }
-        ensures known { IfOk result (λ c. AllKnown c.history.items seats.items) }
+        ensures closed { IfOk result (IsClosed W.sent K.net K.seats K.limit seats.items) }
         ensures fault { IfErr result
             (λ f. IsBookCause self.entry.history K.seats seats.items f.kind) }
         ensures back { IfErr result

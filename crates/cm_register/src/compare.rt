@@ -6,9 +6,8 @@ ghost use Rattle.cm_register.specs.SeatCalls.{calls_of};
 
 use crate::run_name::RunName;
 use crate::seat::{Made, Seat};
-use cm_history::{Entry, Reply};
+use cm_history::{Entry, Reply, is_same_call};
 use cm_past::Past;
-use cm_versions::is_same_call;
 
 fn is_same_reply(one: &Reply, other: &Reply) -> bool
     ensures { IsTrue result ↔ (one.now ≡ other.now) }

@@ -1,5 +1,5 @@
 ghost use Rattle.std.specs.Prelude.{◌≡◌, ◌<◌, ◌≤◌, [], vec_capacity, vec_len, IfOk, IfErr};
-ghost use Rattle.cm_register.specs.Opening.{IsNameCause, IsOpenCause, MayOpen, fresh_seats};
+ghost use Rattle.cm_register.specs.Opening.{IsNameCause, fresh_seats};
 ghost use Rattle.left_right.specs.Handles.{published};
 
 use crate::book::Book;
@@ -10,9 +10,9 @@ use crate::run_name::RunName;
 use crate::seat::Seat;
 use cm_history::Entry;
 use cm_netlist::Network;
+use cm_nmt::Wire;
 use cm_past::UnnamedLog;
 use cm_versions::{Versions, new_reader, open_versions};
-use cm_nmt::Wire;
 use std::alloc::Global;
 use std::marker::Brand;
 use std::sync::Wait;
@@ -44,6 +44,9 @@ pub struct Opened<'n, W: Wire, R: Drop> {
 }
 
 impl<'n, W: Wire, R: Wait + Drop> Book<'n, W, Brand, R> {
+    ghost use Rattle.cm_register.specs.Naming.{IsOpened};
+    ghost use Rattle.cm_register.specs.Opening.{IsOpenCause};
+
     /// Opens a register for one thread, which [`Opened::book`] then names: with this many seats, 1 to
     /// 64, and at most `limit` entries in its history, 1 to 65,536. After a refusal the wire is dropped.
     pub fn open(
@@ -54,10 +57,8 @@ impl<'n, W: Wire, R: Wait + Drop> Book<'n, W, Brand, R> {
         limit: u32,
         wire: W,
     ) -> Result<Opened<'n, W, R>, OpenFault>
-        ensures may { IfOk result (λ o. MayOpen seats limit (W.sent wire)) }
-        ensures given { IfOk result (λ o. (o.net.now ≡ net.now) × (o.seats ≡ seats)
-            × (o.limit ≡ limit) × (o.wire ≡ wire)) }
-        ensures fault { IfErr result (λ f. IsOpenCause seats limit (W.sent wire) f) }
+        ensures opened { IfOk result (IsOpened net.now seats limit wire) }
+        ensures fault { IfErr result (IsOpenCause seats limit (W.sent wire)) }
     {
         if seats < 1 || seats > 64 {
             return Err(OpenFault::BadSeats);
@@ -118,14 +119,15 @@ fn make_seats<K: RunName, R: Wait + Drop>(
 }
 
 impl<'n, W: Wire, R: Wait + Drop> Opened<'n, W, R> {
+    ghost use Rattle.cm_register.specs.Naming.{Names};
+
     /// The book and the seats in order, which have made no call and seen nothing: a register for one
     /// thread. The condition says that `K` names this register; [`std::marker::Brand`] is passed for
     /// it. Refused where memory is, or a seat is given no reader; the wire is dropped then.
     pub fn book<K: RunName>(self) -> Result<(Book<'n, W, K, R>, Vec<Seat<K>>), OpenFault>
     where
         R: Copy,
-        requires { (self.blank.name ≡ K.name) × (self.seats ≡ K.parts) × (self.seats ≡ K.seats)
-            × (self.limit ≡ K.limit) × (self.net.now ≡ K.net) × (self.log ≡ K.log) }
+        requires { Names K.RunName self }
         ensures book { IfOk result (λ r. (r.0.history ≡ []) × (r.0.sent ≡ [])
             × (r.0.room ≡ W.room_of self.entry.wire)) }
         ensures seats { IfOk result (λ r. r.1.items ≡ fresh_seats K.seats) }
@@ -162,8 +164,7 @@ impl<'n, W: Wire, R: Wait + Drop> Opened<'n, W, R> {
     pub fn named<K: RunName>(self) -> Result<(Register<'n, W, K, R>, Vec<Seat<K>>), OpenFault>
     where
         R: Copy,
-        requires { (self.blank.name ≡ K.name) × (self.seats ≡ K.parts) × (self.seats ≡ K.seats)
-            × (self.limit ≡ K.limit) × (self.net.now ≡ K.net) × (self.log ≡ K.log) }
+        requires { Names K.RunName self }
         ensures seats { IfOk result (λ r. r.1.items ≡ fresh_seats K.seats) }
         ensures fault { IfErr result IsNameCause }
     {

@@ -10,12 +10,10 @@
 
 mod operation;
 mod reader;
-mod same_call;
 mod version;
 mod versions;
 
 pub use operation::Operation;
 pub use reader::{Look, Reader};
-pub use same_call::is_same_call;
 pub use version::Version;
 pub use versions::{Versions, add_call, new_reader, open_versions};

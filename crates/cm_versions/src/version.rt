@@ -7,8 +7,7 @@ ghost use Rattle.cm_sequential.specs.Standing.{Stands};
 ghost use Rattle.cm_versions.specs.Operations.{IsLast};
 
 use crate::operation::Operation;
-use crate::same_call::is_same_call;
-use cm_history::{Call, Entry, Orders, Reply};
+use cm_history::{Call, Entry, Orders, Reply, is_same_call};
 use cm_netlist::Network;
 use cm_past::{Appender, HistoryName, Past};
 use cm_sequential::Manager;

@@ -27,6 +27,7 @@ fn publish<K: HistoryName, R: Wait + Drop>(rt: &R, versions: &mut Versions<K, R>
     ensures none { pending versions.new ≡ [] }
 {
     let mut rounds: u32 = 1;
+    // No number of rounds is proved to do, so the loop is one that may not end.
     for _ in rt.forever() {
         if versions.publish().is_ok() {
             return rounds;
