@@ -2,9 +2,9 @@ ghost use Rattle.std.specs.Prelude.{◌≡◌, ◌++◌, ◌<◌};
 ghost use Rattle.cm_run.specs.Rounds.{Gives, HasRound, calls_in, is_followed, last_of};
 
 use crate::outcome::{Attempt, Last, Outcome};
-use cm_nmt::{NodeId, Status};
 use cm_boot::{Bus, boot_slave};
 use cm_history::{Call, Reply};
+use cm_nmt::{NodeId, Status};
 use cm_register::{Register, RunName, Seat, Wire};
 use std::sync::Wait;
 

@@ -53,8 +53,7 @@ impl Manager {
     pub fn carry_out(&mut self, call: &Call, reply: Reply, orders: &Orders)
         requires few { sessions_begun self.old < 2 ^ 64 - 1 }
         requires answered { IsAnswer self.old call.now reply orders.now }
-        ensures stands { (net : AnyNetwork) (past : List Entry) (seat : ℕ)
-            → Stands self.old net past
+        ensures stands { (net : AnyNetwork) (past : List Entry) (seat : ℕ) → Stands self.old net past
             → Stands self.new net
             (record { seat = seat; call = call.now; reply = reply; orders = orders.now } ∷ past) }
         ensures refused { (number : ℕ) → reply ≡ Reply.Refused number → self.new ≡ self.old }
@@ -73,8 +72,7 @@ impl Manager {
         requires { sessions_begun self.old < 2 ^ 64 - 1 }
         ensures answer { (net : AnyNetwork) (past : List Entry) → Stands self.old net past
             → (result.0, result.1) ≡ answer_of (listing net) past call }
-        ensures stands { (net : AnyNetwork) (past : List Entry) (seat : ℕ)
-            → Stands self.old net past
+        ensures stands { (net : AnyNetwork) (past : List Entry) (seat : ℕ) → Stands self.old net past
             → Stands self.new net
             (record { seat = seat; call = call; reply = result.0; orders = result.1 } ∷ past) }
         ensures refused { (number : ℕ) → result.0 ≡ Reply.Refused number → self.new ≡ self.old }

@@ -2,9 +2,9 @@ ghost use Rattle.std.specs.Prelude.{◌≡◌};
 ghost use Rattle.cm_netlist.specs.Network.{terms};
 ghost use Rattle.cm_simulated.specs.Slaves.{answer_to, left_after, object, agreeing_with, followed, reaches, state_after, to_read, to_state, to_write};
 
-use cm_nmt::{Command, Frame, Got, NmtState, NodeId, Target};
 use cm_boot::{Answer, Question};
 use cm_netlist::Network;
+use cm_nmt::{Command, Frame, Got, NmtState, NodeId, Target};
 
 /// What a simulated slave answers. `NotAsked` stands for silence, and so does a value in
 /// `write_fault`. An object that it doesn't have is silence too.

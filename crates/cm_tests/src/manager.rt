@@ -4,9 +4,9 @@ ghost use Rattle.cm_replay.specs.Compact.{IsReplayOfSome};
 
 use crate::support::{node, sure, terms_of};
 use arrayvec::ArrayVec;
-use cm_nmt::{Answers, Frame, Got, NmtState, NodeId, Startup, Status};
 use cm_history::{Call, Entry, Orders, Phase, Reply, abort_code};
 use cm_netlist::{Network, SlaveEntry};
+use cm_nmt::{Answers, Frame, Got, NmtState, NodeId, Startup, Status};
 use cm_replay::{Cause, CompactReplay, Untaken, replay, replay_to_fault};
 use cm_sequential::{Manager, frames};
 use std::alloc::Global;

@@ -1,7 +1,7 @@
 use arrayvec::ArrayVec;
-use cm_nmt::{Answers, Assignment, Got, NodeId, Startup, Terms};
 use cm_history::{Call, Entry, Orders, Reply};
 use cm_netlist::{Network, SlaveEntry};
+use cm_nmt::{Answers, Assignment, Got, NodeId, Startup, Terms};
 use cm_register::{Closed, Register, RunName, Seat, Wire};
 use std::alloc::Global;
 use std::sync::Wait;

@@ -3,8 +3,8 @@
 ghost use Rattle.std.specs.Prelude.{◌≡◌};
 
 use crate::support::{frame, is_made, is_refused, network, node, sure};
-use cm_nmt::{NmtState, Status};
 use cm_history::{Call, Entry, Orders, Phase, Reply};
+use cm_nmt::{NmtState, Status};
 use cm_register::{Book, BookFault, CallFault, CloseKind, Opened, RunName, Seat, Wire};
 use register_support::{Lent, Tape, answers, entry};
 use std::alloc::Global;

@@ -4,8 +4,8 @@
 ghost use Rattle.std.specs.Prelude.{◌≡◌};
 
 use crate::support::{agreeing, is_made, network, node, sure};
-use cm_nmt::Status;
 use cm_history::{Call, Reply};
+use cm_nmt::Status;
 use cm_register::{CallFault, Closed, Opened, Register, RunName, Seat};
 use cm_run::{Booted, Last, Outcome, RunFault, RunKind, SimBus, SimWire, boot_all};
 use register_support::close;

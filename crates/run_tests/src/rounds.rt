@@ -3,8 +3,8 @@
 ghost use Rattle.std.specs.Prelude.{◌≡◌};
 
 use crate::support::{network, node, sure};
-use cm_nmt::{NodeId, Status};
 use cm_history::{Call, Reply};
+use cm_nmt::{NodeId, Status};
 use cm_register::{Opened, Receipt, Register, RunName};
 use cm_run::{Last, Outcome, operate, round};
 use cm_simulated::{SimBus, SimSlave};

@@ -3,10 +3,10 @@
 ghost use Rattle.std.specs.Prelude.{◌≡◌, ⊤};
 
 use crate::support::{network, node, sure};
-use cm_nmt::{NodeId, Status};
 use cm_boot::{Answer, Bus, Question};
 use cm_history::Call;
 use cm_netlist::Network;
+use cm_nmt::{NodeId, Status};
 use cm_register::{Opened, Register, RunName};
 use cm_run::{Booted, Last, Outcome, RunKind, boot_all};
 use cm_simulated::{SimBus, SimSlave};
