@@ -1,12 +1,11 @@
 //! Histories of calls to the NMT master: the calls with their replies, refusals and orders, a set of
 //! node-IDs as the open slaves are, and, in specs/, what a history says, what the answer to a call is
-//! after it, and the frames that orders send.
-//! Nothing here takes memory.
-//! === MERGED
-//! What holds in every legal history, as laws over the definitions alone: no boot starts a slave of
-//! wrong identity, the network becomes operational only with every mandatory slave booted, and the
-//! machine by which the manager is programmed shows its history. And a law of every history: a read is
-//! answered with what the history shows of the node.
+//! after it, and the frames that orders send. Nothing here takes memory.
+//!
+//! What holds in every legal history stands here as laws over the definitions alone: no boot starts a
+//! slave of wrong identity, the network becomes operational only with every mandatory slave booted,
+//! and the machine by which the manager is programmed shows its history. And a law of every history: a
+//! read is answered with what the history shows of the node.
 #![tactic(auto)]
 
 mod call;
