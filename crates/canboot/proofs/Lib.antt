@@ -1,2 +1,1 @@
 pub mod Seats
-pub mod Spelling

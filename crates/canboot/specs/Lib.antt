@@ -1,4 +1,3 @@
 pub mod Run
-pub mod Simulated
 pub mod Program
 pub use Rattle.canboot_check.specs.Check

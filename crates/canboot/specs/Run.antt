@@ -3,8 +3,7 @@ use Rattle.std.specs.Prelude.{◌≡◌, ◌⊎◌, ◌+◌, ℕ, List, Option, 
 use Rattle.std.specs.Io.KnownBytes.{Appends}
 use Rattle.cm_nmt.specs.Bits.{has_bit}
 use Rattle.cm_netlist.specs.Network.{Network}
-use Rattle.cm_history.specs.declared.call.Entry.{Entry}
-use Rattle.cm_format.specs.Text.{content, text}
+use Rattle.cm_format.specs.Text.{JournalView, text}
 use Rattle.cm_format.specs.Journals.{IsJournal}
 use Rattle.cm_format.specs.Report.{report_text}
 use Rattle.canboot_check.specs.Check.{IsFaultyText, IsList}
@@ -15,20 +14,21 @@ AppendsIfThere (Some old) (Some new) bytes = Appends old new bytes
 AppendsIfThere None None bytes = Unit {0}
 AppendsIfThere _ _ bytes = ⊥
 
--- the input was read to its end and is this network list, and a journal of it has these entries, which are legal, a seat
+-- the input was read to its end and is the network list of this journal, whose entries are legal, and which has a seat
 -- for each of this many workers and one more, and a limit of 4,096 entries
-pub record IsRun (workers : ℕ) (input input' : Option (List ℕ)) (net : Network) (entries : List Entry) : Type 0 where
-  pub list : IsList input input' net
-  pub journal : IsJournal net (workers + 1) 4096 entries
+pub record IsRun (workers : ℕ) (input input' : Option (List ℕ)) (j : JournalView) : Type 0 where
+  pub list : IsList input input' j.network
+  pub journal : IsJournal j
+  pub seats : j.seats ≡ workers + 1
+  pub limit : j.limit ≡ 4096
 
 -- the input was read to its end and is a network list; of the legal history of a journal of it just the report was
 -- written, and to the journal's output, if there is one, just the text of that journal
 pub record Runs (workers : ℕ) (input input' output output' : Option (List ℕ)) (journal journal' : Option (Option (List ℕ))) : Type 0 where
-  pub net : Network
-  pub entries : List Entry
-  pub run : IsRun workers input input' net entries
-  pub reported : Appends output output' (report_text net entries)
-  pub recorded : AppendsIfThere journal journal' (text (content net (workers + 1) 4096 entries))
+  pub of : JournalView
+  pub run : IsRun workers input input' of
+  pub reported : Appends output output' (report_text of.network of.entries)
+  pub recorded : AppendsIfThere journal journal' (text of)
 
 -- the input was read to its end and is a network list of which 1F80h bit 0 is clear (CiA 302-2: the device isn't the NMT
 -- master)
@@ -45,4 +45,4 @@ pub record RefusesRun (input input' output output' : Option (List ℕ)) (journal
 -- nothing was written, or the report of such a history was to be written
 abbrev pub FailsToRun : ℕ → Option (List ℕ) → Option (List ℕ) → Option (List ℕ) → Option (List ℕ) → Option (Option (List ℕ)) → Option (Option (List ℕ)) → Type 0
 FailsToRun workers input input' output output' journal journal' =
-    ((output' ≡ output) × (journal' ≡ journal)) ⊎ ((net : Network) × ((entries : List Entry) × IsRun workers input input' net entries))
+    ((output' ≡ output) × (journal' ≡ journal)) ⊎ ((j : JournalView) × IsRun workers input input' j)

@@ -2,7 +2,6 @@
 //! and `canboot check`, `canboot run` and `canboot replay` over any reader and writer. The program is `canboot_main`.
 #![tactic(auto)]
 
-mod fitting;
 mod program;
 mod running;
 mod simulation;
