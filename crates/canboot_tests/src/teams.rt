@@ -2,14 +2,15 @@
 
 ghost use Rattle.std.specs.Prelude.{◌≡◌};
 
-use crate::support::{is_made, network, node, sure};
+use crate::runs::full_list;
+use crate::written::sure;
 use canboot::replay_text;
 use cm_history::{Call, Reply};
 use cm_netlist::Network;
-use cm_nmt::NodeId;
-use cm_register::{Closed, Opened, Register, RunName, Seat};
+use cm_nmt::{Answers, Got, NodeId};
+use cm_register::{Closed, Opened, Receipt, Register, RunName, Seat};
+use cm_simulated::SimWire;
 use cm_writer::journal_write;
-use register_support::{Tape, answers, close};
 use std::alloc::Global;
 use std::marker::Brand;
 use std::process::Abort;
@@ -33,6 +34,14 @@ const MOST_SECONDS: u64 = 30;
 
 /// How many calls the boot of one slave has, until it is lost again.
 const ROUND: u8 = 8;
+
+/// Answers with which a slave of which no value is expected boots.
+fn answers() -> Answers {
+    Answers {
+        device: Got::Value(0x0002_0192),
+        ..Answers::new()
+    }
+}
 
 /// One who makes calls, with slaves of its own: at which slave, which call is next, the session, and
 /// how many calls were made.
@@ -83,7 +92,7 @@ impl<K: RunName> Caller<K> {
     }
 
     /// Makes calls until there are enough.
-    fn call_often<R: Wait + Drop>(&mut self, rt: &R, register: &Register<Tape, K, R>) {
+    fn call_often<R: Wait + Drop>(&mut self, rt: &R, register: &Register<SimWire, K, R>) {
         for _ in self.made..CALLS {
             let call = self.next_call();
             if let Ok(receipt) = register.call(rt, &mut self.seat, call) {
@@ -101,7 +110,7 @@ fn callers_of<K: RunName>(
 ) -> Result<Vec<Caller<K>>, Fail> {
     let mut callers = Vec::new(alloc);
     for seat in seats {
-        let slave = node(rt, seat.number() as u8);
+        let slave = NodeId::new(seat.number() as u8).expect(rt, "a node-ID");
         callers.push(Caller {
             seat,
             slave,
@@ -131,8 +140,8 @@ fn seats_of<K: RunName>(
 fn calls<K: RunName + Send + Sync, R: Wait + Threads + Abort + Drop + Copy + Send + Sync>(
     rt: &R,
     alloc: Global,
-    opened: Opened<Tape, R>,
-) -> Result<Closed<Tape>, Fail>
+    opened: Opened<SimWire, R>,
+) -> Result<Closed<SimWire>, Fail>
     requires { (opened.blank.name ≡ K.name) × (opened.seats ≡ K.parts) × (opened.seats ≡ K.seats)
         × (opened.limit ≡ K.limit) × (opened.net.now ≡ K.net) × (opened.log ≡ K.log) }
 {
@@ -144,7 +153,11 @@ fn calls<K: RunName + Send + Sync, R: Wait + Threads + Abort + Drop + Copy + Sen
         return Err(Fail::from("callers"));
     };
     let start = register.call(rt, &mut first.seat, Call::StartNetwork);
-    is_made(rt, start, 1, Reply::Started);
+    let started = Receipt {
+        position: 1,
+        reply: Reply::Started,
+    };
+    sure(rt, start.ok() == Some(started));
     first.made = 1;
     thread::for_each_mut(
         rt,
@@ -152,23 +165,29 @@ fn calls<K: RunName + Send + Sync, R: Wait + Threads + Abort + Drop + Copy + Sen
         THREADS,
         &|_, caller| { caller.call_often(rt, &register) },
     );
-    close(register, seats_of(rt, alloc, callers)?)
+    let Ok(closed) = register.close(seats_of(rt, alloc, callers)?) else {
+        return Err(Fail::from("close"));
+    };
+    Ok(closed)
 }
 
 /// A network whose slaves are all other nodes.
-fn full_network(rt: &impl Abort, alloc: Global) -> Network {
-    let mut slaves = [(0, 0x0D); 126];
-    for (place, (number, _)) in slaves.iter_mut().enumerate() {
-        *number = place as u8 + 1;
-    }
-    network(rt, alloc, 127, &slaves)
+fn full_network(alloc: Global) -> Result<Network, Fail> {
+    let list = full_list(alloc)?;
+    let Ok(text) = str::from_utf8(list.as_slice()) else {
+        return Err(Fail::from("text"));
+    };
+    let Ok(net) = Network::from_toml(alloc, text) else {
+        return Err(Fail::from("list"));
+    };
+    Ok(net)
 }
 
 #[test]
 fn teams_make_65536_calls(rt: HostRuntime) -> Result<(), Fail> {
     let begin = Instant::now(&rt)?;
-    let net = full_network(&rt, rt.alloc());
-    let wire = Tape::new(rt.alloc(), &[], 100_000)?;
+    let net = full_network(rt.alloc())?;
+    let wire = SimWire::new(rt.alloc(), 100_000)?;
     let Ok(opened) = Register::open(rt.alloc(), rt, &net, SEATS, LIMIT, wire) else {
         return Err(Fail::from("open"));
     };
