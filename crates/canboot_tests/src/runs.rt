@@ -44,7 +44,7 @@ fn one_silent() -> Options
 }
 
 /// A list of 126 mandatory slaves.
-fn full_list(alloc: Global) -> Result<Vec<u8>, Fail> {
+pub(crate) fn full_list(alloc: Global) -> Result<Vec<u8>, Fail> {
     let mut list: Vec<u8> = Vec::new(alloc);
     writeln!(list, "own = 127\nstartup = 1")?;
     for id in 1..127 {

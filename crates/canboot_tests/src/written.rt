@@ -12,7 +12,8 @@ const JOURNAL: &[u8] =
 const REPORT: &[u8] =
     b"phase ready\nown operational\nentries 4\nopen 0\nframe 82 00\nframe 01 02\nslave 2 state 5 booted yes session 0 last Ok\n";
 
-fn sure(rt: &impl Abort, is_so: bool) {
+// Each comparison is asserted here, since an assertion of its own in each place is long to prove.
+pub(crate) fn sure(rt: &impl Abort, is_so: bool) {
     assert!(rt; is_so);
 }
 

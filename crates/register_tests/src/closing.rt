@@ -2,11 +2,13 @@
 
 ghost use Rattle.std.specs.Prelude.{◌≡◌};
 
-use crate::support::{frame, is_made, is_refused, lacks_seats, network, sure};
+use crate::support::{
+    close, entry, frame, is_made, is_refused, lacks_seats, network, open, sees, stop_the_slave,
+    sure,
+};
 use cm_history::{Call, Orders, Reply};
-use cm_register::{CallFault, Opened, Register, RunName, SeatList};
-use cm_run::SimWire;
-use register_support::{Tape, close, entry};
+use cm_register::{CallFault, Opened, RunName, SeatList};
+use cm_simulated::SimWire;
 use std::marker::Brand;
 use std::process::Abort;
 use std::sync::Wait;
@@ -15,10 +17,7 @@ use std::test::Fail;
 #[test]
 fn a_full_wire_refuses_a_call(rt: HostRuntime) -> Result<(), Fail> {
     let net = network(&rt, rt.alloc(), 1, &[(2, 0x05), (3, 0x15), (4, 0x05)]);
-    let wire = SimWire::new(rt.alloc(), 1)?;
-    let Ok(opened) = Register::open(rt.alloc(), rt, &net, 1, 10, wire) else {
-        return Err(Fail::from("open"));
-    };
+    let opened = open(rt, rt.alloc(), &net, 1, 10, 1)?;
     lacks_room::<Brand, _>(&rt, opened)
 }
 
@@ -54,10 +53,7 @@ fn lacks_room<K: RunName, R: Wait + Abort + Drop + Copy>(
 #[test]
 fn a_call_returns_what_is_recorded(rt: HostRuntime) -> Result<(), Fail> {
     let net = network(&rt, rt.alloc(), 1, &[]);
-    let wire = Tape::new(rt.alloc(), &[], 10)?;
-    let Ok(opened) = Register::open(rt.alloc(), rt, &net, 2, 12, wire) else {
-        return Err(Fail::from("open"));
-    };
+    let opened = open(rt, rt.alloc(), &net, 2, 12, 10)?;
     calls_in_turn::<Brand, _>(&rt, opened)
 }
 
@@ -74,7 +70,7 @@ fn has_places(list: &SeatList, number: u16, places: &[u32]) -> bool {
 
 fn calls_in_turn<K: RunName, R: Wait + Abort + Drop + Copy>(
     rt: &R,
-    opened: Opened<Tape, R>,
+    opened: Opened<SimWire, R>,
 ) -> Result<(), Fail>
     requires { (opened.blank.name ≡ K.name) × (opened.seats ≡ K.parts) × (opened.seats ≡ K.seats)
         × (opened.limit ≡ K.limit) × (opened.net.now ≡ K.net) × (opened.log ≡ K.log) }
@@ -82,16 +78,20 @@ fn calls_in_turn<K: RunName, R: Wait + Abort + Drop + Copy>(
     let Ok((register, mut seats)) = opened.named::<K>() else {
         return Err(Fail::from("named"));
     };
-    let [first, second] = seats.as_mut_slice() else {
+    let Some(mut second) = seats.pop() else {
         return Err(Fail::from("seats"));
     };
-    let started = register.call(rt, first, Call::StartNetwork);
-    let read = register.call(rt, second, Call::Read(1));
-    let elapsed = register.call(rt, first, Call::Elapsed(0));
+    let Some(mut first) = seats.pop() else {
+        return Err(Fail::from("seats"));
+    };
+    let started = register.call(rt, &mut first, Call::StartNetwork);
+    let read = register.call(rt, &mut second, Call::Read(1));
+    let elapsed = register.call(rt, &mut first, Call::Elapsed(0));
     is_made(rt, started, 1, Reply::Started);
     is_made(rt, read, 2, Reply::State(127));
     is_made(rt, elapsed, 3, Reply::InTime);
-    seats.as_mut_slice().reverse();
+    seats.push(second)?;
+    seats.push(first)?;
     let closed = close(register, seats)?;
     let entries = [
         entry(1, Call::StartNetwork, Reply::Started, Orders::ResetUnkept),
@@ -110,17 +110,15 @@ fn calls_in_turn<K: RunName, R: Wait + Abort + Drop + Copy>(
 
 #[test]
 fn a_seat_that_was_dropped_is_missing(rt: HostRuntime) -> Result<(), Fail> {
-    let net = network(&rt, rt.alloc(), 1, &[]);
-    let wire = Tape::new(rt.alloc(), &[], 10)?;
-    let Ok(opened) = Register::open(rt.alloc(), rt, &net, 2, 12, wire) else {
-        return Err(Fail::from("open"));
-    };
+    let net = network(&rt, rt.alloc(), 1, &[(5, 0x05)]);
+    let opened = open(rt, rt.alloc(), &net, 2, 12, 10)?;
     drops_a_seat::<Brand, _>(&rt, opened)
 }
 
+/// A seat calls and reads as before where another was dropped, and the register doesn't close.
 fn drops_a_seat<K: RunName, R: Wait + Abort + Drop + Copy>(
     rt: &R,
-    opened: Opened<Tape, R>,
+    opened: Opened<SimWire, R>,
 ) -> Result<(), Fail>
     requires { (opened.blank.name ≡ K.name) × (opened.seats ≡ K.parts) × (opened.seats ≡ K.seats)
         × (opened.limit ≡ K.limit) × (opened.net.now ≡ K.net) × (opened.log ≡ K.log) }
@@ -133,8 +131,9 @@ fn drops_a_seat<K: RunName, R: Wait + Abort + Drop + Copy>(
     let [seat] = seats.as_mut_slice() else {
         return Err(Fail::from("seats"));
     };
-    let start = register.call(rt, seat, Call::StartNetwork);
-    is_made(rt, start, 1, Reply::Started);
+    sees(rt, seat, 5, 0, 0);
+    stop_the_slave(rt, &register, seat);
+    sees(rt, seat, 5, 2, 4);
     lacks_seats(rt, register, seats, 1)?;
     Ok(())
 }

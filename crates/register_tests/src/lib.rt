@@ -1,9 +1,12 @@
 //! What no contract says of the register: that it opens, that its calls are made and that it closes,
-//! in one thread and in many. One file for each topic.
+//! in one thread and in many; that each seat has a place for reads without the lock, that they see the
+//! calls of all seats, and that they go on while a call is made. One file for each topic.
 #![tactic(auto)]
 
 #[cfg(test)]
 mod closing;
+#[cfg(test)]
+mod holding;
 #[cfg(test)]
 mod memory;
 #[cfg(test)]
@@ -11,8 +14,12 @@ mod one_book;
 #[cfg(test)]
 mod opening;
 #[cfg(test)]
-mod support;
+mod panel;
 #[cfg(test)]
-mod teams;
+mod rounds;
+#[cfg(test)]
+mod seats;
+#[cfg(test)]
+mod support;
 #[cfg(test)]
 mod threads;

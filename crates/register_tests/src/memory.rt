@@ -1,26 +1,37 @@
-//! Memory that is refused once, wherever it is: nothing is lost, and the same again is made.
+//! Memory that is refused once, wherever it is (by hand, `rt try --test --fail-alloc N`): nothing is
+//! lost, and the same again is made. Once a register is open, a call wants memory only for its seat's
+//! list, and a read wants none.
 
 ghost use Rattle.std.specs.Prelude.{◌≡◌};
 
-use crate::support::{frame, is_made, network, sure};
+use crate::support::{close, entry, frame, is_made, network, sees, sure};
 use cm_history::{Call, Orders, Reply};
 use cm_netlist::Network;
 use cm_register::{CallFault, OpenFault, Opened, Register, RunName, Seat};
-use cm_run::operate;
-use register_support::{Tape, close, entry};
+use cm_simulated::SimWire;
 use std::alloc::Global;
 use std::marker::Brand;
 use std::process::Abort;
 use std::sync::Wait;
 use std::test::Fail;
 
-/// How many calls are made, for which the list of a seat is made longer several times.
-const CALLS: u32 = 20;
+/// How many calls are made, for which the list of a seat is made longer several times, and how many
+/// reads.
+const CALLS: u32 = 30;
+
+/// The call at this place, its reply, and the manager's own state after it.
+fn story(position: u32) -> (Call, Reply, u8) {
+    match position {
+        1 => (Call::StartNetwork, Reply::Started, 127),
+        _ if position % 2 == 0 => (Call::Request(1, 4), Reply::Done, 4),
+        _ => (Call::Request(1, 5), Reply::Done, 5),
+    }
+}
 
 /// Makes a call, and once more where memory is refused.
 fn insist<K: RunName, R: Wait + Abort + Drop>(
     rt: &R,
-    register: &Register<Tape, K, R>,
+    register: &Register<SimWire, K, R>,
     seat: &mut Seat<K>,
     call: &Call,
     position: u32,
@@ -36,10 +47,23 @@ fn insist<K: RunName, R: Wait + Abort + Drop>(
     is_made(rt, register.call(rt, seat, *call), position, reply);
 }
 
-/// Names the register, makes the calls, and closes it. Whether memory for the name was there.
-fn calls<K: RunName, R: Wait + Abort + Drop + Copy>(
+/// Makes a call, and then reads.
+fn call_and_read<K: RunName, R: Wait + Abort + Drop>(
     rt: &R,
-    opened: Opened<Tape, R>,
+    register: &Register<SimWire, K, R>,
+    seat: &mut Seat<K>,
+    position: u32,
+) {
+    let (call, reply, state) = story(position);
+    insist(rt, register, seat, &call, position, reply);
+    sees(rt, seat, 1, position, state);
+}
+
+/// Names the register, makes the calls and the reads, and closes it. Whether memory for the name was
+/// there.
+fn calls_and_reads<K: RunName, R: Wait + Abort + Drop + Copy>(
+    rt: &R,
+    opened: Opened<SimWire, R>,
 ) -> Result<bool, Fail>
     requires { (opened.blank.name ≡ K.name) × (opened.seats ≡ K.parts) × (opened.seats ≡ K.seats)
         × (opened.limit ≡ K.limit) × (opened.net.now ≡ K.net) × (opened.log ≡ K.log) }
@@ -57,16 +81,8 @@ fn calls<K: RunName, R: Wait + Abort + Drop + Copy>(
     let [seat] = seats.as_mut_slice() else {
         return Err(Fail::from("seats"));
     };
-    insist(rt, &register, seat, &Call::StartNetwork, 1, Reply::Started);
-    for position in 2..CALLS + 1 {
-        insist(
-            rt,
-            &register,
-            seat,
-            &Call::Read(1),
-            position,
-            Reply::State(127),
-        );
+    for position in 1..CALLS + 1 {
+        call_and_read(rt, &register, seat, position);
     }
     let closed = close(register, seats)?;
     sure(rt, closed.history.len() == CALLS as usize);
@@ -76,17 +92,17 @@ fn calls<K: RunName, R: Wait + Abort + Drop + Copy>(
     Ok(true)
 }
 
-/// Opens a register and makes the calls. Whether memory for all but the calls was there.
+/// Opens a register, makes the calls and the reads. Whether memory for all but the calls was there.
 fn opens_and_calls<R: Wait + Abort + Drop + Copy>(
     rt: &R,
     alloc: Global,
     net: &Network,
 ) -> Result<bool, Fail> {
-    let Ok(wire) = Tape::new(alloc, &[], 1) else {
+    let Ok(wire) = SimWire::new(alloc, 1) else {
         return Ok(false);
     };
     match Register::open(alloc, *rt, net, 1, CALLS, wire) {
-        Ok(opened) => calls::<Brand, _>(rt, opened),
+        Ok(opened) => calls_and_reads::<Brand, _>(rt, opened),
         Err(fault) => {
             sure(rt, fault == OpenFault::OutOfMemory);
             Ok(false)
@@ -101,49 +117,4 @@ fn what_memory_refuses_once_is_made_again(rt: HostRuntime) -> Result<(), Fail> {
         sure(&rt, opens_and_calls(&rt, rt.alloc(), &net)?);
     }
     Ok(())
-}
-
-/// An operator's calls, whatever memory is refused: as many are made as it says, and the register
-/// closes with them.
-fn operates<K: RunName, R: Wait + Abort + Drop + Copy>(
-    rt: &R,
-    alloc: Global,
-    opened: Opened<Tape, R>,
-) -> Result<(), Fail>
-    requires { (opened.blank.name ≡ K.name) × (opened.seats ≡ K.parts) × (opened.seats ≡ K.seats)
-        × (opened.limit ≡ K.limit) × (opened.net.now ≡ K.net) × (opened.log ≡ K.log) }
-{
-    let Ok((register, mut seats)) = opened.named::<K>() else {
-        return Ok(());
-    };
-    let [seat] = seats.as_mut_slice() else {
-        return Err(Fail::from("seats"));
-    };
-    let operated = operate(rt, alloc, &register, seat, &[Call::Read(1); CALLS as usize]);
-    let made = seat.list().len();
-    match operated {
-        Ok(receipts) => sure(
-            rt,
-            receipts.len() == CALLS as usize && made == CALLS as usize,
-        ),
-        Err(stopped) => {
-            sure(rt, stopped.fault == CallFault::OutOfMemory);
-            sure(rt, made == stopped.done);
-        }
-    }
-    let closed = close(register, seats)?;
-    sure(rt, closed.history.len() == made);
-    Ok(())
-}
-
-#[test]
-fn an_operator_is_told_what_memory_refuses(rt: HostRuntime) -> Result<(), Fail> {
-    let net = network(&rt, rt.alloc(), 1, &[]);
-    let Ok(wire) = Tape::new(rt.alloc(), &[], 1) else {
-        return Ok(());
-    };
-    let Ok(opened) = Register::open(rt.alloc(), rt, &net, 1, CALLS, wire) else {
-        return Ok(());
-    };
-    operates::<Brand, _>(&rt, rt.alloc(), opened)
 }

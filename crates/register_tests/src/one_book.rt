@@ -2,11 +2,11 @@
 
 ghost use Rattle.std.specs.Prelude.{◌≡◌};
 
-use crate::support::{frame, is_made, is_refused, network, node, sure};
+use crate::support::{entry, frame, is_made, is_refused, network, node, sure};
 use cm_history::{Call, Entry, Orders, Phase, Reply};
-use cm_nmt::{NmtState, Status};
-use cm_register::{Book, BookFault, CallFault, CloseKind, Opened, RunName, Seat, Wire};
-use register_support::{Lent, Tape, answers, entry};
+use cm_nmt::{Answers, Frame, Got, NmtState, Status};
+use cm_register::{Book, CallFault, CloseKind, Opened, RunName, Seat};
+use cm_simulated::SimWire;
 use std::alloc::Global;
 use std::marker::Brand;
 use std::process::Abort;
@@ -14,9 +14,9 @@ use std::sync::Wait;
 use std::test::Fail;
 
 /// Its book, and its seat.
-fn open<'n, 'a, K: RunName, R: Wait + Drop + Copy>(
-    opened: Opened<'n, Lent<'a>, R>,
-) -> Result<(Book<'n, Lent<'a>, K, R>, Seat<K>), Fail>
+fn open<'n, K: RunName, R: Wait + Drop + Copy>(
+    opened: Opened<'n, SimWire, R>,
+) -> Result<(Book<'n, SimWire, K, R>, Seat<K>), Fail>
     requires { (opened.blank.name ≡ K.name) × (opened.seats ≡ K.parts) × (opened.seats ≡ K.seats)
         × (opened.limit ≡ K.limit) × (opened.net.now ≡ K.net) × (opened.log ≡ K.log) }
 {
@@ -32,21 +32,26 @@ fn open<'n, 'a, K: RunName, R: Wait + Drop + Copy>(
 #[test]
 fn one_slave_boots(rt: HostRuntime) -> Result<(), Fail> {
     let net = network(&rt, rt.alloc(), 1, &[(2, 0x0D)]);
-    let mut tape = Tape::new(rt.alloc(), &[], 10)?;
-    let wire = Lent(&mut tape);
-    let Ok(opened) = Book::<Lent, Brand, HostRuntime>::open(rt.alloc(), rt, &net, 1, 10, wire)
+    let wire = SimWire::new(rt.alloc(), 10)?;
+    let Ok(opened) = Book::<SimWire, Brand, HostRuntime>::open(rt.alloc(), rt, &net, 1, 10, wire)
     else {
         return Err(Fail::from("open"));
     };
-    boots::<Brand, _>(&rt, opened)?;
-    let frames = [frame(&rt, [0x82, 0]), frame(&rt, [0x01, 2])];
-    sure(&rt, tape.sent() == frames.as_slice());
-    Ok(())
+    boots::<Brand, _>(&rt, rt.alloc(), opened)
+}
+
+/// Answers with which a slave of which no value is expected boots.
+fn answers() -> Answers {
+    Answers {
+        device: Got::Value(0x0002_0192),
+        ..Answers::new()
+    }
 }
 
 fn boots<K: RunName, R: Wait + Abort + Drop + Copy>(
     rt: &R,
-    opened: Opened<Lent, R>,
+    alloc: Global,
+    opened: Opened<SimWire, R>,
 ) -> Result<(), Fail>
     requires { (opened.blank.name ≡ K.name) × (opened.seats ≡ K.parts) × (opened.seats ≡ K.seats)
         × (opened.limit ≡ K.limit) × (opened.net.now ≡ K.net) × (opened.log ≡ K.log) }
@@ -72,27 +77,25 @@ fn boots<K: RunName, R: Wait + Abort + Drop + Copy>(
     sure(rt, book.manager().phase() == Phase::Ready);
     sure(rt, book.manager().own() == NmtState::Operational);
     sure(rt, book.manager().state(two) == 5);
-    Ok(())
+    let frames = [frame(rt, [0x82, 0]), frame(rt, [0x01, 2])];
+    closes_with_its_seat_alone(rt, alloc, book, seat, &entries, &frames)
 }
 
 #[test]
 fn a_full_wire_refuses_a_call(rt: HostRuntime) -> Result<(), Fail> {
     let net = network(&rt, rt.alloc(), 1, &[(2, 0x05), (3, 0x15), (4, 0x05)]);
-    let mut tape = Tape::new(rt.alloc(), &[], 1)?;
-    let wire = Lent(&mut tape);
-    let Ok(opened) = Book::<Lent, Brand, HostRuntime>::open(rt.alloc(), rt, &net, 1, 10, wire)
+    let wire = SimWire::new(rt.alloc(), 1)?;
+    let Ok(opened) = Book::<SimWire, Brand, HostRuntime>::open(rt.alloc(), rt, &net, 1, 10, wire)
     else {
         return Err(Fail::from("open"));
     };
-    lacks_room::<Brand, _>(&rt, rt.alloc(), opened)?;
-    sure(&rt, tape.sent().is_empty());
-    Ok(())
+    lacks_room::<Brand, _>(&rt, rt.alloc(), opened)
 }
 
 fn lacks_room<K: RunName, R: Wait + Abort + Drop + Copy>(
     rt: &R,
     alloc: Global,
-    opened: Opened<Lent, R>,
+    opened: Opened<SimWire, R>,
 ) -> Result<(), Fail>
     requires { (opened.blank.name ≡ K.name) × (opened.seats ≡ K.parts) × (opened.seats ≡ K.seats)
         × (opened.limit ≡ K.limit) × (opened.net.now ≡ K.net) × (opened.log ≡ K.log) }
@@ -109,15 +112,15 @@ fn lacks_room<K: RunName, R: Wait + Abort + Drop + Copy>(
     );
     let entries = [entry(1, Call::Read(2), Reply::Refused(3), Orders::None)];
     sure(rt, book.history() == entries.as_slice());
-    closes_with_its_seat_alone(rt, alloc, book, seat, &entries)
+    closes_with_its_seat_alone(rt, alloc, book, seat, &entries, &[])
 }
 
 /// Asserts that a book isn't closed without its seat; both are handed back.
-fn lacks_its_seat<'n, W: Wire, K: RunName, R: Wait + Abort + Drop>(
+fn lacks_its_seat<'n, K: RunName, R: Wait + Abort + Drop>(
     rt: &R,
-    book: Book<'n, W, K, R>,
+    book: Book<'n, SimWire, K, R>,
     seats: Vec<Seat<K>>,
-) -> Result<(Book<'n, W, K, R>, Vec<Seat<K>>), Fail> {
+) -> Result<(Book<'n, SimWire, K, R>, Vec<Seat<K>>), Fail> {
     match book.close(seats) {
         Ok(_) => Err(Fail::from("closed")),
         Err(fault) => {
@@ -127,19 +130,22 @@ fn lacks_its_seat<'n, W: Wire, K: RunName, R: Wait + Abort + Drop>(
     }
 }
 
-/// A book stays open where its seat is missing, and is closed with it.
-fn closes_with_its_seat_alone<W: Wire, K: RunName, R: Wait + Abort + Drop>(
+/// A book stays open where its seat is missing, and is closed with it: these are its entries, and the
+/// frames sent.
+fn closes_with_its_seat_alone<K: RunName, R: Wait + Abort + Drop>(
     rt: &R,
     alloc: Global,
-    book: Book<W, K, R>,
+    book: Book<SimWire, K, R>,
     seat: Seat<K>,
     entries: &[Entry],
+    frames: &[Frame],
 ) -> Result<(), Fail> {
     let (book, mut seats) = lacks_its_seat(rt, book, Vec::new(alloc))?;
     seats.push(seat)?;
-    match book.close(seats) {
-        Ok(closed) => sure(rt, closed.history.as_slice() == entries),
-        Err(_) => return Err(Fail::from("not closed")),
-    }
+    let Ok(closed) = book.close(seats) else {
+        return Err(Fail::from("not closed"));
+    };
+    sure(rt, closed.history.as_slice() == entries);
+    sure(rt, closed.wire.sent() == frames);
     Ok(())
 }

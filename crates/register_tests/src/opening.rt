@@ -2,29 +2,37 @@
 
 use crate::support::{frame, network, sure};
 use cm_netlist::Network;
-use cm_nmt::Frame;
-use cm_register::{Book, OpenFault, Register};
-use register_support::Tape;
+use cm_register::{Book, OpenFault, Register, Wire};
+use cm_simulated::SimWire;
 use std::alloc::Global;
 use std::marker::Brand;
 use std::process::Abort;
 use std::sync::Wait;
 use std::test::Fail;
 
-/// Asserts what opening comes to, with a wire on which these frames were sent.
+/// A wire with room for a frame, on which another may have been sent.
+fn wire_of(rt: &impl Abort, alloc: Global, is_used: bool) -> Result<SimWire, Fail> {
+    let mut wire = SimWire::new(alloc, 2)?;
+    if is_used {
+        wire.send(frame(rt, [0x01, 0]));
+    }
+    Ok(wire)
+}
+
+/// Asserts what opening comes to, with a wire on which a frame may have been sent.
 fn opens<R: Wait + Abort + Drop + Copy>(
     rt: &R,
     alloc: Global,
     net: &Network,
     seats: u16,
     limit: u32,
-    used: &[Frame],
+    is_used: bool,
     fault: Option<OpenFault>,
 ) -> Result<(), Fail> {
-    let wire = Tape::new(alloc, used, 1)?;
-    let book = Book::<Tape, Brand, R>::open(alloc, *rt, net, seats, limit, wire);
+    let wire = wire_of(rt, alloc, is_used)?;
+    let book = Book::<SimWire, Brand, R>::open(alloc, *rt, net, seats, limit, wire);
     sure(rt, book.err() == fault);
-    let wire = Tape::new(alloc, used, 1)?;
+    let wire = wire_of(rt, alloc, is_used)?;
     let register = Register::open(alloc, *rt, net, seats, limit, wire);
     sure(rt, register.err() == fault);
     Ok(())
@@ -33,19 +41,17 @@ fn opens<R: Wait + Abort + Drop + Copy>(
 #[test]
 fn a_register_is_opened_or_the_first_fault_is_told(rt: HostRuntime) -> Result<(), Fail> {
     let net = network(&rt, rt.alloc(), 1, &[(2, 0x0D)]);
-    let none: [Frame; 0] = [];
-    let used = [frame(&rt, [0x01, 0])];
-    for (seats, limit, used, fault) in [
-        (0, 1, none.as_slice(), Some(OpenFault::BadSeats)),
-        (65, 1, none.as_slice(), Some(OpenFault::BadSeats)),
-        (1, 0, none.as_slice(), Some(OpenFault::BadLimit)),
-        (1, 65_537, none.as_slice(), Some(OpenFault::BadLimit)),
-        (1, 1, used.as_slice(), Some(OpenFault::WireUsed)),
-        (64, 65_536, none.as_slice(), None),
-        (0, 0, none.as_slice(), Some(OpenFault::BadSeats)),
-        (1, 0, used.as_slice(), Some(OpenFault::BadLimit)),
+    for (seats, limit, is_used, fault) in [
+        (0, 1, false, Some(OpenFault::BadSeats)),
+        (65, 1, false, Some(OpenFault::BadSeats)),
+        (1, 0, false, Some(OpenFault::BadLimit)),
+        (1, 65_537, false, Some(OpenFault::BadLimit)),
+        (1, 1, true, Some(OpenFault::WireUsed)),
+        (64, 65_536, false, None),
+        (0, 0, false, Some(OpenFault::BadSeats)),
+        (1, 0, true, Some(OpenFault::BadLimit)),
     ] {
-        opens(&rt, rt.alloc(), &net, seats, limit, used, fault)?;
+        opens(&rt, rt.alloc(), &net, seats, limit, is_used, fault)?;
     }
     Ok(())
 }

@@ -1,10 +1,13 @@
-//! What the tests of several topics assert.
+//! What the tests of several topics call and assert.
 
-use cm_history::Reply;
-use cm_netlist::Network;
-use cm_nmt::{Frame, NodeId};
-use cm_register::{CallFault, CloseFault, CloseKind, Receipt, Register, RunName, Seat};
-use register_support::Tape;
+use arrayvec::ArrayVec;
+use cm_history::{Call, Entry, Orders, Reply};
+use cm_netlist::{Network, SlaveEntry};
+use cm_nmt::{Assignment, Frame, NodeId, Startup, Terms};
+use cm_register::{
+    CallFault, CloseFault, CloseKind, Closed, Opened, Receipt, Register, RunName, Seat, Seen, Wire,
+};
+use cm_simulated::SimWire;
 use std::alloc::Global;
 use std::process::Abort;
 use std::sync::Wait;
@@ -24,9 +27,68 @@ pub(crate) fn frame(rt: &impl Abort, bytes: [u8; 2]) -> Frame {
     Frame::read(&bytes).expect(rt, "a frame")
 }
 
+/// The entry of a call of this seat.
+pub(crate) fn entry(seat: u16, call: Call, reply: Reply, orders: Orders) -> Entry {
+    Entry {
+        call,
+        reply,
+        orders,
+        seat,
+    }
+}
+
+/// A slave of this assignment, whose other fields are 0.
+fn slave(assignment: u32) -> SlaveEntry {
+    let terms = Terms {
+        assignment: Assignment(assignment),
+        device_type: 0,
+        vendor: 0,
+        product: 0,
+        revision: 0,
+        serial: 0,
+        heartbeat_ms: 0,
+        date: 0,
+        time: 0,
+        writes: 0,
+    };
+    SlaveEntry::from_terms(terms, ArrayVec::new())
+}
+
 /// A network of this manager with slaves of these nodes and assignments.
 pub(crate) fn network(rt: &impl Abort, alloc: Global, own: u8, slaves: &[(u8, u32)]) -> Network {
-    register_support::network(alloc, own, slaves).expect(rt, "a network")
+    let mut network = Network::new(alloc, node(rt, own), Startup(1), 0);
+    for (number, assignment) in slaves {
+        let added = network.add(node(rt, *number), slave(*assignment));
+        sure(rt, added.is_ok());
+    }
+    network
+}
+
+/// A register with so many seats and entries, whose wire has room for so many frames.
+pub(crate) fn open<'n, R: Wait + Drop>(
+    rt: R,
+    alloc: Global,
+    net: &'n Network,
+    seats: u16,
+    limit: u32,
+    room: u32,
+) -> Result<Opened<'n, SimWire, R>, Fail> {
+    let wire = SimWire::new(alloc, room)?;
+    let Ok(opened) = Register::open(alloc, rt, net, seats, limit, wire) else {
+        return Err(Fail::from("open"));
+    };
+    Ok(opened)
+}
+
+/// What a register leaves that closes with these seats.
+pub(crate) fn close<W: Wire, K: RunName, R: Wait + Drop>(
+    register: Register<W, K, R>,
+    seats: Vec<Seat<K>>,
+) -> Result<Closed<W>, Fail> {
+    let Ok(closed) = register.close(seats) else {
+        return Err(Fail::from("close"));
+    };
+    Ok(closed)
 }
 
 /// Asserts that a call was made, with this place and this reply.
@@ -47,14 +109,37 @@ pub(crate) fn is_refused(rt: &impl Abort, made: Result<Receipt, CallFault>, faul
     sure(rt, made.err() == Some(fault));
 }
 
+/// Asserts that a seat sees so many calls, and the node in this state.
+pub(crate) fn sees<K: RunName>(
+    rt: &impl Abort,
+    seat: &mut Seat<K>,
+    node: u8,
+    count: u32,
+    state: u8,
+) {
+    sure(rt, seat.read(node) == Ok(Seen { count, state }));
+}
+
+/// Starts the network and stops slave 5, by the first two calls.
+pub(crate) fn stop_the_slave<W: Wire, K: RunName, R: Wait + Abort + Drop>(
+    rt: &R,
+    register: &Register<W, K, R>,
+    seat: &mut Seat<K>,
+) {
+    let start = register.call(rt, seat, Call::StartNetwork);
+    is_made(rt, start, 1, Reply::Started);
+    let stop = register.call(rt, seat, Call::Request(5, 4));
+    is_made(rt, stop, 2, Reply::Done);
+}
+
 /// Asserts that a register doesn't close with these seats, of which so many are missing, and that both
 /// are handed back, which they are.
 pub(crate) fn lacks_seats<'n, K: RunName, R: Wait + Abort + Drop>(
     rt: &R,
-    register: Register<'n, Tape, K, R>,
+    register: Register<'n, SimWire, K, R>,
     seats: Vec<Seat<K>>,
     missing: u16,
-) -> Result<(Register<'n, Tape, K, R>, Vec<Seat<K>>), Fail> {
+) -> Result<(Register<'n, SimWire, K, R>, Vec<Seat<K>>), Fail> {
     let given = seats.len();
     match register.close(seats) {
         Ok(_) => Err(Fail::from("closed")),

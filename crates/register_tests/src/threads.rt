@@ -2,10 +2,10 @@
 
 ghost use Rattle.std.specs.Prelude.{◌≡◌};
 
-use crate::support::{is_refused, lacks_seats, network, sure};
+use crate::support::{close, is_refused, lacks_seats, network, open, sure};
 use cm_history::{Call, Reply};
 use cm_register::{CallFault, Closed, Opened, Register, RunName, Seat, SeatList};
-use register_support::{Tape, close};
+use cm_simulated::SimWire;
 use std::alloc::Global;
 use std::marker::Brand;
 use std::process::Abort;
@@ -26,7 +26,7 @@ struct Reader<K: RunName> {
 
 impl<K: RunName> Reader<K> {
     /// Reads, before the network is started.
-    fn read_often<R: Wait + Abort + Drop>(&mut self, rt: &R, register: &Register<Tape, K, R>) {
+    fn read_often<R: Wait + Abort + Drop>(&mut self, rt: &R, register: &Register<SimWire, K, R>) {
         for _ in 0..self.calls {
             let made = register.call(rt, &mut self.seat, Call::Read(1));
             sure(
@@ -41,7 +41,7 @@ impl<K: RunName> Reader<K> {
 fn read_in_threads<K: RunName + Send + Sync, R: Wait + Threads + Abort + Drop + Send + Sync>(
     rt: &R,
     alloc: Global,
-    register: &Register<Tape, K, R>,
+    register: &Register<SimWire, K, R>,
     seats: Vec<Seat<K>>,
 ) -> Result<Vec<Seat<K>>, Fail> {
     let mut readers = Vec::new(alloc);
@@ -69,7 +69,7 @@ fn seats_of<K: RunName>(alloc: Global, readers: Vec<Reader<K>>) -> Result<Vec<Se
 /// Asserts that no seat makes another call.
 fn is_full<K: RunName, R: Wait + Abort + Drop>(
     rt: &R,
-    register: &Register<Tape, K, R>,
+    register: &Register<SimWire, K, R>,
     seats: &mut [Seat<K>],
 ) {
     for (seat, calls) in seats.iter_mut().zip(CALLS) {
@@ -94,9 +94,9 @@ fn rises(list: &SeatList) -> bool {
 /// Closes the register once with too few seats, and then with all.
 fn close_in_two<K: RunName, R: Wait + Abort + Drop>(
     rt: &R,
-    register: Register<Tape, K, R>,
+    register: Register<SimWire, K, R>,
     mut seats: Vec<Seat<K>>,
-) -> Result<Closed<Tape>, Fail> {
+) -> Result<Closed<SimWire>, Fail> {
     let Some(last) = seats.pop() else {
         return Err(Fail::from("seats"));
     };
@@ -108,17 +108,14 @@ fn close_in_two<K: RunName, R: Wait + Abort + Drop>(
 #[test]
 fn seats_call_in_threads(rt: HostRuntime) -> Result<(), Fail> {
     let net = network(&rt, rt.alloc(), 1, &[(2, 0x0D)]);
-    let wire = Tape::new(rt.alloc(), &[], 10)?;
-    let Ok(opened) = Register::open(rt.alloc(), rt, &net, 3, 12, wire) else {
-        return Err(Fail::from("open"));
-    };
+    let opened = open(rt, rt.alloc(), &net, 3, 12, 10)?;
     reads::<Brand, _>(&rt, rt.alloc(), opened)
 }
 
 fn reads<K: RunName + Send + Sync, R: Wait + Threads + Abort + Drop + Copy + Send + Sync>(
     rt: &R,
     alloc: Global,
-    opened: Opened<Tape, R>,
+    opened: Opened<SimWire, R>,
 ) -> Result<(), Fail>
     requires { (opened.blank.name ≡ K.name) × (opened.seats ≡ K.parts) × (opened.seats ≡ K.seats)
         × (opened.limit ≡ K.limit) × (opened.net.now ≡ K.net) × (opened.log ≡ K.log) }

@@ -3,12 +3,12 @@
 
 ghost use Rattle.std.specs.Prelude.{◌≡◌};
 
-use crate::support::{agreeing, is_made, network, node, sure};
+use crate::support::{agreeing, close, is_made, network, node, open, sure};
 use cm_history::{Call, Reply};
 use cm_nmt::Status;
 use cm_register::{CallFault, Closed, Opened, Register, RunName, Seat};
-use cm_run::{Booted, Last, Outcome, RunFault, RunKind, SimBus, SimWire, boot_all};
-use register_support::close;
+use cm_run::{Booted, Last, Outcome, RunFault, RunKind, boot_all};
+use cm_simulated::{SimBus, SimWire};
 use std::alloc::Global;
 use std::marker::Brand;
 use std::process::Abort;
@@ -60,10 +60,7 @@ fn boots<K: RunName + Send + Sync, R: Wait + Threads + Abort + Drop + Copy + Sen
 #[test]
 fn workers_boot_the_slaves_side_by_side(rt: HostRuntime) -> Result<(), Fail> {
     let net = network(&rt, rt.alloc(), 127, &[(1, 0x0D), (2, 0x0D)]);
-    let wire = SimWire::new(rt.alloc(), 10)?;
-    let Ok(opened) = Register::open(rt.alloc(), rt, &net, 3, 20, wire) else {
-        return Err(Fail::from("open"));
-    };
+    let opened = open(rt, rt.alloc(), &net, 3, 20, 10)?;
     let ok = Last::Status(Status::Ok);
     let outcomes = [outcome(&rt, 1, ok), outcome(&rt, 2, ok)];
     let closed = boots::<Brand, _>(&rt, rt.alloc(), opened, 2, &outcomes)?;
@@ -75,10 +72,7 @@ fn workers_boot_the_slaves_side_by_side(rt: HostRuntime) -> Result<(), Fail> {
 #[test]
 fn a_full_wire_ends_each_round(rt: HostRuntime) -> Result<(), Fail> {
     let net = network(&rt, rt.alloc(), 1, &[(2, 0x05), (3, 0x15), (4, 0x05)]);
-    let wire = SimWire::new(rt.alloc(), 2)?;
-    let Ok(opened) = Register::open(rt.alloc(), rt, &net, 2, 20, wire) else {
-        return Err(Fail::from("open"));
-    };
+    let opened = open(rt, rt.alloc(), &net, 2, 20, 2)?;
     let full = Last::Fault(CallFault::WireFull);
     let outcomes = [
         outcome(&rt, 2, full),
@@ -95,10 +89,7 @@ fn a_full_wire_ends_each_round(rt: HostRuntime) -> Result<(), Fail> {
 #[test]
 fn a_full_history_ends_each_round(rt: HostRuntime) -> Result<(), Fail> {
     let net = network(&rt, rt.alloc(), 1, &[(2, 0x05), (3, 0x05), (4, 0x05)]);
-    let wire = SimWire::new(rt.alloc(), 10)?;
-    let Ok(opened) = Register::open(rt.alloc(), rt, &net, 2, 4, wire) else {
-        return Err(Fail::from("open"));
-    };
+    let opened = open(rt, rt.alloc(), &net, 2, 4, 10)?;
     let full = Last::Fault(CallFault::JournalFull);
     let outcomes = [
         outcome(&rt, 2, Last::Status(Status::Ok)),

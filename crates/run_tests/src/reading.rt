@@ -2,11 +2,11 @@
 
 ghost use Rattle.std.specs.Prelude.{◌≡◌};
 
-use crate::support::{agreeing, is_made, network, sure};
+use crate::support::{agreeing, close, is_made, network, open, sure};
 use cm_history::{Call, Reply};
 use cm_register::{Opened, Register, RunName, Seat, Seen};
-use cm_run::{Booted, SimBus, SimWire, boot_all};
-use register_support::close;
+use cm_run::{Booted, boot_all};
+use cm_simulated::{SimBus, SimWire};
 use std::alloc::Global;
 use std::marker::Brand;
 use std::process::Abort;
@@ -89,9 +89,6 @@ fn reads_beside_a_boot<
 #[test]
 fn a_seat_reads_while_workers_boot(rt: HostRuntime) -> Result<(), Fail> {
     let net = network(&rt, rt.alloc(), 127, &[(1, 0x0D), (2, 0x0D)]);
-    let wire = SimWire::new(rt.alloc(), 10)?;
-    let Ok(opened) = Register::open(rt.alloc(), rt, &net, 3, 20, wire) else {
-        return Err(Fail::from("open"));
-    };
+    let opened = open(rt, rt.alloc(), &net, 3, 20, 10)?;
     reads_beside_a_boot::<Brand, _>(&rt, rt.alloc(), opened)
 }

@@ -2,13 +2,12 @@
 
 ghost use Rattle.std.specs.Prelude.{◌≡◌};
 
-use crate::support::{network, node, sure};
+use crate::support::{close, network, node, open, sure};
 use cm_history::{Call, Reply};
 use cm_nmt::{NodeId, Status};
-use cm_register::{Opened, Receipt, Register, RunName};
+use cm_register::{Opened, Receipt, RunName};
 use cm_run::{Last, Outcome, operate, round};
-use cm_simulated::{SimBus, SimSlave};
-use register_support::{Tape, close};
+use cm_simulated::{SimBus, SimSlave, SimWire};
 use std::alloc::Global;
 use std::marker::Brand;
 use std::process::Abort;
@@ -30,7 +29,7 @@ fn are_answered(rt: &impl Abort, receipts: &[Receipt]) {
 fn boots<K: RunName, R: Wait + Abort + Drop + Copy>(
     rt: &R,
     alloc: Global,
-    opened: Opened<Tape, R>,
+    opened: Opened<SimWire, R>,
 ) -> Result<(), Fail>
     requires { (opened.blank.name ≡ K.name) × (opened.seats ≡ K.parts) × (opened.seats ≡ K.seats)
         × (opened.limit ≡ K.limit) × (opened.net.now ≡ K.net) × (opened.log ≡ K.log) }
@@ -75,9 +74,6 @@ fn outcome(id: NodeId, attempts: u8, status: Status) -> Outcome {
 #[test]
 fn a_silent_slave_is_tried_again(rt: HostRuntime) -> Result<(), Fail> {
     let net = network(&rt, rt.alloc(), 1, &[(2, 0x0D), (3, 0x05)]);
-    let wire = Tape::new(rt.alloc(), &[], 10)?;
-    let Ok(opened) = Register::open(rt.alloc(), rt, &net, 1, 20, wire) else {
-        return Err(Fail::from("open"));
-    };
+    let opened = open(rt, rt.alloc(), &net, 1, 20, 10)?;
     boots::<Brand, _>(&rt, rt.alloc(), opened)
 }

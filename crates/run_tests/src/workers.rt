@@ -2,15 +2,14 @@
 
 ghost use Rattle.std.specs.Prelude.{◌≡◌, ⊤};
 
-use crate::support::{network, node, sure};
+use crate::support::{close, network, node, open, sure};
 use cm_boot::{Answer, Bus, Question};
 use cm_history::Call;
 use cm_netlist::Network;
 use cm_nmt::{NodeId, Status};
-use cm_register::{Opened, Register, RunName};
+use cm_register::{Opened, RunName};
 use cm_run::{Booted, Last, Outcome, RunKind, boot_all};
-use cm_simulated::{SimBus, SimSlave};
-use register_support::{Tape, close};
+use cm_simulated::{SimBus, SimSlave, SimWire};
 use std::alloc::Global;
 use std::marker::Brand;
 use std::process::Abort;
@@ -109,7 +108,7 @@ fn have_come_to(rt: &impl Abort, outcomes: &[Outcome], first: Status) {
 fn boots<K: RunName + Send + Sync, R: Wait + Threads + Abort + Drop + Copy + Send + Sync>(
     rt: &R,
     alloc: Global,
-    opened: Opened<Tape, R>,
+    opened: Opened<SimWire, R>,
     first: Status,
 ) -> Result<(), Fail>
     requires { (opened.blank.name ≡ K.name) × (opened.seats ≡ K.parts) × (opened.seats ≡ K.seats)
@@ -147,20 +146,14 @@ fn boots<K: RunName + Send + Sync, R: Wait + Threads + Abort + Drop + Copy + Sen
 #[test]
 fn two_workers_work_at_once(rt: HostRuntime) -> Result<(), Fail> {
     let net = network(&rt, rt.alloc(), 127, &[(1, 0x0D), (2, 0x0D)]);
-    let wire = Tape::new(rt.alloc(), &[], 10)?;
-    let Ok(opened) = Register::open(rt.alloc(), rt, &net, 3, 12, wire) else {
-        return Err(Fail::from("open"));
-    };
+    let opened = open(rt, rt.alloc(), &net, 3, 12, 10)?;
     boots::<Brand, _>(&rt, rt.alloc(), opened, Status::Ok)
 }
 
 #[test]
 fn one_worker_waits_in_vain(rt: HostRuntime) -> Result<(), Fail> {
     let net = network(&rt, rt.alloc(), 127, &[(1, 0x0D), (2, 0x0D)]);
-    let wire = Tape::new(rt.alloc(), &[], 10)?;
-    let Ok(opened) = Register::open(rt.alloc(), rt, &net, 2, 12, wire) else {
-        return Err(Fail::from("open"));
-    };
+    let opened = open(rt, rt.alloc(), &net, 2, 12, 10)?;
     boots::<Brand, _>(&rt, rt.alloc(), opened, Status::B)
 }
 
@@ -169,7 +162,7 @@ fn one_worker_waits_in_vain(rt: HostRuntime) -> Result<(), Fail> {
 fn refuses<K: RunName + Send + Sync, R: Wait + Threads + Abort + Drop + Copy + Send + Sync>(
     rt: &R,
     alloc: Global,
-    opened: Opened<Tape, R>,
+    opened: Opened<SimWire, R>,
     cases: &[(usize, u8, RunKind)],
 ) -> Result<(), Fail>
     requires { (opened.blank.name ≡ K.name) × (opened.seats ≡ K.parts) × (opened.seats ≡ K.seats)
@@ -196,10 +189,7 @@ fn refuses<K: RunName + Send + Sync, R: Wait + Threads + Abort + Drop + Copy + S
 #[test]
 fn one_seat_wants_one_bus_and_1_to_10_attempts(rt: HostRuntime) -> Result<(), Fail> {
     let net = network(&rt, rt.alloc(), 127, &[(1, 0x0D)]);
-    let wire = Tape::new(rt.alloc(), &[], 10)?;
-    let Ok(opened) = Register::open(rt.alloc(), rt, &net, 1, 12, wire) else {
-        return Err(Fail::from("open"));
-    };
+    let opened = open(rt, rt.alloc(), &net, 1, 12, 10)?;
     let cases = [
         (0, 1, RunKind::BadWorkers),
         (1, 0, RunKind::BadAttempts),
@@ -211,9 +201,6 @@ fn one_seat_wants_one_bus_and_1_to_10_attempts(rt: HostRuntime) -> Result<(), Fa
 #[test]
 fn there_are_no_17_workers(rt: HostRuntime) -> Result<(), Fail> {
     let net = network(&rt, rt.alloc(), 127, &[(1, 0x0D)]);
-    let wire = Tape::new(rt.alloc(), &[], 10)?;
-    let Ok(opened) = Register::open(rt.alloc(), rt, &net, 17, 12, wire) else {
-        return Err(Fail::from("open"));
-    };
+    let opened = open(rt, rt.alloc(), &net, 17, 12, 10)?;
     refuses::<Brand, _>(&rt, rt.alloc(), opened, &[(17, 1, RunKind::BadWorkers)])
 }

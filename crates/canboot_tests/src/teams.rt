@@ -1,0 +1,205 @@
+//! A register as large as any, shared by many threads: its history is a journal, which is replayed.
+
+ghost use Rattle.std.specs.Prelude.{◌≡◌};
+
+use crate::runs::full_list;
+use crate::written::sure;
+use canboot::replay_text;
+use cm_history::{Call, Reply};
+use cm_netlist::Network;
+use cm_nmt::{Answers, Got, NodeId};
+use cm_register::{Closed, Opened, Receipt, Register, RunName, Seat};
+use cm_simulated::SimWire;
+use cm_writer::journal_write;
+use std::alloc::Global;
+use std::marker::Brand;
+use std::process::Abort;
+use std::sync::Wait;
+use std::test::Fail;
+use std::thread;
+use std::thread::Threads;
+use std::time::Instant;
+
+const SEATS: u16 = 64;
+
+const THREADS: usize = 16;
+
+const LIMIT: u32 = 65_536;
+
+/// How many calls each seat makes.
+const CALLS: u32 = 1024;
+
+/// The time in seconds that all of it takes at most.
+const MOST_SECONDS: u64 = 30;
+
+/// How many calls the boot of one slave has, until it is lost again.
+const ROUND: u8 = 8;
+
+/// Answers with which a slave of which no value is expected boots.
+fn answers() -> Answers {
+    Answers {
+        device: Got::Value(0x0002_0192),
+        ..Answers::new()
+    }
+}
+
+/// One who makes calls, with slaves of its own: at which slave, which call is next, the session, and
+/// how many calls were made.
+#[derive(Drop)]
+struct Caller<K: RunName> {
+    seat: Seat<K>,
+    slave: NodeId,
+    step: u8,
+    session: u64,
+    made: u32,
+}
+
+impl<K: RunName> Caller<K> {
+    /// The next call.
+    fn next_call(&self) -> Call {
+        let id = self.slave;
+        match self.step {
+            0 => Call::Begin(id),
+            1 => Call::Report(id, self.session, answers()),
+            2 => Call::Read(id.get()),
+            3 => Call::Signal(id, 5),
+            4 if id.get() == 64 => Call::Request(128, 6),
+            4 => Call::Request(id.get(), 127),
+            5 => Call::Elapsed(1),
+            6 => Call::Lost(id),
+            _ => Call::StartNetwork,
+        }
+    }
+
+    /// Goes on after this reply; after a round with the other slave, if there are two.
+    fn go_on(&mut self, reply: Reply) {
+        if let Reply::Begun(number) = reply {
+            self.session = number;
+        }
+        self.made = self.made.saturating_add(1);
+        self.step = self.step.saturating_add(1) % ROUND;
+        if self.step == 0 {
+            let number = self.slave.get();
+            let other = if number > 64 {
+                number - 64
+            } else {
+                number + 64
+            };
+            if other < 127 {
+                self.slave = NodeId::new(other).unwrap_or(self.slave);
+            }
+        }
+    }
+
+    /// Makes calls until there are enough.
+    fn call_often<R: Wait + Drop>(&mut self, rt: &R, register: &Register<SimWire, K, R>) {
+        for _ in self.made..CALLS {
+            let call = self.next_call();
+            if let Ok(receipt) = register.call(rt, &mut self.seat, call) {
+                self.go_on(receipt.reply);
+            }
+        }
+    }
+}
+
+/// A caller for each seat, of which seat k has the slaves k and k + 64.
+fn callers_of<K: RunName>(
+    rt: &impl Abort,
+    alloc: Global,
+    seats: Vec<Seat<K>>,
+) -> Result<Vec<Caller<K>>, Fail> {
+    let mut callers = Vec::new(alloc);
+    for seat in seats {
+        let slave = NodeId::new(seat.number() as u8).expect(rt, "a node-ID");
+        callers.push(Caller {
+            seat,
+            slave,
+            step: 0,
+            session: 0,
+            made: 0,
+        })?;
+    }
+    Ok(callers)
+}
+
+/// Asserts that every caller made its calls, and gives the seats back.
+fn seats_of<K: RunName>(
+    rt: &impl Abort,
+    alloc: Global,
+    callers: Vec<Caller<K>>,
+) -> Result<Vec<Seat<K>>, Fail> {
+    let mut seats = Vec::new(alloc);
+    for caller in callers {
+        sure(rt, caller.made == CALLS);
+        seats.push(caller.seat)?;
+    }
+    Ok(seats)
+}
+
+/// Seat 1 starts the network, and then all seats make their calls, four in each thread.
+fn calls<K: RunName + Send + Sync, R: Wait + Threads + Abort + Drop + Copy + Send + Sync>(
+    rt: &R,
+    alloc: Global,
+    opened: Opened<SimWire, R>,
+) -> Result<Closed<SimWire>, Fail>
+    requires { (opened.blank.name ≡ K.name) × (opened.seats ≡ K.parts) × (opened.seats ≡ K.seats)
+        × (opened.limit ≡ K.limit) × (opened.net.now ≡ K.net) × (opened.log ≡ K.log) }
+{
+    let Ok((register, seats)) = opened.named::<K>() else {
+        return Err(Fail::from("named"));
+    };
+    let mut callers = callers_of(rt, alloc, seats)?;
+    let Some(first) = callers.first_mut() else {
+        return Err(Fail::from("callers"));
+    };
+    let start = register.call(rt, &mut first.seat, Call::StartNetwork);
+    let started = Receipt {
+        position: 1,
+        reply: Reply::Started,
+    };
+    sure(rt, start.ok() == Some(started));
+    first.made = 1;
+    thread::for_each_mut(
+        rt,
+        callers.as_mut_slice(),
+        THREADS,
+        &|_, caller| { caller.call_often(rt, &register) },
+    );
+    let Ok(closed) = register.close(seats_of(rt, alloc, callers)?) else {
+        return Err(Fail::from("close"));
+    };
+    Ok(closed)
+}
+
+/// A network whose slaves are all other nodes.
+fn full_network(alloc: Global) -> Result<Network, Fail> {
+    let list = full_list(alloc)?;
+    let Ok(text) = str::from_utf8(list.as_slice()) else {
+        return Err(Fail::from("text"));
+    };
+    let Ok(net) = Network::from_toml(alloc, text) else {
+        return Err(Fail::from("list"));
+    };
+    Ok(net)
+}
+
+#[test]
+fn teams_make_65536_calls(rt: HostRuntime) -> Result<(), Fail> {
+    let begin = Instant::now(&rt)?;
+    let net = full_network(rt.alloc())?;
+    let wire = SimWire::new(rt.alloc(), 100_000)?;
+    let Ok(opened) = Register::open(rt.alloc(), rt, &net, SEATS, LIMIT, wire) else {
+        return Err(Fail::from("open"));
+    };
+    let closed = calls::<Brand, _>(&rt, rt.alloc(), opened)?;
+    let entries = closed.history.as_slice();
+    sure(&rt, entries.len() == LIMIT as usize);
+    let mut text: Vec<u8> = Vec::new(rt.alloc());
+    journal_write(&net, SEATS, LIMIT, entries, &mut text)?;
+    let mut out: Vec<u8> = Vec::new(rt.alloc());
+    let mut err: Vec<u8> = Vec::new(rt.alloc());
+    let status = replay_text(rt.alloc(), &mut text.as_slice(), &mut out, &mut err);
+    sure(&rt, status == 0 && err.is_empty());
+    sure(&rt, begin.elapsed(&rt)?.as_secs() < MOST_SECONDS);
+    Ok(())
+}

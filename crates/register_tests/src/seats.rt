@@ -1,0 +1,146 @@
+//! What seats read: before any call, after calls of their own and of others, and beside them.
+
+ghost use Rattle.std.specs.Prelude.{◌≡◌};
+
+use crate::support::{close, is_made, network, open, sees, stop_the_slave, sure};
+use cm_history::{Call, Reply};
+use cm_register::{Opened, ReadFault, Register, RunName, Seat};
+use cm_simulated::SimWire;
+use std::marker::Brand;
+use std::process::Abort;
+use std::sync::Wait;
+use std::test::Fail;
+use std::thread;
+use std::thread::Threads;
+
+/// How many reads each of two seats makes beside the other's.
+const READS: u32 = 1000;
+
+#[test]
+fn a_seat_reads_beside_the_calls_of_another(rt: HostRuntime) -> Result<(), Fail> {
+    let net = network(&rt, rt.alloc(), 1, &[(5, 0x05)]);
+    let opened = open(rt, rt.alloc(), &net, 2, READS + 2, 10)?;
+    reads_beside_calls::<Brand, _>(&rt, opened)
+}
+
+/// Reads slave 5 by calls, of which the first has place 3.
+fn read_by_calls<K: RunName, R: Wait + Abort + Drop>(
+    rt: &R,
+    register: &Register<SimWire, K, R>,
+    seat: &mut Seat<K>,
+) {
+    for position in 3..READS + 3 {
+        let read = register.call(rt, seat, Call::Read(5));
+        is_made(rt, read, position, Reply::State(4));
+    }
+}
+
+/// Reads the slave that two calls stopped: the count never goes back.
+fn read_stopped<K: RunName>(rt: &impl Abort, seat: &mut Seat<K>) {
+    let mut last = 2;
+    for _ in 0..READS {
+        let Ok(seen) = seat.read(5) else {
+            return sure(rt, false);
+        };
+        sure(rt, last <= seen.count && seen.state == 4);
+        last = seen.count;
+    }
+}
+
+fn reads_beside_calls<
+    K: RunName + Send + Sync,
+    R: Wait + Threads + Abort + Drop + Copy + Send + Sync,
+>(rt: &R, opened: Opened<SimWire, R>) -> Result<(), Fail>
+    requires { (opened.blank.name ≡ K.name) × (opened.seats ≡ K.parts) × (opened.seats ≡ K.seats)
+        × (opened.limit ≡ K.limit) × (opened.net.now ≡ K.net) × (opened.log ≡ K.log) }
+{
+    let Ok((register, mut seats)) = opened.named::<K>() else {
+        return Err(Fail::from("named"));
+    };
+    let Some(mut second) = seats.pop() else {
+        return Err(Fail::from("seats"));
+    };
+    let Some(mut first) = seats.pop() else {
+        return Err(Fail::from("seats"));
+    };
+    stop_the_slave(rt, &register, &mut first);
+    let shared = &register;
+    thread::join(
+        rt,
+        || read_by_calls(rt, shared, &mut second),
+        || read_stopped(rt, &mut first),
+    );
+    seats.push(first)?;
+    seats.push(second)?;
+    let closed = close(register, seats)?;
+    sure(rt, closed.history.len() == READS as usize + 2);
+    Ok(())
+}
+
+#[test]
+fn each_of_64_seats_reads(rt: HostRuntime) -> Result<(), Fail> {
+    let net = network(&rt, rt.alloc(), 1, &[(5, 0x05)]);
+    let opened = open(rt, rt.alloc(), &net, 64, 12, 10)?;
+    each_reads::<Brand, _>(&rt, opened)
+}
+
+/// Before any call a read shows no slave, and the manager's own state.
+fn shows_no_call<K: RunName>(rt: &impl Abort, seat: &mut Seat<K>) {
+    sees(rt, seat, 5, 0, 0);
+    sees(rt, seat, 7, 0, 0);
+    sees(rt, seat, 1, 0, 127);
+    sure(rt, seat.read(0) == Err(ReadFault::BadTarget));
+    sure(rt, seat.read(128) == Err(ReadFault::BadTarget));
+}
+
+/// One seat reads before any call; after its calls every seat sees them.
+fn each_reads<K: RunName, R: Wait + Abort + Drop + Copy>(
+    rt: &R,
+    opened: Opened<SimWire, R>,
+) -> Result<(), Fail>
+    requires { (opened.blank.name ≡ K.name) × (opened.seats ≡ K.parts) × (opened.seats ≡ K.seats)
+        × (opened.limit ≡ K.limit) × (opened.net.now ≡ K.net) × (opened.log ≡ K.log) }
+{
+    let Ok((register, mut seats)) = opened.named::<K>() else {
+        return Err(Fail::from("named"));
+    };
+    sure(rt, seats.len() == 64);
+    let Some(last) = seats.last_mut() else {
+        return Err(Fail::from("seats"));
+    };
+    shows_no_call(rt, last);
+    stop_the_slave(rt, &register, last);
+    for seat in seats.iter_mut() {
+        sees(rt, seat, 5, 2, 4);
+    }
+    let closed = close(register, seats)?;
+    sure(rt, closed.history.len() == 2);
+    Ok(())
+}
+
+#[test]
+fn a_register_that_is_gone_shows_nothing(rt: HostRuntime) -> Result<(), Fail> {
+    let net = network(&rt, rt.alloc(), 1, &[(5, 0x05)]);
+    let opened = open(rt, rt.alloc(), &net, 1, 12, 10)?;
+    reads_no_version::<Brand, _>(&rt, opened)
+}
+
+fn reads_no_version<K: RunName, R: Wait + Abort + Drop + Copy>(
+    rt: &R,
+    opened: Opened<SimWire, R>,
+) -> Result<(), Fail>
+    requires { (opened.blank.name ≡ K.name) × (opened.seats ≡ K.parts) × (opened.seats ≡ K.seats)
+        × (opened.limit ≡ K.limit) × (opened.net.now ≡ K.net) × (opened.log ≡ K.log) }
+{
+    let Ok((register, mut seats)) = opened.named::<K>() else {
+        return Err(Fail::from("named"));
+    };
+    let [seat] = seats.as_mut_slice() else {
+        return Err(Fail::from("seats"));
+    };
+    sees(rt, seat, 5, 0, 0);
+    drop(register);
+    sure(rt, seat.read(5) == Err(ReadFault::NoVersion));
+    sure(rt, seat.read(0) == Err(ReadFault::BadTarget));
+    Ok(())
+}
