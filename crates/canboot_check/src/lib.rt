@@ -11,4 +11,4 @@ mod status;
 pub use check::{CheckFault, LONGEST_LIST, check_text, read_list, refuse};
 pub use program::{check_file, read_fault, run, run_words};
 pub use replay::{LONGEST_JOURNAL, replay_text};
-pub use status::{DONE, FAILED, MISUSED, REFUSED, fault_line, input_fault_line, output_status};
+pub use status::{DONE, FAILED, MISUSED, REFUSED, fault_line, output_status};

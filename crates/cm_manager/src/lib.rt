@@ -10,6 +10,6 @@ pub use cm_history::{
     machine_shows_its_history, network_becomes_operational_rightly, reads_show,
 };
 pub use cm_journal::{Journal, ReadFault, Replayed, journal_read, journal_replay};
-pub use cm_replay::{Cause, CompactReplay, Untaken, follows, replay, replay_to_fault};
+pub use cm_replay::{Cause, CompactReplay, Untaken, replay, replay_to_fault};
 pub use cm_sequential::{Manager, frames};
 pub use cm_writer::{journal_write, replay_report, report};
