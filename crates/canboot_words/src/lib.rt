@@ -3,4 +3,4 @@
 
 mod command_line;
 
-pub use command_line::{NoAction, Action, read_words};
+pub use command_line::{Action, NoAction, read_words};
