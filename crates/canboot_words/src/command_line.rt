@@ -40,6 +40,9 @@ pub enum NoAction {
     OutOfMemory,
 }
 
+/// The name in help, usage and version, whatever file the program lies in.
+const NAME: &str = "canboot";
+
 const VERSION: &str = "0.1.0";
 
 const ABOUT: &str = "The NMT master of a CANopen network (CiA 301, CiA 302-2)";
@@ -84,7 +87,7 @@ const ABOUT_CHECK: &str = "Reads a network list in TOML and prints how many slav
 const HELP_CHECK: &str =
     "Reads the network list NET (TOML, UTF-8, at most 1,048,576 bytes) to its end and prints on \
 standard output 'ok slaves S mandatory M kept K': how many slaves it lists, how many of them are \
-mandatory (1F81h bit 3), and how many are kept alive (1F81h bit 4).
+mandatory (1F81h bit 3), and how many are kept alive (1F81h bit 4). No CAN network is needed.
 
 Keys of the list, each with its range, and 'needed' or the value where it isn't given:
 
@@ -96,11 +99,14 @@ Keys of the list, each with its range, and 'needed' or the value where it isn't 
 Bits of startup, 1F80h; others are carried:
 
   0  this device is the NMT master; without it every call is refused
-  1  0: each booted slave is started by itself; 1: all at once, when every mandatory slave is booted
-  2  0: the manager becomes operational by itself; 1: the application decides
+  1  0: each slave is started by itself, once it is booted; 1: all at once, when every mandatory \
+slave is booted
+  2  0: the manager becomes operational by itself, when every mandatory slave is booted; 1: the \
+application decides
   3  0: the manager starts slaves; 1: it doesn't
-  4  on an error control event of a mandatory slave that is booted, all nodes are reset
-  6  on that event all nodes are stopped, in place of the reset
+  4  when a mandatory slave that is booted is lost (an error control event), all nodes are reset; \
+with neither bit 4 nor bit 6, that slave alone
+  6  all nodes are stopped then, in place of any reset
 
 Keys of each slave:
 
@@ -123,11 +129,14 @@ of at most 32 arrays [index, sub-index, size, value]: index 0 to 65,535, sub-ind
 Bits of assignment, 1F81h; others are carried:
 
   0  the node is a slave of the list; needed
-  2  it is configured and started; without it, only its heartbeat is waited for
+  2  it is booted: its identity is read, it is configured and started; without this bit it isn't \
+asked anything, and only its heartbeat is waited for, if it has a heartbeat time
   3  it is mandatory: the network isn't ready before it is booted
-  4  it is kept alive: found operational, it isn't reset or configured
-  5  its software version is to be verified, which this master can't do: its boot fails with status \
-G, unless it is found operational
+  4  it is kept alive: the start of the network doesn't reset it, and where its boot finds it \
+operational it isn't configured
+  5  its software version is to be verified, which this master can't do: where bit 2 is set, its \
+boot fails with status G once its identity was read and agrees, unless bit 4 is set and it is found \
+operational
 
 Where faults apply, standard error names the first of these that applies anywhere in the list:
 
@@ -168,7 +177,8 @@ const HELP_RUN: &str =
     "Reads the network list NET ('canboot check --help' says what it holds), boots a network of \
 simulated slaves, and prints the status report of what happened on standard output, as 'canboot \
 replay' prints it. Each slave agrees with the list: it has each object as the list expects it, \
-acknowledges each write, and is heard in pre-operational. No CAN network is needed.
+acknowledges each write, and is heard in pre-operational. The report has a line for each listed \
+slave, which ends with the status of its last boot that came to an end. No CAN network is needed.
 
 A seat is one who makes calls of the manager. Seat 1 is an operator, who starts the network, and \
 says at the end that 0 ms went by. A worker is a thread with a seat of its own, 2 to N + 1, and a \
@@ -176,14 +186,17 @@ bus of its own. The slaves are counted from 0 in rising node-ID, and slave K bel
 modulo N: that worker boots it, one after another with its other slaves.
 
 An attempt at a slave is three things: the begin of its boot, the questions of the boot, and the \
-report of the answers. Another attempt follows only where the report came to status B, for a slave \
-without an answer, or where the session was dropped in the meantime.
+report of the answers. Another attempt follows only after status B, where the slave gave no value \
+of object 1000h, or where the session of the attempt was dropped before its report.
 
-A silent slave gives no answer. Each attempt at it comes to status B, and so it isn't booted; the \
-phase stays 'booting' if it is mandatory, and no slave with bit 5 of its assignment halts the \
-network by status G. A slave without bit 2 of its assignment is asked no \
-question: its silence shows only where its heartbeat is waited for, as status K, and else it is \
-booted. An ID that isn't listed has no effect.
+A silent slave gives no answer. With bit 2 of its assignment each attempt at it comes to status B, \
+also with bit 5, and so it isn't booted; if it is mandatory, the network doesn't become ready. \
+Without bit 2 it is asked no question: its silence shows only where its heartbeat is waited for, as \
+status K, and else it is booted. An ID that isn't listed has no effect.
+
+Any failed boot but one with status B, of a mandatory slave, halts the network: its phase is \
+'halted', and slaves whose boot hasn't begun by then aren't booted. So it is with a mandatory slave \
+that has bits 2 and 5 of its assignment, whose boot fails with status G.
 
 FILE is made once NET is open, and before NET is read; what FILE had before is lost. So with the \
 path of NET for FILE the list is lost, and after a list that is refused, or a start that is refused, \
@@ -194,7 +207,8 @@ order of the entries may differ from run to run, and with it the numbers of the 
 depends on the order.
 
 Exit statuses:
-  0  the report is printed, and the journal is written, if there is one
+  0  the report is printed, and the journal is written, if one is asked for; also where the boot of \
+a slave failed, or the network didn't become ready, as the report says
   1  the list has a fault ('canboot check --help' names them), or the start is refused, since bit 0 \
 of startup is clear ('start refused: 1 NotMaster'); nothing is printed
   2  the command line is wrong
@@ -274,7 +288,8 @@ fn command<'a>(alloc: Global) -> Result<Command<'a>, AllocError> {
     let replay = Command::new(alloc, "replay")
         .about(ABOUT_REPLAY)
         .long_about(HELP_REPLAY);
-    Command::new(alloc, "canboot")
+    Command::new(alloc, NAME)
+        .bin_name(NAME)?
         .version(VERSION)
         .about(ABOUT)
         .after_help(AFTER)
@@ -295,7 +310,7 @@ fn number_of(given: &ArgMatches<'_>, name: &str, most: u8) -> u8
     }
 }
 
-fn run_order<'a>(given: &ArgMatches<'a>) -> Action<'a>
+fn run_action<'a>(given: &ArgMatches<'a>) -> Action<'a>
     ensures { IsInRange result }
 {
     Action::Run {
@@ -307,20 +322,20 @@ fn run_order<'a>(given: &ArgMatches<'a>) -> Action<'a>
     }
 }
 
-fn order_of<'a>(matches: &ArgMatches<'a>) -> Action<'a>
+fn action_of<'a>(matches: &ArgMatches<'a>) -> Action<'a>
     ensures { IsInRange result }
 {
     match matches.subcommand() {
         Some(("check", given)) => Action::Check {
             network: given.get_str("network").unwrap_or(""),
         },
-        Some(("run", given)) => run_order(given),
+        Some(("run", given)) => run_action(given),
         _ => Action::Replay,
     }
 }
 
 /// What `clap` says where it gives no matches.
-fn no_order_of(alloc: Global, error: &Error) -> NoAction {
+fn no_action_of(alloc: Global, error: &Error) -> NoAction {
     if error.kind() == ErrorKind::OutOfMemory {
         return NoAction::OutOfMemory;
     }
@@ -346,7 +361,7 @@ pub fn read_words<'a>(alloc: Global, words: &'a [String]) -> Result<Action<'a>, 
         Err(_) => return Err(NoAction::OutOfMemory),
     };
     match parsed {
-        Ok(matches) => Ok(order_of(&matches)),
-        Err(error) => Err(no_order_of(alloc, &error)),
+        Ok(matches) => Ok(action_of(&matches)),
+        Err(error) => Err(no_action_of(alloc, &error)),
     }
 }
