@@ -1,4 +1,9 @@
 pub use Rattle.cm_nmt.specs.Listing
+pub use Rattle.cm_nmt.specs.Frames
+pub use Rattle.cm_nmt.specs.Verdict
+pub use Rattle.cm_netlist.specs.Network
+pub use Rattle.cm_boot.specs.Procedure
+pub use Rattle.cm_boot.specs.Talk
 pub use Rattle.cm_history.specs.Phases
 pub use Rattle.cm_history.specs.Orders
 pub use Rattle.cm_history.specs.History
@@ -13,3 +18,8 @@ pub use Rattle.cm_format.specs.Fits
 pub use Rattle.cm_format.specs.Journals
 pub use Rattle.cm_format.specs.Report
 pub use Rattle.cm_journal.specs.Inputs
+pub use Rattle.cm_register.specs.Opening
+pub use Rattle.cm_register.specs.Reads
+pub use Rattle.cm_register.specs.Closing
+pub use Rattle.cm_run.specs.Rounds
+pub use Rattle.cm_run.specs.Running
