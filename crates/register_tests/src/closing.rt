@@ -78,16 +78,20 @@ fn calls_in_turn<K: RunName, R: Wait + Abort + Drop + Copy>(
     let Ok((register, mut seats)) = opened.named::<K>() else {
         return Err(Fail::from("named"));
     };
-    let [first, second] = seats.as_mut_slice() else {
+    let Some(mut second) = seats.pop() else {
         return Err(Fail::from("seats"));
     };
-    let started = register.call(rt, first, Call::StartNetwork);
-    let read = register.call(rt, second, Call::Read(1));
-    let elapsed = register.call(rt, first, Call::Elapsed(0));
+    let Some(mut first) = seats.pop() else {
+        return Err(Fail::from("seats"));
+    };
+    let started = register.call(rt, &mut first, Call::StartNetwork);
+    let read = register.call(rt, &mut second, Call::Read(1));
+    let elapsed = register.call(rt, &mut first, Call::Elapsed(0));
     is_made(rt, started, 1, Reply::Started);
     is_made(rt, read, 2, Reply::State(127));
     is_made(rt, elapsed, 3, Reply::InTime);
-    seats.as_mut_slice().reverse();
+    seats.push(second)?;
+    seats.push(first)?;
     let closed = close(register, seats)?;
     let entries = [
         entry(1, Call::StartNetwork, Reply::Started, Orders::ResetUnkept),

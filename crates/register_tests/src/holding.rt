@@ -88,15 +88,20 @@ fn reads_beside_a_held_frame<
     let Ok((register, mut seats)) = opened.named::<K>() else {
         return Err(Fail::from("named"));
     };
-    let [first, second] = seats.as_mut_slice() else {
+    let Some(mut second) = seats.pop() else {
+        return Err(Fail::from("seats"));
+    };
+    let Some(mut first) = seats.pop() else {
         return Err(Fail::from("seats"));
     };
     let shared = &register;
     thread::join(
         rt,
-        || stop_the_slave(rt, shared, first),
-        || read_while_held(rt, second, signs),
+        || stop_the_slave(rt, shared, &mut first),
+        || read_while_held(rt, &mut second, signs),
     );
+    seats.push(first)?;
+    seats.push(second)?;
     let closed = close(register, seats)?;
     sure(rt, closed.wire.was_read);
     sure(rt, closed.wire.wire.sent().len() == 2);

@@ -57,16 +57,21 @@ fn reads_beside_calls<
     let Ok((register, mut seats)) = opened.named::<K>() else {
         return Err(Fail::from("named"));
     };
-    let [first, second] = seats.as_mut_slice() else {
+    let Some(mut second) = seats.pop() else {
         return Err(Fail::from("seats"));
     };
-    stop_the_slave(rt, &register, first);
+    let Some(mut first) = seats.pop() else {
+        return Err(Fail::from("seats"));
+    };
+    stop_the_slave(rt, &register, &mut first);
     let shared = &register;
     thread::join(
         rt,
-        || read_by_calls(rt, shared, second),
-        || read_stopped(rt, first),
+        || read_by_calls(rt, shared, &mut second),
+        || read_stopped(rt, &mut first),
     );
+    seats.push(first)?;
+    seats.push(second)?;
     let closed = close(register, seats)?;
     sure(rt, closed.history.len() == READS as usize + 2);
     Ok(())
