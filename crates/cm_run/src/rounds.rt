@@ -3,13 +3,17 @@ ghost use Rattle.cm_run.specs.Rounds.{Gives, HasRound, calls_in, is_followed, la
 
 use crate::outcome::{Attempt, Last, Outcome};
 use cm_boot::{Bus, boot_slave};
+<<<<<<< HEAD
 use cm_history::{Call, Reply};
+=======
+use cm_history::{Call, Refusal, Reply};
+>>>>>>> run
 use cm_nmt::{NodeId, Status};
 use cm_register::{Register, RunName, Seat, Wire};
 use std::sync::Wait;
 
 /// One attempt to boot a slave: the begin, the boot over the bus, the report.
-pub fn attempt<'n, W: Wire, K: RunName, R: Wait + Drop, B: Bus>(
+fn attempt<'n, W: Wire, K: RunName, R: Wait + Drop, B: Bus>(
     rt: &R,
     register: &Register<'n, W, K, R>,
     seat: &mut Seat<K>,
@@ -59,7 +63,7 @@ fn is_followed(attempt: &Attempt) -> bool
 {
     match attempt {
         Attempt::Ended(_, _, _, _, Last::Status(status)) => *status == Status::B,
-        Attempt::Ended(_, _, _, _, Last::Refused(reason)) => *reason == 7,
+        Attempt::Ended(_, _, _, _, Last::Refused(reason)) => *reason == Refusal::Stale.number(),
         _ => false,
     }
 }

@@ -1,10 +1,9 @@
 //! One thread for each worker.
-ghost use Rattle.std.specs.Prelude.{◌≡◌, ◌<◌, ◌≤◌, ℕ, vec_capacity, vec_len, slice_index_or, IfErr, IfOk, IsTrue};
-ghost use Rattle.cm_run.specs.Running.{HasBooted, HasBootedOrStopped};
-ghost use Rattle.cm_run.specs.Jobs.{HasRun};
+ghost use Rattle.std.specs.Prelude.{◌≡◌, vec_capacity, vec_len, IfErr, IfOk, IsTrue};
+ghost use Rattle.cm_run.specs.Jobs.{AllDone, AllDoneOrStopped, IsDoneIfRun};
 
-use crate::jobs::Job;
-use crate::working::{Plan, work};
+use crate::jobs::{Job, Plan};
+use crate::working::work;
 use cm_boot::Bus;
 use cm_register::{Register, RunName, Wire};
 use std::snapshot::Snapshot;
@@ -29,10 +28,9 @@ struct Given<B: Bus, K: RunName> {
 }
 
 impl<B: Bus, K: RunName> Promise<Back<B, K>> for Given<B, K> {
-    ghost use Rattle.cm_run.specs.Jobs.{HasRun};
+    ghost use Rattle.cm_run.specs.Jobs.{IsDoneIfRun};
 
-    ghost kept_by = { λ g r. HasRun B.step K.net g.plan.attempts g.plan.workers g.worker r.was_run
-        r.job.outcomes.items g.job.value.seat r.job.seat g.job.value.bus r.job.bus };
+    ghost kept_by = { λ g r. IsDoneIfRun g.plan g.worker g.job.value r.was_run r.job };
 }
 
 /// Runs the job, unless it was this worker's thread that was refused.
@@ -44,8 +42,7 @@ fn run_unless_refused<'n, W: Wire, K: RunName, R: Wait + Drop, B: Bus>(
     worker: usize,
     job: Job<B, K>,
 ) -> Back<B, K>
-    ensures { HasRun B.step K.net plan.attempts plan.workers worker result.was_run
-        result.job.outcomes.items job.seat result.job.seat job.bus result.job.bus }
+    ensures { IsDoneIfRun plan worker job result.was_run result.job }
 {
     if refused.load(Ordering::SeqCst) == worker {
         return Back {
@@ -79,8 +76,7 @@ fn start<
 ) -> Result<PromisedHandle<Back<B, K>, Given<B, K>>, Back<B, K>>
     ensures plan { IfOk result (λ h. (h.promise.plan ≡ plan) × (h.promise.worker ≡ worker)) }
     ensures job { IfOk result (λ h. h.promise.job.value ≡ job) }
-    ensures back { IfErr result (λ r. HasRun B.step K.net plan.attempts plan.workers worker
-        r.was_run r.job.outcomes.items job.seat r.job.seat job.bus r.job.bus) }
+    ensures back { IfErr result (λ r. IsDoneIfRun plan worker job r.was_run r.job) }
 {
     let given = Given {
         plan,
@@ -120,15 +116,8 @@ fn run_first<
 ) -> bool
     ensures len { vec_len jobs.new ≡ vec_len jobs.old }
     ensures capacity { vec_capacity jobs.new ≡ vec_capacity jobs.old }
-    ensures each { (k : ℕ) (d : _) → k < vec_len jobs.old
-        → HasBootedOrStopped B.step K.net plan.attempts plan.workers k
-        (slice_index_or jobs.old.items k d).seat (slice_index_or jobs.new.items k d).seat
-        (slice_index_or jobs.old.items k d).bus (slice_index_or jobs.new.items k d).bus }
-    ensures all { IsTrue result → (k : ℕ) (d : _) → k < vec_len jobs.old
-        → HasBooted B.step K.net plan.attempts plan.workers k
-        (slice_index_or jobs.new.items k d).outcomes.items
-        (slice_index_or jobs.old.items k d).seat (slice_index_or jobs.new.items k d).seat
-        (slice_index_or jobs.old.items k d).bus (slice_index_or jobs.new.items k d).bus }
+    ensures each { AllDoneOrStopped plan jobs.old.items jobs.new.items }
+    ensures all { IsTrue result → AllDone plan jobs.old.items jobs.new.items }
 {
     let Some(job) = jobs.pop() else {
         return true;
@@ -163,16 +152,9 @@ pub(crate) fn run_jobs<
     jobs: Vec<Job<B, K>>,
 ) -> Result<Vec<Job<B, K>>, Vec<Job<B, K>>>
     ensures done_len { IfOk result (λ v. vec_len v ≡ vec_len jobs) }
-    ensures done { IfOk result (λ v. (k : ℕ) (d : _) → k < vec_len jobs
-        → HasBooted B.step K.net plan.attempts plan.workers k
-        (slice_index_or v.items k d).outcomes.items
-        (slice_index_or jobs.items k d).seat (slice_index_or v.items k d).seat
-        (slice_index_or jobs.items k d).bus (slice_index_or v.items k d).bus) }
+    ensures done { IfOk result (λ v. AllDone plan jobs.items v.items) }
     ensures stopped_len { IfErr result (λ v. vec_len v ≡ vec_len jobs) }
-    ensures stopped { IfErr result (λ v. (k : ℕ) (d : _) → k < vec_len jobs
-        → HasBootedOrStopped B.step K.net plan.attempts plan.workers k
-        (slice_index_or jobs.items k d).seat (slice_index_or v.items k d).seat
-        (slice_index_or jobs.items k d).bus (slice_index_or v.items k d).bus) }
+    ensures stopped { IfErr result (λ v. AllDoneOrStopped plan jobs.items v.items) }
 {
     let refused = AtomicUsize::new(plan.workers);
     let refused = &refused;
@@ -181,16 +163,9 @@ pub(crate) fn run_jobs<
         rt,
         |scope| -> Result<Vec<Job<B, K>>, Vec<Job<B, K>>>
             ensures done_len { IfOk result (λ v. vec_len v ≡ vec_len jobs) }
-            ensures done { IfOk result (λ v. (k : ℕ) (d : _) → k < vec_len jobs
-                → HasBooted B.step K.net plan.attempts plan.workers k
-                (slice_index_or v.items k d).outcomes.items
-                (slice_index_or jobs.items k d).seat (slice_index_or v.items k d).seat
-                (slice_index_or jobs.items k d).bus (slice_index_or v.items k d).bus) }
+            ensures done { IfOk result (λ v. AllDone plan jobs.items v.items) }
             ensures stopped_len { IfErr result (λ v. vec_len v ≡ vec_len jobs) }
-            ensures stopped { IfErr result (λ v. (k : ℕ) (d : _) → k < vec_len jobs
-                → HasBootedOrStopped B.step K.net plan.attempts plan.workers k
-                (slice_index_or jobs.items k d).seat (slice_index_or v.items k d).seat
-                (slice_index_or jobs.items k d).bus (slice_index_or v.items k d).bus) }
+            ensures stopped { IfErr result (λ v. AllDoneOrStopped plan jobs.items v.items) }
         {
             let mut jobs = jobs;
             if run_first(scope, rt, register, plan, refused, &mut jobs) {

@@ -1,13 +1,11 @@
-ghost use Rattle.std.specs.Prelude.{◌≡◌, ◌≢◌, ◌<◌, ◌≤◌, [], ℕ, All, length, map, slice_index_or, vec_capacity, vec_len, IfErr, IfNone, IfOk, IfSome};
+ghost use Rattle.std.specs.Prelude.{◌≡◌, ◌≢◌, ◌≤◌, [], All, length, map, vec_capacity, vec_len, IfErr, IfNone, IfOk, IfSome};
 ghost use Rattle.cm_netlist.specs.Network.{listed_ids};
-ghost use Rattle.cm_run.specs.Running.{HasBooted, HasBootedOrStopped, IsRunCause, MayRun, id_of};
-ghost use Rattle.cm_run.specs.Shares.{share};
+ghost use Rattle.cm_run.specs.Running.{AllBooted, AllStopped, IsRunCause, MayRun, id_of};
 
 use crate::fault::RunKind;
-use crate::jobs::{Room, merge, pair_up, split_up, take_room};
+use crate::jobs::{Plan, Room, merge, pair_up, split_up, take_room};
 use crate::outcome::Outcome;
 use crate::team::run_jobs;
-use crate::working::Plan;
 use cm_boot::Bus;
 use cm_register::{Register, RunName, Seat, Wire};
 use std::alloc::Global;
@@ -71,19 +69,13 @@ fn boot_in<
     ensures outcomes { IfOk result (λ r. map id_of r.outcomes.items ≡ listed_ids K.net) }
     ensures all { IfOk result
         (λ r. (vec_len r.seats ≡ vec_len seats) × (vec_len r.buses ≡ vec_len buses)) }
-    ensures rounds { IfOk result (λ r. (k : ℕ) (s : _) (b : _) → k < plan.workers
-        → HasBooted B.step K.net plan.attempts plan.workers k
-        (share plan.workers k r.outcomes.items)
-        (slice_index_or seats.items k s) (slice_index_or r.seats.items k s)
-        (slice_index_or buses.items k b) (slice_index_or r.buses.items k b)) }
+    ensures rounds { IfOk result
+        (AllBooted B.step K.net plan.attempts plan.workers seats.items buses.items) }
     ensures fault { IfErr result (λ f. f.kind ≡ RunKind.NoWorker) }
     ensures kept { IfErr result
         (λ f. (vec_len f.seats ≡ vec_len seats) × (vec_len f.buses ≡ vec_len buses)) }
     ensures stopped { IfErr result (λ f. f.kind ≡ RunKind.NoWorker
-        → (k : ℕ) (s : _) (b : _) → k < plan.workers
-        → HasBootedOrStopped B.step K.net plan.attempts plan.workers k
-        (slice_index_or seats.items k s) (slice_index_or f.seats.items k s)
-        (slice_index_or buses.items k b) (slice_index_or f.buses.items k b)) }
+        → AllStopped B.step K.net plan.attempts plan.workers seats.items buses.items f) }
 {
     let Room {
         mut jobs,
@@ -137,11 +129,8 @@ pub fn boot_all<
     ensures outcomes { IfOk result (λ r. map id_of r.outcomes.items ≡ listed_ids K.net) }
     ensures all { IfOk result (λ r. (vec_len r.seats ≡ vec_len seats)
         × (vec_len r.buses ≡ vec_len buses) × (vec_len seats ≡ vec_len buses)) }
-    ensures rounds { IfOk result (λ r. (k : ℕ) (s : _) (b : _) → k < vec_len buses
-        → HasBooted B.step K.net attempts (vec_len buses) k
-        (share (vec_len buses) k r.outcomes.items)
-        (slice_index_or seats.items k s) (slice_index_or r.seats.items k s)
-        (slice_index_or buses.items k b) (slice_index_or r.buses.items k b)) }
+    ensures rounds { IfOk result
+        (AllBooted B.step K.net attempts (vec_len buses) seats.items buses.items) }
     ensures fault { IfErr result
         (λ f. IsRunCause (vec_len seats) (vec_len buses) attempts f.kind) }
     ensures back { IfErr result (λ f. f.kind ≢ RunKind.NoWorker
@@ -149,10 +138,7 @@ pub fn boot_all<
     ensures kept { IfErr result
         (λ f. (vec_len f.seats ≡ vec_len seats) × (vec_len f.buses ≡ vec_len buses)) }
     ensures stopped { IfErr result (λ f. f.kind ≡ RunKind.NoWorker
-        → (k : ℕ) (s : _) (b : _) → k < vec_len buses
-        → HasBootedOrStopped B.step K.net attempts (vec_len buses) k
-        (slice_index_or seats.items k s) (slice_index_or f.seats.items k s)
-        (slice_index_or buses.items k b) (slice_index_or f.buses.items k b)) }
+        → AllStopped B.step K.net attempts (vec_len buses) seats.items buses.items f) }
 {
     if let Some(kind) = fault_of(seats.len(), buses.len(), attempts) {
         return Err(RunFault { kind, seats, buses });

@@ -1,25 +1,17 @@
 //! The work of one worker.
-ghost use Rattle.std.specs.Prelude.{◌≡◌, ◌<◌, ◌≤◌, length, map, vec_capacity, vec_len, IfErr, IfOk};
+ghost use Rattle.std.specs.Prelude.{◌≡◌, ◌≤◌, length, map, vec_capacity, vec_len};
 ghost use Rattle.cm_netlist.specs.Network.{listed_ids};
 ghost use Rattle.cm_run.specs.Rounds.{HasRounds};
-ghost use Rattle.cm_run.specs.Running.{HasBooted, id_of};
+ghost use Rattle.cm_run.specs.Jobs.{IsDone};
+ghost use Rattle.cm_run.specs.Running.{id_of};
 ghost use Rattle.cm_run.specs.Shares.{share};
 
-use crate::jobs::Job;
+use crate::jobs::{Job, Plan};
 use crate::outcome::Outcome;
 use crate::rounds::round;
 use cm_boot::Bus;
 use cm_register::{Register, RunName, Seat, Wire};
 use std::sync::Wait;
-
-/// How many workers there are, and how many attempts at each slave at most.
-#[derive(Clone, Copy)]
-pub(crate) struct Plan {
-    pub(crate) workers: usize,
-    pub(crate) attempts: u8,
-    pub(crate) ghost workers_fit: { 0 < workers },
-    pub(crate) ghost attempts_fit: { 0 < attempts },
-}
 
 /// The rounds of the worker's slaves, in order.
 fn make_rounds<'n, W: Wire, K: RunName, R: Wait + Drop, B: Bus>(
@@ -57,8 +49,7 @@ pub(crate) fn work<'n, W: Wire, K: RunName, R: Wait + Drop, B: Bus>(
     worker: usize,
     job: Job<B, K>,
 ) -> Job<B, K>
-    ensures { HasBooted B.step K.net plan.attempts plan.workers worker result.outcomes.items
-        job.seat result.seat job.bus result.bus }
+    ensures { IsDone plan worker job result }
 {
     let Job {
         mut seat,
