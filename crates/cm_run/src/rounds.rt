@@ -3,11 +3,7 @@ ghost use Rattle.cm_run.specs.Rounds.{Gives, HasRound, calls_in, is_followed, la
 
 use crate::outcome::{Attempt, Last, Outcome};
 use cm_boot::{Bus, boot_slave};
-<<<<<<< HEAD
-use cm_history::{Call, Reply};
-=======
 use cm_history::{Call, Refusal, Reply};
->>>>>>> run
 use cm_nmt::{NodeId, Status};
 use cm_register::{Register, RunName, Seat, Wire};
 use std::sync::Wait;
