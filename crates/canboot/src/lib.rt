@@ -9,7 +9,7 @@ mod simulation;
 pub use canboot_check::{
     DONE, FAILED, LONGEST_JOURNAL, LONGEST_LIST, MISUSED, REFUSED, check_text, replay_text,
 };
-pub use canboot_words::{NoAction, Action, read_words};
+pub use canboot_words::{Action, NoAction, read_words};
 pub use program::{run, run_words};
 pub use running::run_text;
 pub use simulation::{LONGEST_RUN, Options};

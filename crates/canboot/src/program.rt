@@ -6,7 +6,7 @@ use crate::simulation::Options;
 use canboot_check::{
     FAILED, MISUSED, check_file, fault_line, output_status, read_fault, replay_text,
 };
-use canboot_words::{NoAction, Action, read_words};
+use canboot_words::{Action, NoAction, read_words};
 use std::alloc::Global;
 use std::io::{self, BufWriter, Read, Write};
 use std::process::ExitCode;

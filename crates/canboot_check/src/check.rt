@@ -13,8 +13,8 @@ ghost use Rattle.canboot_check.specs.Check.{
 };
 
 use crate::status::{REFUSED, input_fault_line, output_status};
-use cm_text::{InputFault, read_input};
 use cm_netlist::{NetFault, Network};
+use cm_text::{InputFault, read_input};
 use std::alloc::Global;
 use std::io::{self, Read, Write};
 use std::str;

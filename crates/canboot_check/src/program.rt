@@ -39,7 +39,11 @@ pub fn run_words<R: Files + AllocGlobal, I: Read, W: Write, E: Write>(
         [_, command, network] if command.as_str() == "check" => {
             check_file(rt, network.as_str(), out, err)
         }
-        _ => fault_line(err, MISUSED, "this program has no command but 'replay' and 'check NET'"),
+        _ => fault_line(
+            err,
+            MISUSED,
+            "this program has no command but 'replay' and 'check NET'",
+        ),
     }
 }
 
