@@ -1,6 +1,6 @@
 //! The time of one boot of a network by workers.
 
-ghost use Rattle.std.specs.Prelude.{◌≡◌};
+ghost use Rattle.cm_register.specs.Naming.{Names};
 
 mod bus;
 
@@ -54,8 +54,7 @@ fn run_boot<
     buses: Vec<B>,
     slaves: usize,
 ) -> Option<Booting<B>>
-    requires { (opened.blank.name ≡ K.name) × (opened.seats ≡ K.parts) × (opened.seats ≡ K.seats)
-        × (opened.limit ≡ K.limit) × (opened.net.now ≡ K.net) × (opened.log ≡ K.log) }
+    requires { Names K.RunName opened }
 {
     let (register, mut seats) = opened.named::<K>().ok()?;
     let mut operator = seats.pop()?;

@@ -1,6 +1,6 @@
 //! Nanoseconds for one call of a register by threads, and of a book with no lock.
 
-ghost use Rattle.std.specs.Prelude.{◌≡◌};
+ghost use Rattle.cm_register.specs.Naming.{Names};
 
 use crate::caller::{Caller, call_often};
 use crate::network::{SLAVES, full_network, listed_terms};
@@ -54,8 +54,7 @@ fn run_register<R: Clock + Threads + Wait + Copy + Send + Sync + Drop, K: RunNam
     terms: &[Terms],
     count: u32,
 ) -> Option<u128>
-    requires { (opened.blank.name ≡ K.name) × (opened.seats ≡ K.parts) × (opened.seats ≡ K.seats)
-        × (opened.limit ≡ K.limit) × (opened.net.now ≡ K.net) × (opened.log ≡ K.log) }
+    requires { Names K.RunName opened }
 {
     let (register, mut seats) = opened.named::<K>().ok()?;
     register
@@ -82,8 +81,7 @@ fn run_book<R: Clock + Wait + Copy + Drop, K: RunName>(
     terms: &[Terms],
     count: u32,
 ) -> Option<u128>
-    requires { (opened.blank.name ≡ K.name) × (opened.seats ≡ K.parts) × (opened.seats ≡ K.seats)
-        × (opened.limit ≡ K.limit) × (opened.net.now ≡ K.net) × (opened.log ≡ K.log) }
+    requires { Names K.RunName opened }
 {
     let (mut book, mut seats) = opened.book::<K>().ok()?;
     let seat = seats.as_mut_slice().get_mut(0)?;

@@ -1,6 +1,6 @@
 //! A register as large as any, shared by many threads: its history is a journal, which is replayed.
 
-ghost use Rattle.std.specs.Prelude.{◌≡◌};
+ghost use Rattle.cm_register.specs.Naming.{Names};
 
 use crate::runs::full_list;
 use crate::written::sure;
@@ -142,8 +142,7 @@ fn calls<K: RunName + Send + Sync, R: Wait + Threads + Abort + Drop + Copy + Sen
     alloc: Global,
     opened: Opened<SimWire, R>,
 ) -> Result<Closed<SimWire>, Fail>
-    requires { (opened.blank.name ≡ K.name) × (opened.seats ≡ K.parts) × (opened.seats ≡ K.seats)
-        × (opened.limit ≡ K.limit) × (opened.net.now ≡ K.net) × (opened.log ≡ K.log) }
+    requires { Names K.RunName opened }
 {
     let Ok((register, seats)) = opened.named::<K>() else {
         return Err(Fail::from("named"));

@@ -1,6 +1,6 @@
 //! A register that one thread has, with what it leaves where it closes.
 
-ghost use Rattle.std.specs.Prelude.{◌≡◌};
+ghost use Rattle.cm_register.specs.Naming.{Names};
 
 use crate::support::{
     close, entry, frame, is_made, is_refused, lacks_seats, network, open, sees, stop_the_slave,
@@ -25,8 +25,7 @@ fn lacks_room<K: RunName, R: Wait + Abort + Drop + Copy>(
     rt: &R,
     opened: Opened<SimWire, R>,
 ) -> Result<(), Fail>
-    requires { (opened.blank.name ≡ K.name) × (opened.seats ≡ K.parts) × (opened.seats ≡ K.seats)
-        × (opened.limit ≡ K.limit) × (opened.net.now ≡ K.net) × (opened.log ≡ K.log) }
+    requires { Names K.RunName opened }
 {
     let Ok((register, mut seats)) = opened.named::<K>() else {
         return Err(Fail::from("named"));
@@ -72,8 +71,7 @@ fn calls_in_turn<K: RunName, R: Wait + Abort + Drop + Copy>(
     rt: &R,
     opened: Opened<SimWire, R>,
 ) -> Result<(), Fail>
-    requires { (opened.blank.name ≡ K.name) × (opened.seats ≡ K.parts) × (opened.seats ≡ K.seats)
-        × (opened.limit ≡ K.limit) × (opened.net.now ≡ K.net) × (opened.log ≡ K.log) }
+    requires { Names K.RunName opened }
 {
     let Ok((register, mut seats)) = opened.named::<K>() else {
         return Err(Fail::from("named"));
@@ -120,8 +118,7 @@ fn drops_a_seat<K: RunName, R: Wait + Abort + Drop + Copy>(
     rt: &R,
     opened: Opened<SimWire, R>,
 ) -> Result<(), Fail>
-    requires { (opened.blank.name ≡ K.name) × (opened.seats ≡ K.parts) × (opened.seats ≡ K.seats)
-        × (opened.limit ≡ K.limit) × (opened.net.now ≡ K.net) × (opened.log ≡ K.log) }
+    requires { Names K.RunName opened }
 {
     let Ok((register, mut seats)) = opened.named::<K>() else {
         return Err(Fail::from("named"));

@@ -1,6 +1,6 @@
 //! A read while a call is made: a wire holds a frame, and so the lock, until the read has returned.
 
-ghost use Rattle.std.specs.Prelude.{◌≡◌};
+ghost use Rattle.cm_register.specs.Naming.{Names};
 
 use crate::support::{close, network, stop_the_slave, sure};
 use cm_nmt::Frame;
@@ -82,8 +82,7 @@ fn reads_beside_a_held_frame<
     K: RunName + Send + Sync,
     R: Wait + Threads + Abort + Drop + Copy + Send + Sync,
 >(rt: &R, opened: Opened<HoldingWire, R>, signs: &Signs) -> Result<(), Fail>
-    requires { (opened.blank.name ≡ K.name) × (opened.seats ≡ K.parts) × (opened.seats ≡ K.seats)
-        × (opened.limit ≡ K.limit) × (opened.net.now ≡ K.net) × (opened.log ≡ K.log) }
+    requires { Names K.RunName opened }
 {
     let Ok((register, mut seats)) = opened.named::<K>() else {
         return Err(Fail::from("named"));

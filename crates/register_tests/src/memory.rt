@@ -2,7 +2,7 @@
 //! lost, and the same again is made. Once a register is open, a call wants memory only for its seat's
 //! list, and a read wants none.
 
-ghost use Rattle.std.specs.Prelude.{◌≡◌};
+ghost use Rattle.cm_register.specs.Naming.{Names};
 
 use crate::support::{close, entry, frame, is_made, network, sees, sure};
 use cm_history::{Call, Orders, Reply};
@@ -65,8 +65,7 @@ fn calls_and_reads<K: RunName, R: Wait + Abort + Drop + Copy>(
     rt: &R,
     opened: Opened<SimWire, R>,
 ) -> Result<bool, Fail>
-    requires { (opened.blank.name ≡ K.name) × (opened.seats ≡ K.parts) × (opened.seats ≡ K.seats)
-        × (opened.limit ≡ K.limit) × (opened.net.now ≡ K.net) × (opened.log ≡ K.log) }
+    requires { Names K.RunName opened }
 {
     let (register, mut seats) = match opened.named::<K>() {
         Ok(named) => named,

@@ -1,6 +1,6 @@
 //! A register for one thread.
 
-ghost use Rattle.std.specs.Prelude.{◌≡◌};
+ghost use Rattle.cm_register.specs.Naming.{Names};
 
 use crate::support::{entry, frame, is_made, is_refused, network, node, sure};
 use cm_history::{Call, Entry, Orders, Phase, Reply};
@@ -17,8 +17,7 @@ use std::test::Fail;
 fn open<'n, K: RunName, R: Wait + Drop + Copy>(
     opened: Opened<'n, SimWire, R>,
 ) -> Result<(Book<'n, SimWire, K, R>, Seat<K>), Fail>
-    requires { (opened.blank.name ≡ K.name) × (opened.seats ≡ K.parts) × (opened.seats ≡ K.seats)
-        × (opened.limit ≡ K.limit) × (opened.net.now ≡ K.net) × (opened.log ≡ K.log) }
+    requires { Names K.RunName opened }
 {
     let Ok((book, mut seats)) = opened.book::<K>() else {
         return Err(Fail::from("book"));
@@ -53,8 +52,7 @@ fn boots<K: RunName, R: Wait + Abort + Drop + Copy>(
     alloc: Global,
     opened: Opened<SimWire, R>,
 ) -> Result<(), Fail>
-    requires { (opened.blank.name ≡ K.name) × (opened.seats ≡ K.parts) × (opened.seats ≡ K.seats)
-        × (opened.limit ≡ K.limit) × (opened.net.now ≡ K.net) × (opened.log ≡ K.log) }
+    requires { Names K.RunName opened }
 {
     let two = node(rt, 2);
     let (mut book, mut seat) = open::<K, _>(opened)?;
@@ -97,8 +95,7 @@ fn lacks_room<K: RunName, R: Wait + Abort + Drop + Copy>(
     alloc: Global,
     opened: Opened<SimWire, R>,
 ) -> Result<(), Fail>
-    requires { (opened.blank.name ≡ K.name) × (opened.seats ≡ K.parts) × (opened.seats ≡ K.seats)
-        × (opened.limit ≡ K.limit) × (opened.net.now ≡ K.net) × (opened.log ≡ K.log) }
+    requires { Names K.RunName opened }
 {
     let (mut book, mut seat) = open::<K, _>(opened)?;
     let start = book.apply(rt, &mut seat, Call::StartNetwork);

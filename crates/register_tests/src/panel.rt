@@ -1,6 +1,6 @@
 //! Threads that read beside threads that call: what each read gave is compared with the history.
 
-ghost use Rattle.std.specs.Prelude.{◌≡◌};
+ghost use Rattle.cm_register.specs.Naming.{Names};
 
 use crate::support::{close, network, node, open, sure};
 use cm_history::{Call, Entry};
@@ -187,8 +187,7 @@ fn works<K: RunName + Send + Sync, R: Wait + Threads + Abort + Drop + Copy + Sen
     alloc: Global,
     opened: Opened<SimWire, R>,
 ) -> Result<(), Fail>
-    requires { (opened.blank.name ≡ K.name) × (opened.seats ≡ K.parts) × (opened.seats ≡ K.seats)
-        × (opened.limit ≡ K.limit) × (opened.net.now ≡ K.net) × (opened.log ≡ K.log) }
+    requires { Names K.RunName opened }
 {
     let net = opened.net;
     let Ok((register, seats)) = opened.named::<K>() else {

@@ -1,6 +1,6 @@
 //! What seats read: before any call, after calls of their own and of others, and beside them.
 
-ghost use Rattle.std.specs.Prelude.{◌≡◌};
+ghost use Rattle.cm_register.specs.Naming.{Names};
 
 use crate::support::{close, is_made, network, open, sees, stop_the_slave, sure};
 use cm_history::{Call, Reply};
@@ -51,8 +51,7 @@ fn reads_beside_calls<
     K: RunName + Send + Sync,
     R: Wait + Threads + Abort + Drop + Copy + Send + Sync,
 >(rt: &R, opened: Opened<SimWire, R>) -> Result<(), Fail>
-    requires { (opened.blank.name ≡ K.name) × (opened.seats ≡ K.parts) × (opened.seats ≡ K.seats)
-        × (opened.limit ≡ K.limit) × (opened.net.now ≡ K.net) × (opened.log ≡ K.log) }
+    requires { Names K.RunName opened }
 {
     let Ok((register, mut seats)) = opened.named::<K>() else {
         return Err(Fail::from("named"));
@@ -98,8 +97,7 @@ fn each_reads<K: RunName, R: Wait + Abort + Drop + Copy>(
     rt: &R,
     opened: Opened<SimWire, R>,
 ) -> Result<(), Fail>
-    requires { (opened.blank.name ≡ K.name) × (opened.seats ≡ K.parts) × (opened.seats ≡ K.seats)
-        × (opened.limit ≡ K.limit) × (opened.net.now ≡ K.net) × (opened.log ≡ K.log) }
+    requires { Names K.RunName opened }
 {
     let Ok((register, mut seats)) = opened.named::<K>() else {
         return Err(Fail::from("named"));
@@ -129,8 +127,7 @@ fn reads_no_version<K: RunName, R: Wait + Abort + Drop + Copy>(
     rt: &R,
     opened: Opened<SimWire, R>,
 ) -> Result<(), Fail>
-    requires { (opened.blank.name ≡ K.name) × (opened.seats ≡ K.parts) × (opened.seats ≡ K.seats)
-        × (opened.limit ≡ K.limit) × (opened.net.now ≡ K.net) × (opened.log ≡ K.log) }
+    requires { Names K.RunName opened }
 {
     let Ok((register, mut seats)) = opened.named::<K>() else {
         return Err(Fail::from("named"));

@@ -1,6 +1,6 @@
 //! A register whose seats make their calls in threads.
 
-ghost use Rattle.std.specs.Prelude.{◌≡◌};
+ghost use Rattle.cm_register.specs.Naming.{Names};
 
 use crate::support::{close, is_refused, lacks_seats, network, open, sure};
 use cm_history::{Call, Reply};
@@ -117,8 +117,7 @@ fn reads<K: RunName + Send + Sync, R: Wait + Threads + Abort + Drop + Copy + Sen
     alloc: Global,
     opened: Opened<SimWire, R>,
 ) -> Result<(), Fail>
-    requires { (opened.blank.name ≡ K.name) × (opened.seats ≡ K.parts) × (opened.seats ≡ K.seats)
-        × (opened.limit ≡ K.limit) × (opened.net.now ≡ K.net) × (opened.log ≡ K.log) }
+    requires { Names K.RunName opened }
 {
     let Ok((register, seats)) = opened.named::<K>() else {
         return Err(Fail::from("named"));

@@ -1,7 +1,7 @@
 //! Networks of simulated slaves that workers boot: all of them, with a wire that is full, with a
 //! history that is full, and with memory that is refused.
 
-ghost use Rattle.std.specs.Prelude.{◌≡◌};
+ghost use Rattle.cm_register.specs.Naming.{Names};
 
 use crate::support::{agreeing, close, is_made, network, node, open, sure};
 use cm_history::{Call, Reply};
@@ -33,8 +33,7 @@ fn boots<K: RunName + Send + Sync, R: Wait + Threads + Abort + Drop + Copy + Sen
     attempts: u8,
     outcomes: &[Outcome],
 ) -> Result<Closed<SimWire>, Fail>
-    requires { (opened.blank.name ≡ K.name) × (opened.seats ≡ K.parts) × (opened.seats ≡ K.seats)
-        × (opened.limit ≡ K.limit) × (opened.net.now ≡ K.net) × (opened.log ≡ K.log) }
+    requires { Names K.RunName opened }
 {
     let Ok((register, mut seats)) = opened.named::<K>() else {
         return Err(Fail::from("named"));
@@ -136,8 +135,7 @@ fn boots_or_says_why_not<
     K: RunName + Send + Sync,
     R: Wait + Threads + Abort + Drop + Copy + Send + Sync,
 >(rt: &R, alloc: Global, opened: Opened<SimWire, R>) -> Result<(), Fail>
-    requires { (opened.blank.name ≡ K.name) × (opened.seats ≡ K.parts) × (opened.seats ≡ K.seats)
-        × (opened.limit ≡ K.limit) × (opened.net.now ≡ K.net) × (opened.log ≡ K.log) }
+    requires { Names K.RunName opened }
 {
     let Ok((register, mut seats)) = opened.named::<K>() else {
         return Ok(());

@@ -1,6 +1,6 @@
 //! The calls of an operator, where memory is refused (by hand, `rt try --test --fail-alloc N`).
 
-ghost use Rattle.std.specs.Prelude.{◌≡◌};
+ghost use Rattle.cm_register.specs.Naming.{Names};
 
 use crate::support::{close, network, sure};
 use cm_history::Call;
@@ -23,8 +23,7 @@ fn operates<K: RunName, R: Wait + Abort + Drop + Copy>(
     alloc: Global,
     opened: Opened<SimWire, R>,
 ) -> Result<(), Fail>
-    requires { (opened.blank.name ≡ K.name) × (opened.seats ≡ K.parts) × (opened.seats ≡ K.seats)
-        × (opened.limit ≡ K.limit) × (opened.net.now ≡ K.net) × (opened.log ≡ K.log) }
+    requires { Names K.RunName opened }
 {
     let Ok((register, mut seats)) = opened.named::<K>() else {
         return Ok(());

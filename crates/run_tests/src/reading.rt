@@ -1,6 +1,6 @@
 //! Reads beside a boot.
 
-ghost use Rattle.std.specs.Prelude.{◌≡◌};
+ghost use Rattle.cm_register.specs.Naming.{Names};
 
 use crate::support::{agreeing, close, is_made, network, open, sure};
 use cm_history::{Call, Reply};
@@ -61,8 +61,7 @@ fn reads_beside_a_boot<
     K: RunName + Send + Sync,
     R: Wait + Threads + Abort + Drop + Copy + Send + Sync,
 >(rt: &R, alloc: Global, opened: Opened<SimWire, R>) -> Result<(), Fail>
-    requires { (opened.blank.name ≡ K.name) × (opened.seats ≡ K.parts) × (opened.seats ≡ K.seats)
-        × (opened.limit ≡ K.limit) × (opened.net.now ≡ K.net) × (opened.log ≡ K.log) }
+    requires { Names K.RunName opened }
 {
     let Ok((register, mut seats)) = opened.named::<K>() else {
         return Err(Fail::from("named"));

@@ -1,6 +1,6 @@
 //! Rounds of boots over a bus of simulated slaves, and the calls of an operator.
 
-ghost use Rattle.std.specs.Prelude.{◌≡◌};
+ghost use Rattle.cm_register.specs.Naming.{Names};
 
 use crate::support::{close, network, node, open, sure};
 use cm_history::{Call, Reply};
@@ -31,8 +31,7 @@ fn boots<K: RunName, R: Wait + Abort + Drop + Copy>(
     alloc: Global,
     opened: Opened<SimWire, R>,
 ) -> Result<(), Fail>
-    requires { (opened.blank.name ≡ K.name) × (opened.seats ≡ K.parts) × (opened.seats ≡ K.seats)
-        × (opened.limit ≡ K.limit) × (opened.net.now ≡ K.net) × (opened.log ≡ K.log) }
+    requires { Names K.RunName opened }
 {
     let Ok((register, mut seats)) = opened.named::<K>() else {
         return Err(Fail::from("named"));

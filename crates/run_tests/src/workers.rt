@@ -1,6 +1,7 @@
 //! Workers that boot the slaves of a network, each in a thread of its own.
 
-ghost use Rattle.std.specs.Prelude.{◌≡◌, ⊤};
+ghost use Rattle.std.specs.Prelude.{⊤};
+ghost use Rattle.cm_register.specs.Naming.{Names};
 
 use crate::support::{close, network, node, open, sure};
 use cm_boot::{Answer, Bus, Question};
@@ -111,8 +112,7 @@ fn boots<K: RunName + Send + Sync, R: Wait + Threads + Abort + Drop + Copy + Sen
     opened: Opened<SimWire, R>,
     first: Status,
 ) -> Result<(), Fail>
-    requires { (opened.blank.name ≡ K.name) × (opened.seats ≡ K.parts) × (opened.seats ≡ K.seats)
-        × (opened.limit ≡ K.limit) × (opened.net.now ≡ K.net) × (opened.log ≡ K.log) }
+    requires { Names K.RunName opened }
 {
     let Ok((register, mut seats)) = opened.named::<K>() else {
         return Err(Fail::from("named"));
@@ -165,8 +165,7 @@ fn refuses<K: RunName + Send + Sync, R: Wait + Threads + Abort + Drop + Copy + S
     opened: Opened<SimWire, R>,
     cases: &[(usize, u8, RunKind)],
 ) -> Result<(), Fail>
-    requires { (opened.blank.name ≡ K.name) × (opened.seats ≡ K.parts) × (opened.seats ≡ K.seats)
-        × (opened.limit ≡ K.limit) × (opened.net.now ≡ K.net) × (opened.log ≡ K.log) }
+    requires { Names K.RunName opened }
 {
     let Ok((register, mut seats)) = opened.named::<K>() else {
         return Err(Fail::from("named"));

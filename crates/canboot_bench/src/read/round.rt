@@ -1,4 +1,4 @@
-ghost use Rattle.std.specs.Prelude.{◌≡◌};
+ghost use Rattle.cm_register.specs.Naming.{Names};
 
 use crate::caller::{Caller, call_often};
 use crate::read::board::Board;
@@ -163,8 +163,7 @@ pub fn run_round<R: Clock + Threads + Wait + Copy + Send + Sync + Drop, K: RunNa
     opened: Opened<Tape, R>,
     plan: Plan,
 ) -> Option<Round>
-    requires { (opened.blank.name ≡ K.name) × (opened.seats ≡ K.parts) × (opened.seats ≡ K.seats)
-        × (opened.limit ≡ K.limit) × (opened.net.now ≡ K.net) × (opened.log ≡ K.log) }
+    requires { Names K.RunName opened }
 {
     let (register, mut seats) = opened.named::<K>().ok()?;
     register
