@@ -5,6 +5,8 @@
 #[cfg(test)]
 mod runs;
 #[cfg(test)]
+mod small_program;
+#[cfg(test)]
 mod streams;
 #[cfg(test)]
 mod teams;

@@ -9,10 +9,10 @@ use std::sync::Wait;
 use std::test::Fail;
 use std::thread::Threads;
 
-const JOURNAL: &[u8] =
+pub(crate) const JOURNAL: &[u8] =
     b"canboot journal 1\nnetwork own 1 startup 00000001 boottime 0 seats 1 limit 16\nslave 2 assign 0000000D type 00020192 vendor 00000000 product 00000000 revision 00000000 serial 00000000 heartbeat 0 date 00000000 time 00000000 writes 0\nentry 1 start = started / reset-unkept\nentry 1 begin 2 = begun 1 / none\nentry 1 report 2 1 00020192 - - - - - - - 0 - - = status Ok / one 01 02\nend 3\n";
 
-const REPORT: &[u8] =
+pub(crate) const REPORT: &[u8] =
     b"phase ready\nown operational\nentries 3\nopen 0\nframe 82 00\nframe 01 02\nslave 2 state 5 booted yes session 0 last Ok\n";
 
 const LIST: &[u8] =
@@ -20,7 +20,7 @@ const LIST: &[u8] =
 
 const LINE: &[u8] = b"ok slaves 1 mandatory 1 kept 0\n";
 
-const READ_FAILED: &[u8] = b"canboot: read failed\n";
+pub(crate) const READ_FAILED: &[u8] = b"canboot: read failed\n";
 
 pub(crate) const WRITE_FAILED: &[u8] = b"canboot: write failed\n";
 
