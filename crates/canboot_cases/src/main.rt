@@ -13,6 +13,7 @@ mod text;
 use crate::case::Case;
 use crate::run::{Outcome, run_case};
 use crate::scanner::Scanner;
+use crate::text::ENDLESS;
 use std::alloc::AllocError;
 use std::process::ExitCode;
 use std::rt::{Env, Files};
@@ -64,7 +65,7 @@ fn run_file<R: Files + Print + AllocGlobal + Wait + Threads + Drop + Copy + Send
 ) -> io::Result<()> {
     let bytes = fs::read(rt, path)?;
     let mut scanner = Scanner::new(&bytes);
-    for _ in 0..u64::MAX {
+    for _ in 0..ENDLESS {
         if scanner.is_at_end() {
             return Ok(());
         }

@@ -5,6 +5,9 @@ use std::io::{self, Read, Write};
 /// The byte in whose place each repetition of a part has its number.
 const NUMBER: u8 = b'~';
 
+/// A loop must be known to end, and these end with their bytes: so they count to this, which no case comes to.
+pub const ENDLESS: u64 = u64::MAX;
+
 /// Some bytes, as often as said. Where they have a `~`, each repetition has its number there, counted
 /// from 1.
 #[derive(Clone, Copy)]
@@ -82,7 +85,7 @@ impl<'a> Text<'a> {
 
     /// Begins the next repetition. The answer is whether there is one.
     fn begin(&mut self) -> Result<bool, AllocError> {
-        for _ in 0..u64::MAX {
+        for _ in 0..ENDLESS {
             let Some(part) = self.parts.get(self.place) else {
                 return Ok(false);
             };
@@ -137,7 +140,7 @@ impl<'a> Text<'a> {
 
     /// Whether there are bytes left; then [`Text::left`] isn't empty.
     fn has_more(&mut self) -> Result<bool, AllocError> {
-        for _ in 0..u64::MAX {
+        for _ in 0..ENDLESS {
             if !self.left().is_empty() {
                 return Ok(true);
             }
@@ -151,7 +154,7 @@ impl<'a> Text<'a> {
     /// Whether the bytes are those that come next, which are then taken.
     pub fn goes_on_with(&mut self, bytes: &[u8]) -> Result<bool, AllocError> {
         let mut rest = bytes;
-        for _ in 0..u64::MAX {
+        for _ in 0..ENDLESS {
             if rest.is_empty() {
                 return Ok(true);
             }
@@ -176,7 +179,7 @@ impl<'a> Text<'a> {
 
     /// Writes all bytes.
     pub fn write_to(&mut self, out: &mut impl Write) -> io::Result<()> {
-        for _ in 0..u64::MAX {
+        for _ in 0..ENDLESS {
             if !self.has_more()? {
                 return Ok(());
             }
@@ -192,7 +195,7 @@ impl Read for Text<'_> {
     /// Fills the room, unless the bytes end.
     fn read(&mut self, buf: &mut [u8]) -> io::Result<usize> {
         let mut filled = 0;
-        for _ in 0..u64::MAX {
+        for _ in 0..ENDLESS {
             if filled >= buf.len() || !self.has_more()? {
                 break;
             }

@@ -2,6 +2,10 @@ use crate::network::SLAVES;
 use cm_register::{RunName, Seat};
 use std::sync::atomic::{AtomicBool, Ordering};
 
+// A loop must be known to end, and when the flag goes up isn't known: so it counts to this, which no
+// measurement comes to.
+const ENDLESS: u64 = u64::MAX;
+
 /// What a reader saw: of how many calls its last read told, and the sum of all states, so that no
 /// read can be left out of the program.
 #[derive(Clone, Copy)]
@@ -37,7 +41,7 @@ impl Sight {
 
     /// Makes passes until the flag is up: how many.
     pub fn read_until<K: RunName>(&mut self, seat: &mut Seat<K>, flag: &AtomicBool) -> Option<u64> {
-        for passes in 0..u64::MAX {
+        for passes in 0..ENDLESS {
             if flag.load(Ordering::SeqCst) {
                 return Some(passes);
             }
