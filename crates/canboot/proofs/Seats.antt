@@ -1,6 +1,6 @@
 -- The seats of a register that was opened.
 use Rattle.std.proofs.Common.{ℕ, zero, suc, ◌+◌, ◌<◌, [], ◌∷◌, length, length-append, arith}
-use Rattle.cm_register.specs.Opening.{fresh_seat, fresh_seats}
+use Rattle.cm_seat.specs.Opening.{fresh_seat, fresh_seats}
 
 -- where there are to be seats, there is one
 pub some_seats : (n : ℕ) → 0 < n → 0 < length (fresh_seats n)

@@ -13,6 +13,7 @@
 //! | cm_format     | what a journal's text is, and its faults  | `JournalFault`                         |
 //! | cm_writer     | journal and report written                | `journal_write`, `report`              |
 //! | cm_journal    | a journal read                            | `Journal`, `journal_read`              |
+//! | cm_seat       | who makes calls, and reads                | `SharedManager`, `Made`, `Receipt`     |
 //! | cm_register   | one manager, shared by threads            | `Register`, `Seat`, `Closed`, `Book`   |
 //! | cm_run        | boots by workers, an operator, simulation | `boot_all`, `operate`, `SimBus`        |
 //!
@@ -38,9 +39,11 @@ pub use cm_nmt::{
 };
 pub use cm_register::{
     Book, BookFault, CallFault, CloseFault, CloseKind, Closed, Made, OpenFault, Opened,
-    ReadFault as SeatReadFault, Receipt, Register, RunName, Seat, SeatList, Seen,
+    ReadFault as SeatReadFault, Receipt, Register, RunName, Seat, SeatList, SeatReader, Seen,
+    SharedManager,
 };
 pub use cm_replay::{Cause, CompactReplay, Untaken, replay, replay_to_fault};
+pub use cm_past::HistoryReader;
 pub use cm_run::{
     Booted, Last, OperateFault, Outcome, RunFault, RunKind, SimBus, SimSlave, SimWire, boot_all,
     operate, round,

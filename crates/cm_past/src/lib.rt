@@ -5,6 +5,8 @@
 //! takes no lock. An [`Appender`], of which each history has one, makes the history longer by an entry,
 //! and gives the past that says so. Each past is a legal history.
 //!
+//! A [`HistoryReader`] is whoever sees the history while it grows.
+//!
 //! [`UnnamedLog::new`] makes the log, and [`UnnamedLog::named`] gives its appender and the past of no entry.
 #![tactic(auto)]
 
@@ -12,9 +14,11 @@ mod appender;
 mod history_name;
 mod log_rule;
 mod past;
+mod reader;
 mod unnamed_log;
 
 pub use appender::Appender;
 pub use history_name::HistoryName;
 pub use past::Past;
+pub use reader::{HistoryReader, Look};
 pub use unnamed_log::UnnamedLog;

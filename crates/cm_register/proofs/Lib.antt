@@ -1,5 +1,4 @@
 pub mod SeatCalls
 pub mod SeatLists
-pub mod Knowing
 pub mod Longer
 pub mod Room

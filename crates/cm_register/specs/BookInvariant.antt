@@ -6,7 +6,11 @@ use Rattle.cm_netlist.specs.Network.{Network, listing}
 use Rattle.cm_history.specs.OrderFrames.{frames_in}
 use Rattle.cm_history.specs.Legal.{AreOfSeats, IsLegal}
 use Rattle.cm_history.specs.declared.call.Entry.{Entry}
-use Rattle.cm_register.specs.SeatCalls.{calls_of}
+use Rattle.cm_seat.specs.Handing.{AreApart}
+use Rattle.cm_seat.specs.Knowing.{AllHaveCallsOf}
+use Rattle.cm_seat.specs.Reads.{AllKnown}
+use Rattle.cm_seat.specs.SeatCalls.{calls_of}
+use Rattle.cm_seat.specs.Views.{SeatView}
 
 -- how many entries each seat has: place k counts those of seat k + 1
 abbrev pub AreCounts : List ℕ → List Entry → Type 0
@@ -24,3 +28,11 @@ pub record IsKept (net : Network) (seats limit : ℕ) (history : List Entry) (ca
   pub wide : length counts ≡ 64
   pub counted : AreCounts counts history
   pub seated : AreOfSeats seats history
+
+-- nothing is in the way of closing a book with these entries: no seat is missing, no number comes twice, and what each knows
+-- is of the history, so that its calls are the first of its number there
+pub record MayClose (entries : List Entry) (seats : ℕ) (given : List SeatView) : Type 0 where
+  pub all : seats ≤ length given
+  pub apart : AreApart given
+  pub known : AllKnown entries given
+  pub calls : AllHaveCallsOf entries given

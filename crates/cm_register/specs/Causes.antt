@@ -1,15 +1,14 @@
--- When a call gets into no history, and when a read shows nothing (own).
-use Rattle.std.specs.Prelude.{◌≡◌, ◌≢◌, ◌<◌, ◌≤◌, ℕ, length, reverse}
+-- When a call gets into no history (own).
+use Rattle.std.specs.Prelude.{◌≡◌, ◌≢◌, ◌<◌, ℕ, length, reverse}
 use Rattle.cm_nmt.specs.Listing.{Listing}
 use Rattle.cm_history.specs.Answering.{answer_of}
 use Rattle.cm_history.specs.OrderFrames.{frames_of}
 use Rattle.cm_history.specs.declared.call.Call.{Call}
-use Rattle.cm_register.specs.declared.fault.CallFault.{CallFault}
-use Rattle.cm_register.specs.declared.fault.CallFault.TheVariants as fault
-use Rattle.cm_register.specs.declared.fault.ReadFault.{ReadFault}
-use Rattle.cm_register.specs.declared.fault.ReadFault.TheVariants as read
-use Rattle.cm_register.specs.SeatCalls.{calls_of}
-use Rattle.cm_register.specs.Views.{BookView, SeatView}
+use Rattle.cm_seat.specs.declared.fault.CallFault.{CallFault}
+use Rattle.cm_seat.specs.declared.fault.CallFault.TheVariants as fault
+use Rattle.cm_seat.specs.SeatCalls.{calls_of}
+use Rattle.cm_seat.specs.Views.{SeatView}
+use Rattle.cm_register.specs.Views.{BookView}
 
 -- the seat's list isn't as long as its calls in the history are many
 abbrev pub IsStale : BookView → SeatView → Type 0
@@ -35,12 +34,3 @@ IsCause net limit book seat call fault.OutOfMemory = Unit {0}
 IsCause net limit book seat call fault.SeatStale = IsStale book seat
 IsCause net limit book seat call fault.JournalFull = (IsStale book seat → ⊥) × IsFull limit book
 IsCause net limit book seat call fault.WireFull = (IsStale book seat → ⊥) × (IsFull limit book → ⊥) × LacksRoom net book call
-
--- the target of a read is a node-ID (CiA 301: 1 to 127)
-abbrev pub IsTarget : ℕ → Type 0
-IsTarget target = (1 ≤ target) × (target ≤ 127)
-
--- a read shows nothing where its target is no node-ID, or else where no version is given
-abbrev pub IsReadCause : ℕ → ReadFault → Type 0
-IsReadCause target read.BadTarget = IsTarget target → ⊥
-IsReadCause target read.NoVersion = IsTarget target

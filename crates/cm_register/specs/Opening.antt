@@ -1,9 +1,8 @@
--- When a register is opened, and what its seats are then (own).
-use Rattle.std.specs.Prelude.{◌≡◌, ◌+◌, ◌≤◌, ℕ, zero, suc, List, [], ◌∷◌, ◌++◌}
+-- When a register is opened (own).
+use Rattle.std.specs.Prelude.{◌≡◌, ◌≤◌, ℕ, List, []}
 use Rattle.cm_nmt.specs.declared.frame.Frame.{Frame}
 use Rattle.cm_register.specs.declared.fault.OpenFault.{OpenFault}
 use Rattle.cm_register.specs.declared.fault.OpenFault.TheVariants as fault
-use Rattle.cm_register.specs.Views.{SeatView}
 
 -- there are 1 to 64 seats
 abbrev pub SeatsFit : ℕ → Type 0
@@ -30,12 +29,3 @@ abbrev pub IsNameCause : OpenFault → Type 0
 IsNameCause fault.OutOfMemory = Unit {0}
 IsNameCause fault.NoReader = Unit {0}
 IsNameCause _ = ⊥
-
--- the seat of this number, which has made no call, and has seen and was told nothing
-abbrev pub fresh_seat : ℕ → SeatView
-fresh_seat n = record { number = n; list = []; amount = 0; view = []; told = [] }
-
--- the seats 1 to n in order, which have made no call
-abbrev pub fresh_seats : ℕ → List SeatView
-fresh_seats zero = []
-fresh_seats (suc n) = fresh_seats n ++ fresh_seat (n + 1) ∷ []

@@ -1,25 +1,19 @@
 ghost use Rattle.std.specs.Prelude.{◌≡◌, ◌≤◌, length, map, vec_capacity, vec_len, IfOk, IfErr};
-ghost use Rattle.cm_register.specs.Closing.{IsBookCause, IsClosed, MayClose, calls_by, calls_in, count_calls};
+ghost use Rattle.cm_seat.specs.Handing.{calls_by, calls_in, count_calls};
+ghost use Rattle.cm_register.specs.BookInvariant.{MayClose};
+ghost use Rattle.cm_register.specs.Closing.{IsCloseCause, IsClosed, close_number};
 
 use crate::book::Book;
-use crate::compare::{are_apart, are_known, have_their_calls};
-use crate::run_name::RunName;
-use crate::seat::{Made, Seat};
+use crate::seat::Seat;
 use cm_history::Entry;
 use cm_nmt::Wire;
+use cm_seat::{RunName, SeatList, are_apart, are_known};
 use cm_sequential::Manager;
 use cm_versions::{Operation, Version};
 use left_right::Absorb;
 use std::sync::Wait;
 use std::sync::ledger::Share;
 use thiserror::Error;
-
-/// The calls of one seat, once the register is closed.
-#[derive(Drop)]
-pub struct SeatList {
-    pub number: u16,
-    pub made: Vec<Made>,
-}
 
 /// What a closed register leaves: the history of all calls, the calls of each seat in the order in
 /// which the seats were handed in, the wire, and the manager.
@@ -37,13 +31,27 @@ pub enum CloseKind {
     /// So many of the register's seats weren't handed in.
     #[error("{0} seats are missing")]
     SeatsMissing(u16),
-    /// A seat's list isn't its entries, or a number comes twice.
-    #[error("a seat's list isn't its entries")]
+    /// A seat's number comes twice. This never comes, since a register has one seat of each number,
+    /// though no clause says so.
+    #[error("a seat comes twice")]
     SeatDiffers,
     /// What a seat saw, or was told, isn't found to be of the history. It is tested before
     /// [`CloseKind::SeatDiffers`], and never comes, though no clause says so.
     #[error("a seat knows of another history")]
     NoVersion,
+}
+
+impl CloseKind {
+    /// The number of the fault: 1 seats are missing, 2 a seat comes twice, 3 another history is known.
+    pub fn number(&self) -> u8
+        ensures { result ≡ close_number self.now }
+    {
+        match self {
+            CloseKind::SeatsMissing(_) => 1,
+            CloseKind::SeatDiffers => 2,
+            CloseKind::NoVersion => 3,
+        }
+    }
 }
 
 /// Why a book isn't closed, with the book and the seats, which go on working.
@@ -71,17 +79,7 @@ fn gather<K: RunName>(
         × (rest.new.amount ≡ count_calls seats.items) }
 {
     for seat in seats {
-        let Seat {
-            number,
-            list,
-            share,
-            reader: _,
-            known: _,
-            viewed: _,
-            called: _,
-        } = seat;
-        rest.merge(share);
-        lists.push_reserved(SeatList { number, made: list });
+        lists.push_reserved(seat.end(rest));
     }
     lists
 }
@@ -90,7 +88,7 @@ impl<'n, W: Wire, K: RunName, R: Wait + Drop> Book<'n, W, K, R> {
     /// Why this book can't be closed with these seats, if anything is in the way.
     fn close_cause(&self, seats: &[Seat<K>]) -> Result<(), CloseKind>
         ensures may { IfOk result (λ u. MayClose self.now.history K.seats seats.now) }
-        ensures fault { IfErr result (IsBookCause self.now.history K.seats seats.now) }
+        ensures fault { IfErr result (IsCloseCause K.seats seats.now) }
     {
         let given = seats.len();
         let wanted = usize::from(self.seats);
@@ -100,7 +98,7 @@ impl<'n, W: Wire, K: RunName, R: Wait + Drop> Book<'n, W, K, R> {
         if !are_known(&self.versions.published().past(), seats) {
             return Err(CloseKind::NoVersion);
         }
-        if !have_their_calls(self.history.as_slice(), seats) || !are_apart(seats) {
+        if !are_apart(seats) {
             return Err(CloseKind::SeatDiffers);
         }
         Ok(())
@@ -136,13 +134,13 @@ impl<'n, W: Wire, K: RunName, R: Wait + Drop> Book<'n, W, K, R> {
     }
 
     /// Closes the book of one thread, as [`crate::Register::close`] closes that of several. It is
-    /// refused just where a seat is missing, where the list of one isn't its calls in the history,
-    /// where a number comes twice, and where what a seat knows isn't found to be of the history.
+    /// refused just where a seat is missing, where what a seat knows isn't found to be of the history,
+    /// and where a number comes twice.
     pub fn close(self, seats: Vec<Seat<K>>) -> Result<Closed<W>, BookFault<'n, W, K, R>>
         ensures history { IfOk result (λ c. c.history.items ≡ self.entry.history) }
         ensures closed { IfOk result (IsClosed W.sent K.net K.seats K.limit seats.items) }
         ensures fault { IfErr result
-            (λ f. IsBookCause self.entry.history K.seats seats.items f.kind) }
+            (λ f. IsCloseCause K.seats seats.items f.kind) }
         ensures back { IfErr result
             (λ f. (f.book ≡ self.entry) × (f.seats.items ≡ seats.items)) }
     {

@@ -4,25 +4,23 @@
 //!
 //! [`Register::open`] takes the network list, how many seats and entries there are to be, and a
 //! [`Wire`] for the frames; [`Opened::named`] gives the register and its seats; each thread makes its
-//! calls by [`Register::call`] with a seat of its own, and reads states by [`Seat::read`], without the
+//! calls by [`Register::call`] with a seat of its own, and reads states by [`cm_seat::Seat::read`], without the
 //! lock and without waiting; [`Register::close`] takes all seats back and gives the history, the seats'
 //! lists, the wire and the manager. [`Book`] is the same for one thread.
 #![tactic(auto)]
 
 mod book;
 mod closing;
-mod compare;
 mod fault;
 mod opened;
 mod register;
-mod run_name;
 mod seat;
 
 pub use book::Book;
-pub use closing::{BookFault, CloseKind, Closed, SeatList};
+pub use closing::{BookFault, CloseKind, Closed};
 pub use cm_nmt::Wire;
-pub use fault::{CallFault, OpenFault, ReadFault};
+pub use cm_seat::{CallFault, Made, ReadFault, Receipt, RunName, SeatList, Seen, SharedManager};
+pub use fault::OpenFault;
 pub use opened::Opened;
 pub use register::{CloseFault, Register};
-pub use run_name::RunName;
-pub use seat::{Made, Receipt, Seat, Seen};
+pub use seat::{Seat, SeatReader};

@@ -1,17 +1,17 @@
 ghost use Rattle.std.specs.Prelude.{◌≡◌, ◌<◌, ◌≤◌, [], vec_capacity, vec_len, IfOk, IfErr};
-ghost use Rattle.cm_register.specs.Opening.{IsNameCause, fresh_seats};
+ghost use Rattle.cm_seat.specs.Opening.{fresh_seats};
+ghost use Rattle.cm_register.specs.Opening.{IsNameCause};
 ghost use Rattle.left_right.specs.Handles.{published};
 
 use crate::book::Book;
-use crate::closing::SeatList;
 use crate::fault::OpenFault;
 use crate::register::Register;
-use crate::run_name::RunName;
 use crate::seat::Seat;
 use cm_history::Entry;
 use cm_netlist::Network;
 use cm_nmt::Wire;
 use cm_past::UnnamedLog;
+use cm_seat::{RunName, SeatList};
 use cm_versions::{Versions, new_reader, open_versions};
 use std::alloc::Global;
 use std::marker::Brand;

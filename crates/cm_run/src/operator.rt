@@ -1,8 +1,9 @@
 ghost use Rattle.std.specs.Prelude.{◌≡◌, ◌≤◌, length, take, vec_len, IfOk, IfErr};
+ghost use Rattle.cm_seat.specs.Reads.{HasMadeCalls};
 ghost use Rattle.cm_run.specs.Operating.{HasGrown, HasSome};
 
 use cm_history::Call;
-use cm_register::{CallFault, Receipt, Register, RunName, Seat, Wire};
+use cm_seat::{CallFault, HistoryReader, Receipt, RunName, Seat, SharedManager};
 use std::alloc::Global;
 use std::sync::Wait;
 
@@ -15,14 +16,15 @@ pub struct OperateFault {
 
 /// Makes the calls in order, up to the first that isn't made; a refusal of the manager is a reply like
 /// any other. Room for the receipts is taken first: where it is refused, no call was made.
-pub fn operate<'n, W: Wire, K: RunName, R: Wait + Drop>(
+pub fn operate<K: RunName, E: HistoryReader<K>, R: Wait, M: SharedManager<K, E, R>>(
     rt: &R,
     alloc: Global,
-    register: &Register<'n, W, K, R>,
-    seat: &mut Seat<K>,
+    register: &M,
+    seat: &mut Seat<K, E>,
     calls: &[Call],
 ) -> Result<Vec<Receipt>, OperateFault>
     ensures number { seat.new.number ≡ seat.old.number }
+    ensures calls { HasMadeCalls seat.old seat.new }
     ensures all { IfOk result (λ r. (vec_len r ≡ length calls.now)
         × HasGrown seat.old.list calls.now r.items seat.new.list) }
     ensures part { IfErr result (λ f. (f.done ≤ length calls.now)

@@ -1,22 +1,24 @@
 ghost use Rattle.std.specs.Prelude.{◌≡◌, ◌++◌, ◌<◌};
+ghost use Rattle.cm_seat.specs.Reads.{HasMadeCalls};
 ghost use Rattle.cm_run.specs.Rounds.{Gives, HasRound, calls_in, is_followed, last_of};
 
 use crate::outcome::{Attempt, Last, Outcome};
 use cm_boot::{Bus, boot_slave};
 use cm_history::{Call, Refusal, Reply};
 use cm_nmt::{NodeId, Status};
-use cm_register::{Register, RunName, Seat, Wire};
+use cm_seat::{HistoryReader, RunName, Seat, SharedManager};
 use std::sync::Wait;
 
 /// One attempt to boot a slave: the begin, the boot over the bus, the report.
-fn attempt<'n, W: Wire, K: RunName, R: Wait + Drop, B: Bus>(
+fn attempt<K: RunName, E: HistoryReader<K>, R: Wait, M: SharedManager<K, E, R>, B: Bus>(
     rt: &R,
-    register: &Register<'n, W, K, R>,
-    seat: &mut Seat<K>,
+    register: &M,
+    seat: &mut Seat<K, E>,
     bus: &mut B,
     id: NodeId,
 ) -> Attempt
     ensures number { seat.new.number ≡ seat.old.number }
+    ensures calls { HasMadeCalls seat.old seat.new }
     ensures list { seat.new.list ≡ seat.old.list ++ calls_in id result }
     ensures gives { Gives B.step K.net id bus.old result bus.new }
 {
@@ -65,16 +67,17 @@ fn is_followed(attempt: &Attempt) -> bool
 }
 
 /// The attempts at one slave, `most` at most.
-pub fn round<'n, W: Wire, K: RunName, R: Wait + Drop, B: Bus>(
+pub fn round<K: RunName, E: HistoryReader<K>, R: Wait, M: SharedManager<K, E, R>, B: Bus>(
     rt: &R,
-    register: &Register<'n, W, K, R>,
-    seat: &mut Seat<K>,
+    register: &M,
+    seat: &mut Seat<K, E>,
     bus: &mut B,
     id: NodeId,
     most: u8,
 ) -> Outcome
     requires { 0 < most }
     ensures number { seat.new.number ≡ seat.old.number }
+    ensures calls { HasMadeCalls seat.old seat.new }
     ensures round { HasRound B.step K.net id most result seat.old.list seat.new.list bus.old
         bus.new }
 {

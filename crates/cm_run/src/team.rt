@@ -5,7 +5,7 @@ ghost use Rattle.cm_run.specs.Jobs.{AllDone, AllDoneOrStopped, IsDoneIfRun};
 use crate::jobs::{Job, Plan};
 use crate::working::work;
 use cm_boot::Bus;
-use cm_register::{Register, RunName, Wire};
+use cm_seat::{HistoryReader, RunName, SharedManager};
 use std::snapshot::Snapshot;
 use std::sync::Wait;
 use std::sync::atomic::{AtomicUsize, Ordering};
@@ -14,34 +14,34 @@ use std::thread::{Promise, PromisedHandle, Scope, Threads};
 
 /// A job that comes back, and whether it was run.
 #[derive(Drop)]
-struct Back<B: Bus, K: RunName> {
-    job: Job<B, K>,
+struct Back<B: Bus, K: RunName, E: HistoryReader<K>> {
+    job: Job<B, K, E>,
     was_run: bool,
 }
 
 /// What a worker's thread is given, by which is known what it hands back.
 #[derive(Drop)]
-struct Given<B: Bus, K: RunName> {
+struct Given<B: Bus, K: RunName, E: HistoryReader<K>> {
     plan: Plan,
     worker: usize,
-    job: Snapshot<Job<B, K>>,
+    job: Snapshot<Job<B, K, E>>,
 }
 
-impl<B: Bus, K: RunName> Promise<Back<B, K>> for Given<B, K> {
+impl<B: Bus, K: RunName, E: HistoryReader<K>> Promise<Back<B, K, E>> for Given<B, K, E> {
     ghost use Rattle.cm_run.specs.Jobs.{IsDoneIfRun};
 
     ghost kept_by = { λ g r. IsDoneIfRun g.plan g.worker g.job.value r.was_run r.job };
 }
 
 /// Runs the job, unless it was this worker's thread that was refused.
-fn run_unless_refused<'n, W: Wire, K: RunName, R: Wait + Drop, B: Bus>(
+fn run_unless_refused<K: RunName, E: HistoryReader<K>, R: Wait, M: SharedManager<K, E, R>, B: Bus>(
     rt: &R,
-    register: &Register<'n, W, K, R>,
+    register: &M,
     plan: Plan,
     refused: &AtomicUsize,
     worker: usize,
-    job: Job<B, K>,
-) -> Back<B, K>
+    job: Job<B, K, E>,
+) -> Back<B, K, E>
     ensures { IsDoneIfRun plan worker job result.was_run result.job }
 {
     if refused.load(Ordering::SeqCst) == worker {
@@ -59,21 +59,21 @@ fn run_unless_refused<'n, W: Wire, K: RunName, R: Wait + Drop, B: Bus>(
 /// Starts a worker's thread. Where it is refused, the job comes back at once.
 fn start<
     's,
-    'n,
-    E,
-    W: Wire + Send,
+    V,
     K: RunName + Send + Sync + 's,
-    R: Wait + Threads + Drop + Send + Sync,
+    E: HistoryReader<K> + Send + 's,
+    R: Wait + Threads + Send + Sync,
+    M: SharedManager<K, E, R> + Sync,
     B: Bus + Send + 's,
 >(
-    scope: &Scope<'s, E>,
+    scope: &Scope<'s, V>,
     rt: &'s R,
-    register: &'s Register<'n, W, K, R>,
+    register: &'s M,
     plan: Plan,
     refused: &'s AtomicUsize,
     worker: usize,
-    job: Job<B, K>,
-) -> Result<PromisedHandle<Back<B, K>, Given<B, K>>, Back<B, K>>
+    job: Job<B, K, E>,
+) -> Result<PromisedHandle<Back<B, K, E>, Given<B, K, E>>, Back<B, K, E>>
     ensures plan { IfOk result (λ h. (h.promise.plan ≡ plan) × (h.promise.worker ≡ worker)) }
     ensures job { IfOk result (λ h. h.promise.job.value ≡ job) }
     ensures back { IfErr result (λ r. IsDoneIfRun plan worker job r.was_run r.job) }
@@ -100,19 +100,19 @@ fn start<
 /// that would follow aren't started, and the others finish.
 fn run_first<
     's,
-    'n,
-    E,
-    W: Wire + Send,
+    V,
     K: RunName + Send + Sync + 's,
-    R: Wait + Threads + Drop + Send + Sync,
+    E: HistoryReader<K> + Send + 's,
+    R: Wait + Threads + Send + Sync,
+    M: SharedManager<K, E, R> + Sync,
     B: Bus + Send + 's,
 >(
-    scope: &Scope<'s, E>,
+    scope: &Scope<'s, V>,
     rt: &'s R,
-    register: &'s Register<'n, W, K, R>,
+    register: &'s M,
     plan: Plan,
     refused: &'s AtomicUsize,
-    jobs: &mut Vec<Job<B, K>>,
+    jobs: &mut Vec<Job<B, K, E>>,
 ) -> bool
     ensures len { vec_len jobs.new ≡ vec_len jobs.old }
     ensures capacity { vec_capacity jobs.new ≡ vec_capacity jobs.old }
@@ -140,17 +140,17 @@ fn run_first<
 
 /// Runs all jobs, each in a thread of its own. `Err` where a thread was refused.
 pub(crate) fn run_jobs<
-    'n,
-    W: Wire + Send,
     K: RunName + Send + Sync,
-    R: Wait + Threads + Drop + Send + Sync,
+    E: HistoryReader<K> + Send,
+    R: Wait + Threads + Send + Sync,
+    M: SharedManager<K, E, R> + Sync,
     B: Bus + Send,
 >(
     rt: &R,
-    register: &Register<'n, W, K, R>,
+    register: &M,
     plan: Plan,
-    jobs: Vec<Job<B, K>>,
-) -> Result<Vec<Job<B, K>>, Vec<Job<B, K>>>
+    jobs: Vec<Job<B, K, E>>,
+) -> Result<Vec<Job<B, K, E>>, Vec<Job<B, K, E>>>
     ensures done_len { IfOk result (λ v. vec_len v ≡ vec_len jobs) }
     ensures done { IfOk result (λ v. AllDone plan jobs.items v.items) }
     ensures stopped_len { IfErr result (λ v. vec_len v ≡ vec_len jobs) }
@@ -161,7 +161,7 @@ pub(crate) fn run_jobs<
     thread::scope(
         thread::scope_env(),
         rt,
-        |scope| -> Result<Vec<Job<B, K>>, Vec<Job<B, K>>>
+        |scope| -> Result<Vec<Job<B, K, E>>, Vec<Job<B, K, E>>>
             ensures done_len { IfOk result (λ v. vec_len v ≡ vec_len jobs) }
             ensures done { IfOk result (λ v. AllDone plan jobs.items v.items) }
             ensures stopped_len { IfErr result (λ v. vec_len v ≡ vec_len jobs) }

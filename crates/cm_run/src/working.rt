@@ -1,6 +1,7 @@
 //! The work of one worker.
 ghost use Rattle.std.specs.Prelude.{◌≡◌, ◌≤◌, length, map, vec_capacity, vec_len};
 ghost use Rattle.cm_netlist.specs.Network.{listed_ids};
+ghost use Rattle.cm_seat.specs.Reads.{HasMadeCalls};
 ghost use Rattle.cm_run.specs.Rounds.{HasRounds};
 ghost use Rattle.cm_run.specs.Jobs.{IsDone};
 ghost use Rattle.cm_run.specs.Running.{id_of};
@@ -10,16 +11,16 @@ use crate::jobs::{Job, Plan};
 use crate::outcome::Outcome;
 use crate::rounds::round;
 use cm_boot::Bus;
-use cm_register::{Register, RunName, Seat, Wire};
+use cm_seat::{HistoryReader, RunName, Seat, SharedManager};
 use std::sync::Wait;
 
 /// The rounds of the worker's slaves, in order.
-fn make_rounds<'n, W: Wire, K: RunName, R: Wait + Drop, B: Bus>(
+fn make_rounds<K: RunName, E: HistoryReader<K>, R: Wait, M: SharedManager<K, E, R>, B: Bus>(
     rt: &R,
-    register: &Register<'n, W, K, R>,
+    register: &M,
     plan: Plan,
     worker: usize,
-    seat: &mut Seat<K>,
+    seat: &mut Seat<K, E>,
     bus: &mut B,
     outcomes: &mut Vec<Outcome>,
 )
@@ -27,6 +28,7 @@ fn make_rounds<'n, W: Wire, K: RunName, R: Wait + Drop, B: Bus>(
     requires room { length (listed_ids K.net) ≤ vec_capacity outcomes.old }
     ensures slaves { map id_of outcomes.new.items ≡ share plan.workers worker (listed_ids K.net) }
     ensures number { seat.new.number ≡ seat.old.number }
+    ensures calls { HasMadeCalls seat.old seat.new }
     ensures rounds { HasRounds B.step K.net plan.attempts outcomes.new.items seat.old.list
         seat.new.list bus.old bus.new }
     ensures capacity { vec_capacity outcomes.new ≡ vec_capacity outcomes.old }
@@ -42,13 +44,13 @@ fn make_rounds<'n, W: Wire, K: RunName, R: Wait + Drop, B: Bus>(
 }
 
 /// Boots the slaves of a worker, with its job.
-pub(crate) fn work<'n, W: Wire, K: RunName, R: Wait + Drop, B: Bus>(
+pub(crate) fn work<K: RunName, E: HistoryReader<K>, R: Wait, M: SharedManager<K, E, R>, B: Bus>(
     rt: &R,
-    register: &Register<'n, W, K, R>,
+    register: &M,
     plan: Plan,
     worker: usize,
-    job: Job<B, K>,
-) -> Job<B, K>
+    job: Job<B, K, E>,
+) -> Job<B, K, E>
     ensures { IsDone plan worker job result }
 {
     let Job {

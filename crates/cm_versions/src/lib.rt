@@ -14,6 +14,6 @@ mod version;
 mod versions;
 
 pub use operation::Operation;
-pub use reader::{Look, Reader};
+pub use reader::Reader;
 pub use version::Version;
 pub use versions::{Versions, add_call, new_reader, open_versions};

@@ -6,7 +6,7 @@ ghost use Rattle.cm_register.specs.Naming.{Names};
 use crate::support::{agreeing, close, is_made, network, node, open, sure};
 use cm_history::{Call, Reply};
 use cm_nmt::Status;
-use cm_register::{CallFault, Closed, Opened, Register, RunName, Seat};
+use cm_register::{CallFault, Closed, Opened, Register, RunName, Seat, SeatReader};
 use cm_run::{Booted, Last, Outcome, RunFault, RunKind, boot_all};
 use cm_simulated::{SimBus, SimWire};
 use std::alloc::Global;
@@ -109,7 +109,7 @@ fn is_booted_or_lacks_memory(outcome: &Outcome) -> bool {
 /// every worker was started, and gives the seats back.
 fn seats_of<K: RunName>(
     rt: &impl Abort,
-    booted: Result<Booted<SimBus, K>, RunFault<SimBus, K>>,
+    booted: Result<Booted<SimBus, K, SeatReader<K>>, RunFault<SimBus, K, SeatReader<K>>>,
 ) -> Vec<Seat<K>> {
     match booted {
         Ok(booted) => {

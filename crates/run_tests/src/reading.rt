@@ -4,7 +4,7 @@ ghost use Rattle.cm_register.specs.Naming.{Names};
 
 use crate::support::{agreeing, close, is_made, network, open, sure};
 use cm_history::{Call, Reply};
-use cm_register::{Opened, Register, RunName, Seat, Seen};
+use cm_register::{Opened, Register, RunName, Seat, SeatReader, Seen};
 use cm_run::{Booted, boot_all};
 use cm_simulated::{SimBus, SimWire};
 use std::alloc::Global;
@@ -42,7 +42,7 @@ fn boots_beside<K: RunName + Send + Sync, R: Wait + Threads + Abort + Drop + Sen
     seats: Vec<Seat<K>>,
     buses: Vec<SimBus>,
     reader: &mut Seat<K>,
-) -> Result<Booted<SimBus, K>, Fail> {
+) -> Result<Booted<SimBus, K, SeatReader<K>>, Fail> {
     thread::scope(thread::scope_env(), rt, |scope| {
         let Ok(boot) = scope.spawn(move || boot_all(rt, alloc, register, seats, buses, 2)) else {
             return Err(Fail::from("thread"));

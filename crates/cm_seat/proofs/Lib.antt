@@ -1,0 +1,4 @@
+pub mod SeatCalls
+pub mod Knowing
+pub mod MadeCalls
+pub mod Closing

@@ -1,0 +1,7 @@
+pub mod SeatCalls
+pub mod Views
+pub mod Causes
+pub mod Reads
+pub mod Knowing
+pub mod Opening
+pub mod Handing

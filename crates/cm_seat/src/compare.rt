@@ -1,0 +1,46 @@
+//! What is compared where a register closes: the seats' numbers, and what the seats know with the
+//! history.
+ghost use Rattle.std.specs.Prelude.{◌↔◌, IsTrue};
+ghost use Rattle.cm_seat.specs.Handing.{AreApart};
+ghost use Rattle.cm_seat.specs.Knowing.{AllHaveCallsOf};
+ghost use Rattle.cm_seat.specs.Reads.{AllKnown, IsKnown};
+ghost use Rattle.cm_seat.specs.SeatCalls.{HasCallsOf};
+
+use crate::run_name::RunName;
+use crate::seat::Seat;
+use cm_past::{HistoryReader, Past};
+
+/// Whether no number comes twice.
+pub fn are_apart<K: RunName, E: HistoryReader<K>>(seats: &[Seat<K, E>]) -> bool
+    ensures { IsTrue result ↔ AreApart seats.now }
+{
+    match seats {
+        [] => true,
+        [first, rest @ ..] => {
+            let number = first.number();
+            rest.iter().all(|seat| seat.number() != number) && are_apart(rest)
+        }
+    }
+}
+
+/// Whether the history has what the seat knows as its beginning.
+fn is_known<K: RunName, E: HistoryReader<K>>(history: &Past<K>, seat: &Seat<K, E>) -> bool
+    ensures known { IsTrue result → IsKnown history.now seat.now }
+    ensures calls { IsTrue result → HasCallsOf history.now seat.now }
+{
+    history.longer(seat.known()).len() <= history.len()
+}
+
+/// Whether it has what each seat knows, and so the calls that each made.
+pub fn are_known<K: RunName, E: HistoryReader<K>>(
+    history: &Past<K>,
+    seats: &[Seat<K, E>],
+) -> bool
+    ensures known { IsTrue result → AllKnown history.now seats.now }
+    ensures calls { IsTrue result → AllHaveCallsOf history.now seats.now }
+{
+    match seats {
+        [] => true,
+        [first, rest @ ..] => is_known(history, first) && are_known(history, rest),
+    }
+}

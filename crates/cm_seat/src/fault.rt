@@ -1,0 +1,33 @@
+use thiserror::Error;
+
+/// Why a call isn't made. Nothing has changed, and the call is in no history. They are tested in
+/// this order: OutOfMemory of the seat's list, SeatStale, JournalFull, WireFull, OutOfMemory of what
+/// is shown to readers.
+#[derive(Clone, Copy, Debug, PartialEq, Eq, Error)]
+pub enum CallFault {
+    /// Memory for the seat's list, or for what is shown to readers, was refused; the call may be made
+    /// again.
+    #[error("out of memory")]
+    OutOfMemory = 1,
+    /// The history has as many entries as are allowed: no call is made any more.
+    #[error("the journal is full")]
+    JournalFull,
+    /// The wire has no room for the frames of the call.
+    #[error("the wire is full")]
+    WireFull,
+    /// The seat's list has another length than its entries in the history.
+    #[error("the seat is stale")]
+    SeatStale,
+}
+
+/// Why a read shows nothing. What the seat saw, and was told, stays as it was.
+#[derive(Clone, Copy, Debug, PartialEq, Eq, Error)]
+pub enum ReadFault {
+    /// The target isn't 1 to 127.
+    #[error("not a node-ID")]
+    BadTarget = 1,
+    /// The seat is given no version, or one that is shorter than what it knows. This never comes
+    /// while the register is there, though no clause says so.
+    #[error("no version to read")]
+    NoVersion,
+}
