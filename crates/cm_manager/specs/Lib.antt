@@ -12,7 +12,7 @@ pub use Rattle.cm_history.specs.Legal
 pub use Rattle.cm_history.specs.OrderFrames
 pub use Rattle.cm_sequential.specs.Standing
 pub use Rattle.cm_history.specs.Laws
-pub use Rattle.cm_replay.specs.Compact
+pub use Rattle.cm_sequential.specs.Compact
 pub use Rattle.cm_format.specs.Text
 pub use Rattle.cm_format.specs.Fits
 pub use Rattle.cm_format.specs.Journals

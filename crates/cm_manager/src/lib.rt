@@ -8,8 +8,7 @@
 //! | cm_netlist    | the network list, from TOML               | `Network`, `SlaveEntry`, `NetFault`    |
 //! | cm_boot       | the boot of one slave, and its status     | `Bus`, `boot_slave`, `Boot`, `judge`   |
 //! | cm_history    | calls, replies, orders; laws of histories | `Call`, `Reply`, `Orders`, `Entry`     |
-//! | cm_sequential | the sequential manager, its frames        | `Manager`, `frames`                    |
-//! | cm_replay     | histories replayed: which are legal       | `replay`, `CompactReplay`              |
+//! | cm_sequential | the sequential manager; legal histories   | `Manager`, `frames`, `replay`          |
 //! | cm_format     | what a journal's text is, and its faults  | `JournalFault`                         |
 //! | cm_writer     | journal and report written                | `journal_write`, `report`              |
 //! | cm_journal    | a journal read                            | `Journal`, `journal_read`              |
@@ -42,7 +41,7 @@ pub use cm_register::{
     ReadFault as SeatReadFault, Receipt, Register, RunName, Seat, SeatList, SeatReader, Seen,
     SharedManager,
 };
-pub use cm_replay::{Cause, CompactReplay, Untaken, replay, replay_to_fault};
+pub use cm_sequential::{Cause, CompactReplay, Untaken, replay, replay_to_fault};
 pub use cm_past::HistoryReader;
 pub use cm_run::{
     Booted, Last, OperateFault, Outcome, RunFault, RunKind, SimBus, SimSlave, SimWire, boot_all,

@@ -4,3 +4,5 @@ pub mod Changes
 pub mod Going
 pub mod Standing
 pub mod Granting
+pub mod Replays
+mod CompactReplays

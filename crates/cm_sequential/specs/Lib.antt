@@ -2,3 +2,4 @@ pub mod Listed
 pub mod States
 pub mod Changes
 pub mod Standing
+pub mod Compact

@@ -1,13 +1,13 @@
 //! What a journal can't show of the sequential manager and of the replay.
 
-ghost use Rattle.cm_replay.specs.Compact.{IsReplayOfSome};
+ghost use Rattle.cm_sequential.specs.Compact.{IsReplayOfSome};
 
 use crate::support::{node, sure, terms_of};
 use arrayvec::ArrayVec;
 use cm_history::{Call, Entry, Orders, Phase, Reply, abort_code};
 use cm_netlist::{Network, SlaveEntry};
 use cm_nmt::{Answers, Frame, Got, NmtState, NodeId, Startup, Status};
-use cm_replay::{Cause, CompactReplay, Untaken, replay, replay_to_fault};
+use cm_sequential::{Cause, CompactReplay, Untaken, replay, replay_to_fault};
 use cm_sequential::{Manager, frames};
 use std::alloc::Global;
 use std::process::Abort;

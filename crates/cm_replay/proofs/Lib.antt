@@ -1,2 +1,0 @@
-pub mod Replays
-mod CompactReplays
