@@ -36,16 +36,15 @@ pub use cm_nmt::{
     Answers, Assignment, Command, Frame, Got, Heard, NmtState, NodeId, Signal, Startup, Status,
     Target, Terms, Wire, Write,
 };
+pub use cm_past::HistoryReader;
 pub use cm_register::{
     Book, BookFault, CallFault, CloseFault, CloseKind, Closed, Made, OpenFault, Opened,
     ReadFault as SeatReadFault, Receipt, Register, RunName, Seat, SeatList, SeatReader, Seen,
     SharedManager,
 };
-pub use cm_sequential::{Cause, CompactReplay, Untaken, replay, replay_to_fault};
-pub use cm_past::HistoryReader;
 pub use cm_run::{
     Booted, Last, OperateFault, Outcome, RunFault, RunKind, SimBus, SimSlave, SimWire, boot_all,
     operate, round,
 };
-pub use cm_sequential::{Manager, frames};
+pub use cm_sequential::{Cause, CompactReplay, Manager, Untaken, frames, replay, replay_to_fault};
 pub use cm_writer::{journal_write, replay_report, report};

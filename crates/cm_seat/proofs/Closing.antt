@@ -13,12 +13,12 @@ use Rattle.cm_seat.specs.Views.{SeatView}
 use Rattle.cm_seat.proofs.SeatCalls.{made_by}
 
 -- how many calls of these seats the history has, which stands behind n entries
-counts : ℕ → List Entry → List SeatView → ℕ
+abbrev counts : ℕ → List Entry → List SeatView → ℕ
 counts n h [] = 0
 counts n h (s ∷ ss) = length (calls_behind s.number n h) + counts n h ss
 
 -- how many of these seats have this number
-hits : ℕ → List SeatView → ℕ
+abbrev hits : ℕ → List SeatView → ℕ
 hits k [] = 0
 hits k (s ∷ ss) = (if k == s.number then 1 else 0) + hits k ss
 
@@ -34,20 +34,20 @@ no_hits : (k : ℕ) (ss : List SeatView) → All (λ (t : SeatView). t.number �
 no_hits k [] a = refl
 no_hits k (s ∷ ss) a =
     let other : (k == s.number) ≡ false = ne_eqb k s.number (λ e. All-head (λ (t : SeatView). t.number ≢ k) s ss a (sym e)) in
-    omega (arith, ap (λ (b : Bool). if b then 1 else 0) other, no_hits k ss (All-tail (λ (t : SeatView). t.number ≢ k) s ss a))
+    omega (arith, ap {B = ℕ} (λ (b : Bool). if b then 1 else 0) other, no_hits k ss (All-tail (λ (t : SeatView). t.number ≢ k) s ss a))
 
 few_hits : (k : ℕ) (ss : List SeatView) → AreApart ss → hits k ss ≤ 1
 few_hits k [] a = omega arith
 few_hits k (s ∷ ss) a = elim (cases_eq k s.number) [
   | inl same ↦
-    let none = no_hits k ss (subst (λ (n : ℕ). All (λ (t : SeatView). t.number ≢ n) ss) (sym same) a.0) in
-    omega (arith, ap (λ (b : Bool). if b then 1 else 0) (eq-eqb k s.number same), none)
-  | inr other ↦ omega (arith, ap (λ (b : Bool). if b then 1 else 0) (ne_eqb k s.number other), few_hits k ss a.1)
+      let none = no_hits k ss (subst (λ (n : ℕ). All (λ (t : SeatView). t.number ≢ n) ss) (sym same) a.0) in
+      omega (arith, ap {B = ℕ} (λ (b : Bool). if b then 1 else 0) (eq-eqb k s.number same), none)
+  | inr other ↦ omega (arith, ap {B = ℕ} (λ (b : Bool). if b then 1 else 0) (ne_eqb k s.number other), few_hits k ss a.1)
 ]
 
 no_counts : (n : ℕ) (ss : List SeatView) → counts n [] ss ≡ 0
 no_counts n [] = refl
-no_counts n (s ∷ ss) = no_counts n ss
+no_counts n (s ∷ ss) = omega (arith, no_counts n ss)
 
 few_counts : (n : ℕ) (h : List Entry) (ss : List SeatView) → AreApart ss → counts n h ss ≤ length h
 few_counts n [] ss a = omega (arith, no_counts n ss)

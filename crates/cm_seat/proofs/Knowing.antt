@@ -18,33 +18,7 @@ use Rattle.cm_seat.specs.Views.{SeatView}
 use Rattle.cm_seat.specs.declared.made.Made.{Made}
 use Rattle.cm_seat.specs.declared.made.Receipt.{Receipt}
 use Rattle.cm_seat.proofs.SeatCalls.{calls_longer, calls_next, calls_up_to}
-
-pub take_prefix : {A : Type 0} (n : ℕ) (xs : List A) → IsPrefix (take n xs) xs
-take_prefix n xs = (drop n xs, take-append-drop n xs)
-
--- the first entries of a beginning are those of the whole
-take_same : {A : Type 0} (n : ℕ) (xs ys : List A) → IsPrefix xs ys → n ≤ length xs → take n ys ≡ take n xs
-take_same zero xs ys p le = refl
-take_same (suc n) [] ys p le = absurd (omega arith)
-take_same (suc n) (x ∷ xs) [] p le = absurd (cc (p.1))
-take_same (suc n) (x ∷ xs) (y ∷ ys) p le = let t = take_same n xs ys (p.0, cc (p.1)) (omega arith) in cc (p.1, t)
-
-pub take_whole : {A : Type 0} (xs : List A) → take (length xs) xs ≡ xs
-take_whole [] = refl
-take_whole (x ∷ xs) = ap (λ w. x ∷ w) (take_whole xs)
-
--- so many first entries as there are
-pub take_all : {A : Type 0} (xs : List A) (n : ℕ) → n ≡ length xs → take n xs ≡ xs
-take_all xs n is = ap (λ k. take k xs) is ∙ take_whole xs
-
-pub drop_whole : {A : Type 0} (xs : List A) → drop (length xs) xs ≡ []
-drop_whole [] = refl
-drop_whole (x ∷ xs) = drop_whole xs
-
-drop_append : {A : Type 0} (k : ℕ) (xs ys : List A) → k ≤ length xs → drop k (xs ++ ys) ≡ drop k xs ++ ys
-drop_append zero xs ys le = refl
-drop_append (suc k) [] ys le = absurd (omega arith)
-drop_append (suc k) (x ∷ xs) ys le = drop_append k xs ys (omega arith)
+use Rattle.cm_seat.proofs.Takes.{drop_append, take_begin, take_prefix, take_same, take_whole}
 
 -- ---- histories told
 
@@ -136,14 +110,14 @@ module _ (number : ℕ) (list : List Made) (known : List Entry) (viewed called :
   pub calls_latest : (capacity amount : ℕ) → HasCallsOf (latest (seat_view number list capacity amount known viewed called)) (seat_view number list capacity amount known viewed called)
   calls_latest capacity amount = elim (told_last (take viewed known) known (drop called list)) [
     | inl none ↦
-      let whole : take called list ≡ list = sym (append-nil (take called list)) ∙ (ap (λ w. take called list ++ w) (sym none) ∙ take-append-drop called list) in
-      let view : take viewed known ≡ last_told (take viewed known) (told_by known (drop called list)) = ap (λ w. last_told (take viewed known) (told_by known w)) (sym none) in
-      subst (λ (h : List Entry). IsPrefix list (calls_of h number)) view (subst (λ (w : List Made). IsPrefix w (calls_of (take viewed known) number)) whole k.shown)
+        let whole : take called list ≡ list = sym (append-nil (take called list)) ∙ (ap (λ w. take called list ++ w) (sym none) ∙ take-append-drop called list) in
+        let view : take viewed known ≡ last_told (take viewed known) (told_by known (drop called list)) = ap (λ w. last_told (take viewed known) (told_by known w)) (sym none) in
+        subst (λ (h : List Entry). IsPrefix list (calls_of h number)) view (subst (λ (w : List Made). IsPrefix w (calls_of (take viewed known) number)) whole k.shown)
     | inr some ↦
-      let front : List Made = take called list ++ some.front in
-      let whole : front ++ some.last ∷ [] ≡ list = append_assoc (take called list) some.front (some.last ∷ []) ∙ (ap (λ w. take called list ++ w) (sym some.all) ∙ take-append-drop called list) in
-      let calls = calls_up_to number known front some.last (subst (λ (w : List Made). IsPrefix w (calls_of known number)) (sym whole) k.calls) in
-      subst (λ (h : List Entry). IsPrefix list (calls_of h number)) (sym some.told) ([], append-nil list ∙ (sym whole ∙ sym calls))
+        let front : List Made = take called list ++ some.front in
+        let whole : front ++ some.last ∷ [] ≡ list = append_assoc (take called list) some.front (some.last ∷ []) ∙ (ap (λ w. take called list ++ w) (sym some.all) ∙ take-append-drop called list) in
+        let calls = calls_up_to number known front some.last (subst (λ (w : List Made). IsPrefix w (calls_of known number)) (sym whole) k.calls) in
+        subst (λ (h : List Entry). IsPrefix list (calls_of h number)) (sym some.told) ([], append-nil list ∙ (sym whole ∙ sym calls))
   ]
 
   module _ (h : List Entry) (p : IsPrefix known h) where
@@ -180,7 +154,7 @@ module _ (number : ℕ) (list : List Made) (known : List Entry) (viewed called :
       size = omega (arith, ap length next.longer, length-append next.before (e ∷ []))
 
       module _ (at : ℕ) (place : at ≡ length past) where
-        one : Made
+        abbrev pub one : Made
         one = made at e.call e.reply
 
         list_is : list ++ one ∷ [] ≡ calls_of (next.before ++ e ∷ []) number
@@ -203,8 +177,7 @@ module _ (number : ℕ) (list : List Made) (known : List Entry) (viewed called :
         pub told_call : (more room : ℕ) (receipt : Receipt) → receipt.position ≡ at → receipt.reply ≡ e.reply
             → IsToldOf (seat_view number list capacity amount known viewed called) (seat_view number (list ++ one ∷ []) room more h viewed called) e.call receipt
         told_call more room receipt where_is replied =
-            let last : take at h ≡ next.before ++ e ∷ [] =
-            ap (λ n. take n h) (place ∙ ap length next.longer) ∙ (take_same (length (next.before ++ e ∷ [])) (next.before ++ e ∷ []) h begin (omega arith) ∙ take_whole (next.before ++ e ∷ [])) in
+            let last : take at h ≡ next.before ++ e ∷ [] = take_begin (next.before ++ e ∷ []) h at begin (place ∙ ap length next.longer) in
             let given : e ≡ entry_with number receipt.reply e = ap (λ (s : ℕ). entry_with s e.reply e) next.its ∙ ap (λ (r : Reply). entry_with number r e) (sym replied) in
             let told : told_by h (drop called (list ++ one ∷ [])) ≡ told_by known (drop called list) ++ (next.before ++ e ∷ []) ∷ [] =
             ap (told_by h) (drop_append called list (one ∷ []) k.since) ∙ (told_append h (drop called list) one

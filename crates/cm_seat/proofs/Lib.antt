@@ -1,3 +1,4 @@
+pub mod Takes
 pub mod SeatCalls
 pub mod Knowing
 pub mod MadeCalls

@@ -32,10 +32,7 @@ fn is_known<K: RunName, E: HistoryReader<K>>(history: &Past<K>, seat: &Seat<K, E
 }
 
 /// Whether it has what each seat knows, and so the calls that each made.
-pub fn are_known<K: RunName, E: HistoryReader<K>>(
-    history: &Past<K>,
-    seats: &[Seat<K, E>],
-) -> bool
+pub fn are_known<K: RunName, E: HistoryReader<K>>(history: &Past<K>, seats: &[Seat<K, E>]) -> bool
     ensures known { IsTrue result → AllKnown history.now seats.now }
     ensures calls { IsTrue result → AllHaveCallsOf history.now seats.now }
 {

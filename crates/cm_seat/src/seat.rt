@@ -1,4 +1,4 @@
-ghost use Rattle.std.specs.Prelude.{◌≡◌, ◌<◌, ◌≤◌, ◌+◌, ◌++◌, ◌∷◌, [], length, reverse, vec_capacity, IfOk, IfErr, OnOk, OnErr, MatchOption};
+ghost use Rattle.std.specs.Prelude.{◌≡◌, ◌<◌, ◌≤◌, ◌+◌, ◌++◌, ◌∷◌, [], length, reverse, vec_capacity, vec_len, IfOk, IfErr, OnOk, OnErr, MatchOption};
 ghost use mathlib.Core.List.{IsPrefix};
 ghost use Rattle.cm_netlist.specs.Network.{listing};
 ghost use Rattle.cm_history.specs.History.{shown};
@@ -50,6 +50,21 @@ impl<K: RunName, E: HistoryReader<K>> Model for Seat<K, E> {
     ghost invariant = { λ s. (0 < s.number) × (s.number ≤ K.seats) × (s.number ≤ 64)
         × (s.share.parts ≡ 1) × (s.share.amount ≡ length s.list.items)
         × IsKnowing s.number s.list.items s.known s.viewed s.called };
+}
+
+/// Moves the list to the larger one, where there is one.
+fn take_room(list: &mut Vec<Made>, room: Option<Vec<Made>>)
+    requires { MatchOption room (vec_len list.old < vec_capacity list.old)
+        (λ larger. (vec_len larger ≡ 0) × (vec_len list.old < vec_capacity larger)) }
+    ensures items { list.new.items ≡ list.old.items }
+    ensures room { vec_len list.new < vec_capacity list.new }
+{
+    if let Some(mut larger) = room {
+        let Ok(()) = larger.append(list) else {
+            unreachable!()
+        };
+        *list = larger;
+    }
 }
 
 impl<K: RunName, E: HistoryReader<K>> Seat<K, E> {
@@ -184,12 +199,7 @@ impl<K: RunName, E: HistoryReader<K>> Seat<K, E> {
             → receipt.reply ≡ entry.now.reply → IsToldOf self.old self.new entry.now.call receipt }
         ensures total { ledger.new.total ≡ ledger.old.total + 1 }
     {
-        if let Some(mut larger) = room {
-            let Ok(()) = larger.append(&mut self.list) else {
-                unreachable!()
-            };
-            self.list = larger;
-        }
+        take_room(&mut self.list, room);
         ledger.add(&mut self.share, 1);
         self.list.push_reserved(Made {
             position,
@@ -201,10 +211,10 @@ impl<K: RunName, E: HistoryReader<K>> Seat<K, E> {
 
     /// The calls of the seat, whose share is merged into another.
     pub fn end(self, rest: &mut Share<K>) -> SeatList
-        ensures calls { calls_in result ≡ calls_by self.entry }
+        ensures calls { calls_in result ≡ calls_by self }
         ensures parts { rest.new.parts ≡ rest.old.parts + 1 }
         ensures apart { rest.new.parts ≤ K.parts }
-        ensures amount { rest.new.amount ≡ rest.old.amount + length self.entry.list }
+        ensures amount { rest.new.amount ≡ rest.old.amount + length self.list }
     {
         let Seat {
             number,

@@ -7,8 +7,7 @@ use arrayvec::ArrayVec;
 use cm_history::{Call, Entry, Orders, Phase, Reply, abort_code};
 use cm_netlist::{Network, SlaveEntry};
 use cm_nmt::{Answers, Frame, Got, NmtState, NodeId, Startup, Status};
-use cm_sequential::{Cause, CompactReplay, Untaken, replay, replay_to_fault};
-use cm_sequential::{Manager, frames};
+use cm_sequential::{Cause, CompactReplay, Manager, Untaken, frames, replay, replay_to_fault};
 use std::alloc::Global;
 use std::process::Abort;
 

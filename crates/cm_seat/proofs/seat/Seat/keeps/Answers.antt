@@ -1,6 +1,7 @@
 use Rattle.std.proofs.Common.{drop, take, vec_capacity}
 use Rattle.cm_netlist.specs.Network.{listing}
-use Rattle.cm_seat.proofs.Knowing.{calls_latest, legal_begin, take_prefix, told_legal}
+use Rattle.cm_seat.proofs.Knowing.{calls_latest, legal_begin, told_legal}
+use Rattle.cm_seat.proofs.Takes.{take_prefix}
 use Rattle.cm_seat.proofs.seat.Seat.keeps.Goals as goal
 
 pub returns-clause-view : goal.returns-clause-view

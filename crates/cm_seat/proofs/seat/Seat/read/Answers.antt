@@ -4,7 +4,8 @@ use Rattle.cm_history.specs.declared.call.Entry.{Entry}
 use Rattle.cm_seat.specs.Knowing.{IsKnowing, told_by}
 use Rattle.cm_seat.specs.Reads.{AllBegin}
 use Rattle.cm_seat.specs.SeatCalls.{calls_of}
-use Rattle.cm_seat.proofs.Knowing.{calls_in_longer, drop_whole, is_known, knowing_read, take_all}
+use Rattle.cm_seat.proofs.Knowing.{calls_in_longer, is_known, knowing_read}
+use Rattle.cm_seat.proofs.Takes.{drop_whole, take_all}
 use Rattle.cm_seat.proofs.seat.Seat.read.Goals as goal
 
 pub invariant_of-self-2 : goal.invariant_of-self-2
