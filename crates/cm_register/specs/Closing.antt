@@ -1,11 +1,9 @@
 -- What is handed in where a register closes, and why it doesn't (own).
 use Rattle.std.specs.Prelude.{◌≡◌, ◌+◌, ◌<◌, ◌≤◌, ℕ, List, length, map, reverse}
-use Rattle.cm_nmt.specs.Listing.{Listing}
 use Rattle.cm_nmt.specs.declared.frame.Frame.{Frame}
 use Rattle.cm_netlist.specs.Network.{Network, listing}
-use Rattle.cm_history.specs.Legal.{AreOfSeats, IsHistory, IsLegal}
+use Rattle.cm_history.specs.Legal.{AreOfSeats, IsLegal}
 use Rattle.cm_history.specs.OrderFrames.{frames_in}
-use Rattle.cm_history.specs.declared.call.Entry.{Entry}
 use Rattle.cm_sequential.specs.Standing.{Stands}
 use Rattle.cm_seat.specs.Handing.{AreApart, HaveTheirCalls, calls_by, calls_in, count_calls}
 use Rattle.cm_seat.specs.Reads.{AllKnown}

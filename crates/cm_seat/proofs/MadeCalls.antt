@@ -1,5 +1,5 @@
 -- A seat that makes calls, one after another.
-use Rattle.std.proofs.Common.{◌≡◌, ℕ, ◌+◌, List, [], ◌∷◌, ◌++◌, length, refl, sym, ap, subst, ◌∙◌, arith, length-append, append_assoc}
+use Rattle.std.proofs.Common.{◌≡◌, ℕ, ◌+◌, List, [], ◌∷◌, ◌++◌, refl, sym, ap, subst, ◌∙◌, arith, length-append, append_assoc}
 use Rattle.std.proofs.lemmas.List.{append-nil}
 use Rattle.cm_history.specs.declared.call.Call.{Call}
 use Rattle.cm_history.specs.declared.call.Entry.{Entry}

@@ -1,4 +1,4 @@
-use Rattle.std.proofs.Common.{◌≡◌, List, length, ap, sym, subst, ◌∙◌, arith, rules}
+use Rattle.std.proofs.Common.{◌≡◌, List, length, ap, sym, subst, rules}
 use Rattle.cm_history.specs.declared.call.Entry.{Entry}
 use Rattle.cm_seat.specs.Handing.{count_calls}
 use Rattle.cm_seat.specs.Knowing.{AllHaveCallsOf}

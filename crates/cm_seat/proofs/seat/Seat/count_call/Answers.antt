@@ -1,6 +1,4 @@
-use Rattle.std.proofs.Common.{◌≡◌, ℕ, List, ◌++◌, ◌∷◌, [], length, ap, sym, subst, ◌∙◌, arith, length-append, vec_capacity}
-use mathlib.Core.List.{IsPrefix}
-use Rattle.cm_history.specs.declared.call.Entry.{Entry}
+use Rattle.std.proofs.Common.{◌≡◌, List, ◌++◌, ◌∷◌, [], length, ap, sym, subst, ◌∙◌, arith, length-append, vec_capacity}
 use Rattle.cm_seat.specs.Knowing.{IsKnowing, IsNextCall, seat_view}
 use Rattle.cm_seat.specs.Reads.{IsToldOf}
 use Rattle.cm_seat.specs.SeatCalls.{made}
