@@ -1,7 +1,6 @@
 //! A journal that is written is read back, whatever its length, and its report is that of its entries.
 
-use cm_journal::{Journal, journal_read};
-use cm_writer::{journal_write, report};
+use cm_journal::{Journal, journal_read, journal_write, report};
 use std::alloc::{AllocError, Global};
 use std::process::Abort;
 use std::test::Fail;

@@ -10,8 +10,7 @@
 //! | cm_history    | calls, replies, orders; laws of histories | `Call`, `Reply`, `Orders`, `Entry`     |
 //! | cm_sequential | the sequential manager; legal histories   | `Manager`, `frames`, `replay`          |
 //! | cm_format     | what a journal's text is, and its faults  | `JournalFault`                         |
-//! | cm_writer     | journal and report written                | `journal_write`, `report`              |
-//! | cm_journal    | a journal read                            | `Journal`, `journal_read`              |
+//! | cm_journal    | a journal read and written; the report    | `journal_read`, `report`               |
 //! | cm_seat       | who makes calls, and reads                | `SharedManager`, `Made`, `Receipt`     |
 //! | cm_register   | one manager, shared by threads            | `Register`, `Seat`, `Closed`, `Book`   |
 //! | cm_run        | boots by workers, an operator, simulation | `boot_all`, `operate`, `SimBus`        |
@@ -30,7 +29,10 @@ pub use cm_history::{
     ALL_NODES, Call, Entry, Orders, Phase, Refusal, Reply, abort_code, boots_start_rightly,
     machine_shows_its_history, network_becomes_operational_rightly, reads_show,
 };
-pub use cm_journal::{Journal, ReadFault, Replayed, journal_read, journal_replay};
+pub use cm_journal::{
+    Journal, ReadFault, Replayed, journal_read, journal_replay, journal_write, replay_report,
+    report, report_of,
+};
 pub use cm_netlist::{NetFault, Network, SlaveEntry};
 pub use cm_nmt::{
     Answers, Assignment, Command, Frame, Got, Heard, NmtState, NodeId, Signal, Startup, Status,
@@ -47,4 +49,3 @@ pub use cm_run::{
     operate, round,
 };
 pub use cm_sequential::{Cause, CompactReplay, Manager, Untaken, frames, replay, replay_to_fault};
-pub use cm_writer::{journal_write, replay_report, report};

@@ -1,4 +1,4 @@
 pub mod SeatCalls
 pub mod SeatLists
 pub mod Longer
-pub mod Room
+pub mod Managing

@@ -7,9 +7,9 @@ use crate::book::Book;
 use crate::seat::Seat;
 use cm_history::Entry;
 use cm_nmt::Wire;
+use cm_panel::{Operation, Panel};
 use cm_seat::{RunName, SeatList, are_apart, are_known};
 use cm_sequential::Manager;
-use cm_versions::{Operation, Version};
 use left_right::Absorb;
 use std::sync::Wait;
 use std::sync::ledger::Share;
@@ -58,7 +58,7 @@ impl CloseKind {
 #[derive(Drop)]
 pub struct BookFault<'n, W: Wire, K: RunName, R: Wait + Drop>
 where
-    Version<K>: Absorb<Operation, State = [Entry; 0]>,
+    Panel<K>: Absorb<Operation<K>, State = [Entry; 0]>,
 {
     pub kind: CloseKind,
     pub book: Book<'n, W, K, R>,
@@ -95,7 +95,7 @@ impl<'n, W: Wire, K: RunName, R: Wait + Drop> Book<'n, W, K, R> {
         if given < wanted {
             return Err(CloseKind::SeatsMissing((wanted - given) as u16));
         }
-        if !are_known(&self.versions.published().past(), seats) {
+        if !are_known(&self.panels.published().past(), seats) {
             return Err(CloseKind::NoVersion);
         }
         if !are_apart(seats) {
@@ -114,7 +114,8 @@ impl<'n, W: Wire, K: RunName, R: Wait + Drop> Book<'n, W, K, R> {
             net: _,
             seats: _,
             limit: _,
-            versions,
+            manager,
+            panels: _,
             history,
             counts: _,
             wire,
@@ -124,7 +125,6 @@ impl<'n, W: Wire, K: RunName, R: Wait + Drop> Book<'n, W, K, R> {
         } = self;
         let lists = gather(lists, seats, &mut rest);
         ledger.audit(&mut rest);
-        let manager = *versions.published().manager();
         Closed {
             history,
             lists,

@@ -10,6 +10,7 @@
 #![tactic(auto)]
 
 mod book;
+mod carrying;
 mod closing;
 mod fault;
 mod opened;

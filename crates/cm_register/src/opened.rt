@@ -10,9 +10,10 @@ use crate::seat::Seat;
 use cm_history::Entry;
 use cm_netlist::Network;
 use cm_nmt::Wire;
+use cm_panel::{Panels, new_reader, open_panels};
 use cm_past::UnnamedLog;
 use cm_seat::{RunName, SeatList};
-use cm_versions::{Versions, new_reader, open_versions};
+use cm_sequential::Manager;
 use std::alloc::Global;
 use std::marker::Brand;
 use std::sync::Wait;
@@ -26,7 +27,7 @@ pub struct Opened<'n, W: Wire, R: Drop> {
     pub seats: u16,
     pub limit: u32,
     pub wire: W,
-    /// What a change of the versions waits with for readers.
+    /// What a change of the panels waits with for readers.
     pub rt: R,
     /// The ledger that is to be, of which each seat gets a part.
     pub blank: Blank,
@@ -94,12 +95,12 @@ impl<'n, W: Wire, R: Wait + Drop> Book<'n, W, Brand, R> {
 fn make_seats<K: RunName, R: Wait + Drop>(
     alloc: Global,
     seats: u16,
-    versions: &Versions<K, R>,
+    panels: &Panels<K, R>,
     rest: &mut Share<K>,
 ) -> Result<Vec<Seat<K>>, OpenFault>
     requires share { (rest.old.parts ≡ seats) × (rest.old.amount ≡ 0) }
     requires seats { (seats ≡ K.seats) × (seats ≤ 64) }
-    requires versions { published versions.now ≡ [] }
+    requires panels { published panels.now ≡ [] }
     ensures seats { IfOk result (λ v. v.items ≡ fresh_seats K.seats) }
     ensures rest { IfOk result (λ v. (rest.new.parts ≡ 0) × (rest.new.amount ≡ 0)) }
     ensures fault { IfErr result IsNameCause }
@@ -108,11 +109,11 @@ fn make_seats<K: RunName, R: Wait + Drop>(
         return Err(OpenFault::OutOfMemory);
     };
     for number in 0..seats {
-        let Ok(reader) = new_reader(versions) else {
+        let Ok(reader) = new_reader(panels) else {
             return Err(OpenFault::NoReader);
         };
         let share = rest.split_off(1, 0);
-        let known = versions.published().past();
+        let known = panels.published().past();
         all.push_reserved(Seat::new(alloc, number + 1, share, reader, known));
     }
     Ok(all)
@@ -145,14 +146,23 @@ impl<'n, W: Wire, R: Wait + Drop> Opened<'n, W, R> {
             history,
             lists,
         } = self;
-        let Ok(versions) = open_versions::<K, R>(alloc, rt, net, log, seats) else {
+        let Ok(panels) = open_panels::<K, R>(alloc, rt, net, log, seats) else {
             return Err(OpenFault::OutOfMemory);
         };
         let (ledger, mut rest) = blank.open::<K>();
-        let all = make_seats(alloc, seats, &versions, &mut rest)?;
+        let all = make_seats(alloc, seats, &panels, &mut rest)?;
         Ok((
             Book::fresh(
-                net, seats, limit, wire, history, lists, ledger, rest, versions,
+                net,
+                seats,
+                limit,
+                Manager::new(net),
+                wire,
+                history,
+                lists,
+                ledger,
+                rest,
+                panels,
             ),
             all,
         ))

@@ -6,6 +6,8 @@
 #[cfg(test)]
 mod closing;
 #[cfg(test)]
+mod first_use;
+#[cfg(test)]
 mod holding;
 #[cfg(test)]
 mod memory;
@@ -15,6 +17,8 @@ mod one_book;
 mod opening;
 #[cfg(test)]
 mod panel;
+#[cfg(test)]
+mod reads;
 #[cfg(test)]
 mod rounds;
 #[cfg(test)]

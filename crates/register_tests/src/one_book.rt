@@ -2,9 +2,9 @@
 
 ghost use Rattle.cm_register.specs.Naming.{Names};
 
-use crate::support::{entry, frame, is_made, is_refused, network, node, sure};
+use crate::support::{answers, entry, frame, is_made, is_refused, network, node, sure};
 use cm_history::{Call, Entry, Orders, Phase, Reply};
-use cm_nmt::{Answers, Frame, Got, NmtState, Status};
+use cm_nmt::{Frame, NmtState, Status};
 use cm_register::{Book, CallFault, CloseKind, Opened, RunName, Seat};
 use cm_simulated::SimWire;
 use std::alloc::Global;
@@ -37,14 +37,6 @@ fn one_slave_boots(rt: HostRuntime) -> Result<(), Fail> {
         return Err(Fail::from("open"));
     };
     boots::<Brand, _>(&rt, rt.alloc(), opened)
-}
-
-/// Answers with which a slave of which no value is expected boots.
-fn answers() -> Answers {
-    Answers {
-        device: Got::Value(0x0002_0192),
-        ..Answers::new()
-    }
 }
 
 fn boots<K: RunName, R: Wait + Abort + Drop + Copy>(

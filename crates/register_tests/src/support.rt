@@ -3,7 +3,7 @@
 use arrayvec::ArrayVec;
 use cm_history::{Call, Entry, Orders, Reply};
 use cm_netlist::{Network, SlaveEntry};
-use cm_nmt::{Assignment, Frame, NodeId, Startup, Terms};
+use cm_nmt::{Answers, Assignment, Frame, Got, NodeId, Startup, Terms};
 use cm_register::{
     CallFault, CloseFault, CloseKind, Closed, Opened, Receipt, Register, RunName, Seat, Seen, Wire,
 };
@@ -34,6 +34,14 @@ pub(crate) fn entry(seat: u16, call: Call, reply: Reply, orders: Orders) -> Entr
         reply,
         orders,
         seat,
+    }
+}
+
+/// Answers with which a slave of which no value is expected boots.
+pub(crate) fn answers() -> Answers {
+    Answers {
+        device: Got::Value(0x0002_0192),
+        ..Answers::new()
     }
 }
 

@@ -1,0 +1,35 @@
+use Rattle.std.proofs.Common.{List, ◌∷◌, ap, sym, subst, ◌∙◌, arith}
+use Rattle.std.specs.Prelude.{reverse}
+use Rattle.cm_netlist.specs.Network.{Network, listing}
+use Rattle.cm_history.specs.declared.call.Entry.{Entry}
+use Rattle.cm_panel.specs.Panels.{IsChange}
+use Rattle.cm_register.proofs.Managing.{few_begun, own_of_answer}
+use Rattle.cm_register.proofs.carrying.carry_out.Goals as goal
+
+pub carry_out-requires-clause-few : goal.carry_out-requires-clause-few
+carry_out-requires-clause-few g c = few_begun c.args.manager.now g.K.HistoryName.net c.args.history.now c.requires.stands (omega (arith, c.requires.few))
+
+pub carry_out-requires-clause-answered : goal.carry_out-requires-clause-answered
+carry_out-requires-clause-answered g c =
+    let e = c.args.entry.now in
+    own_of_answer c.args.manager.now g.K.HistoryName.net (reverse c.args.history.now) e.call e.reply e.orders c.requires.stands c.requires.answered
+
+pub new-change-requires : goal.new-change-requires
+new-change-requires g c =
+    let net = g.K.HistoryName.net in
+    let h = c.args.history.now in
+    let e = c.args.entry.now in
+    let stands = c.carry_out.ensures.stands net (reverse h) e.seat c.requires.stands in
+    subst (λ (w : List Entry). IsChange (listing net) w e c.node_of-node.result c.shown.result c.own_id-own.result c.shown-2.result)
+    (sym (c.past-known.ensures ∙ (c.published.ensures ∙ c.requires.shown)))
+    (record {
+      answered = c.requires.answered;
+      few = c.requires.few;
+      is_own = c.own_id-own.ensures.value ∙ ap (λ (n : Network). (listing n).own) c.requires.name;
+      of_own = c.shown-2.ensures net (e ∷ reverse h) stands;
+      of_node = c.shown.ensures net (e ∷ reverse h) stands;
+      named = c.node_of-node.ensures;
+    })
+
+pub returns-clause-stands : goal.returns-clause-stands
+returns-clause-stands g c = c.carry_out.ensures.stands g.K.HistoryName.net (reverse c.args.history.now) c.args.entry.now.seat c.requires.stands

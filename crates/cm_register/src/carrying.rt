@@ -1,0 +1,89 @@
+//! How a call that was answered is carried out: by the one manager, and by what readers see.
+ghost use Rattle.std.specs.Prelude.{◌≡◌, ◌<◌, ◌≤◌, ◌==◌, ◌++◌, ◌∷◌, [], ℕ, false, length, reverse, OnOk, OnErr};
+ghost use Rattle.left_right.specs.Handles.{pending, published};
+ghost use Rattle.cm_netlist.specs.Network.{listing};
+ghost use Rattle.cm_history.specs.Answering.{node_named};
+ghost use Rattle.cm_history.specs.Legal.{IsAnswered, IsLegal};
+ghost use Rattle.cm_sequential.specs.Standing.{Stands};
+
+use cm_history::{Call, Entry};
+use cm_netlist::Network;
+use cm_nmt::NodeId;
+use cm_panel::{Change, Panels, show_entry};
+use cm_past::HistoryName;
+use cm_sequential::{Manager, replay};
+use std::alloc::AllocError;
+use std::sync::Wait;
+
+/// The node that a call names, the own one where it names none.
+#[inline(always)]
+fn node_of(call: &Call, own: NodeId) -> NodeId
+    ensures { (t : ℕ) → 1 ≤ t → t < 128 → (result == t) ≡ false
+        → (node_named call.now == t) ≡ false }
+{
+    match call {
+        Call::StartNetwork | Call::Elapsed(_) => own,
+        Call::Begin(id) | Call::Report(id, _, _) | Call::Signal(id, _) | Call::Lost(id) => *id,
+        Call::Request(target, _) | Call::Read(target) => match NodeId::new(*target) {
+            Some(id) => id,
+            None => own,
+        },
+    }
+}
+
+/// Makes the manager anew from the calls of a legal history. It stands apart, since a manager has over
+/// 6 KB, which is cleared first, and this never comes while memory isn't refused.
+#[cold]
+#[inline(never)]
+fn go_back(manager: &mut Manager, net: &Network, history: &[Entry])
+    requires { IsLegal (listing net.now) (reverse history.now) }
+    ensures { Stands manager.new net.now (reverse history.now) }
+{
+    match replay(net, history) {
+        Some(before) => *manager = before,
+        None => unreachable!(),
+    }
+}
+
+/// Carries out the call of the next entry, and shows it to readers. Where memory is refused nothing has
+/// changed: the manager is made anew then from the history.
+#[inline(always)]
+pub(crate) fn carry_out<K: HistoryName, R: Wait + Drop>(
+    rt: &R,
+    manager: &mut Manager,
+    panels: &mut Panels<K, R>,
+    net: &Network,
+    history: &[Entry],
+    entry: &Entry,
+) -> Result<(), AllocError>
+    requires name { net.now ≡ K.net }
+    requires stands { Stands manager.old K.net (reverse history.now) }
+    requires shown { published panels.old ≡ history.now }
+    requires none { pending panels.old ≡ [] }
+    requires few { length history.now < 65536 }
+    requires legal { IsLegal (listing K.net) (reverse history.now) }
+    requires answered { IsAnswered (listing K.net) entry.now (reverse history.now) }
+    ensures shown { OnOk result (published panels.new ≡ history.now ++ entry.now ∷ []) }
+    ensures stands { OnOk result (Stands manager.new K.net (entry.now ∷ reverse history.now)) }
+    ensures same { OnErr result (published panels.new ≡ history.now) }
+    ensures again { OnErr result (Stands manager.new K.net (reverse history.now)) }
+    ensures none { pending panels.new ≡ [] }
+{
+    manager.carry_out(&entry.call, entry.reply, &entry.orders);
+    let own = net.own_id();
+    let node = node_of(&entry.call, own);
+    let known = panels.published().past();
+    let change = Change::new(
+        known,
+        entry,
+        node,
+        manager.shown(node),
+        own,
+        manager.shown(own),
+    );
+    if show_entry(rt, panels, change).is_err() {
+        go_back(manager, net, history);
+        return Err(AllocError);
+    }
+    Ok(())
+}

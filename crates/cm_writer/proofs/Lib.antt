@@ -1,3 +1,0 @@
-mod Reports
-pub mod Puts
-pub mod Walks

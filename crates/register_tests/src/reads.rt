@@ -1,0 +1,73 @@
+//! What is read of every node after each kind of call, beside the answer of a call Read.
+
+ghost use Rattle.cm_register.specs.Naming.{Names};
+
+use crate::support::{answers, network, node, open, sure};
+use cm_history::{Call, Reply};
+use cm_register::{Opened, Register, RunName, Seat};
+use cm_simulated::SimWire;
+use std::marker::Brand;
+use std::process::Abort;
+use std::sync::Wait;
+use std::test::Fail;
+
+/// How many calls are made: each of the eight kinds, and behind each a Read of every node.
+const CALLS: u32 = 8 * 128;
+
+/// Reads every node, and asks the same by a call.
+fn reads_as_calls<K: RunName, R: Wait + Abort + Drop>(
+    rt: &R,
+    register: &Register<SimWire, K, R>,
+    seat: &mut Seat<K>,
+) {
+    for number in 1..128 {
+        let Ok(seen) = seat.read(number) else {
+            return sure(rt, false);
+        };
+        let Ok(read) = register.call(rt, seat, Call::Read(number)) else {
+            return sure(rt, false);
+        };
+        sure(rt, read.reply == Reply::State(seen.state));
+    }
+}
+
+/// Makes the eight calls, of which none is refused.
+fn reads_after_each<K: RunName, R: Wait + Abort + Drop + Copy>(
+    rt: &R,
+    opened: Opened<SimWire, R>,
+) -> Result<(), Fail>
+    requires { Names K.RunName opened }
+{
+    let Ok((register, mut seats)) = opened.named::<K>() else {
+        return Err(Fail::from("named"));
+    };
+    let Some(mut seat) = seats.pop() else {
+        return Err(Fail::from("seat"));
+    };
+    let five = node(rt, 5);
+    for call in [
+        Call::StartNetwork,
+        Call::Begin(five),
+        Call::Report(five, 1, answers()),
+        Call::Signal(five, 4),
+        Call::Lost(five),
+        Call::Request(128, 4),
+        Call::Read(5),
+        Call::Elapsed(10),
+    ] {
+        let made = register.call(rt, &mut seat, call);
+        sure(rt, made.is_ok_and(|receipt| receipt.reply.is_granted()));
+        reads_as_calls(rt, &register, &mut seat);
+    }
+    Ok(())
+}
+
+#[test]
+fn every_node_is_read_as_a_call_answers(rt: HostRuntime) -> Result<(), Fail> {
+    for own in [1, 127] {
+        let net = network(&rt, rt.alloc(), own, &[(5, 0x0D), (6, 0x05), (126, 0x05)]);
+        let opened = open(rt, rt.alloc(), &net, 1, CALLS, 1000)?;
+        reads_after_each::<Brand, _>(&rt, opened)?;
+    }
+    Ok(())
+}
