@@ -17,17 +17,17 @@ use std::{env, fs};
 
 /// Runs canboot on the words of its command line and its standard input and output, with `err` for
 /// what goes to standard error, and gives its exit status.
-pub fn run<
-    R: Env + Files + Print + Input + AllocGlobal + Wait + Threads + Drop + Copy + Send + Sync,
-    E: Write,
->(rt: &R, err: &mut E) -> ExitCode {
+pub fn run<R: Env + Files + Print + Input + AllocGlobal + Wait + Threads + Send + Sync, E: Write>(
+    rt: &R,
+    err: &mut E,
+) -> ExitCode {
     ExitCode::from(run_here(rt, err))
 }
 
-fn run_here<
-    R: Env + Files + Print + Input + AllocGlobal + Wait + Threads + Drop + Copy + Send + Sync,
-    E: Write,
->(rt: &R, err: &mut E) -> u8 {
+fn run_here<R: Env + Files + Print + Input + AllocGlobal + Wait + Threads + Send + Sync, E: Write>(
+    rt: &R,
+    err: &mut E,
+) -> u8 {
     let args = match env::args(rt) {
         Ok(args) => args,
         Err(error) => return read_fault(err, error.kind()),
@@ -45,7 +45,7 @@ fn run_here<
 /// gives its exit status: that of [`check_file`], [`run_text`] or [`replay_text`], 0 for help and the
 /// version, 2 for wrong words, 3 for a file that can't be opened or made.
 pub fn run_words<
-    R: Files + AllocGlobal + Wait + Threads + Drop + Copy + Send + Sync,
+    R: Files + AllocGlobal + Wait + Threads + Send + Sync,
     I: Read,
     W: Write,
     E: Write,
@@ -95,11 +95,14 @@ fn show<W: Write>(text: &str, out: &mut W) -> io::Result<()> {
 
 /// `canboot run`, over the file of this path. The journal's file, if there is one, is made before the
 /// list is read.
-fn run_file<
-    R: Files + AllocGlobal + Wait + Threads + Drop + Copy + Send + Sync,
-    W: Write,
-    E: Write,
->(rt: &R, path: &str, options: Options, journal: Option<&str>, out: &mut W, err: &mut E) -> u8
+fn run_file<R: Files + AllocGlobal + Wait + Threads + Send + Sync, W: Write, E: Write>(
+    rt: &R,
+    path: &str,
+    options: Options,
+    journal: Option<&str>,
+    out: &mut W,
+    err: &mut E,
+) -> u8
     requires workers { (1 ≤ options.workers) × (options.workers ≤ 16) }
     requires attempts { (1 ≤ options.attempts) × (options.attempts ≤ 10) }
 {

@@ -43,14 +43,10 @@ struct Booting<B: Bus> {
 
 /// One boot, with a register of its own. `None` where not every slave was booted, or the register
 /// didn't close with two calls of each.
-fn run_boot<
-    R: Clock + Threads + Wait + Copy + Send + Sync + Drop,
-    K: RunName + Send + Sync,
-    B: Bus + Send,
->(
+fn run_boot<R: Clock + Threads + Wait + Send + Sync, K: RunName + Send + Sync, B: Bus + Send>(
     rt: &R,
     alloc: Global,
-    opened: Opened<SimWire, R>,
+    opened: Opened<SimWire>,
     buses: Vec<B>,
     slaves: usize,
 ) -> Option<Booting<B>>
@@ -108,14 +104,10 @@ fn timed_buses<'a, R: Clock>(
 }
 
 /// A register of this network, with a seat for each worker and one more.
-fn open<'n, R: AllocGlobal + Wait + Copy + Drop>(
-    rt: &R,
-    net: &'n Network,
-    workers: u16,
-) -> Option<Opened<'n, SimWire, R>> {
+fn open<'n, R: AllocGlobal>(rt: &R, net: &'n Network, workers: u16) -> Option<Opened<'n, SimWire>> {
     let wire = SimWire::new(rt.alloc(), ROOM).ok()?;
     let seats = workers.saturating_add(1);
-    Register::open(rt.alloc(), *rt, net, seats, ROOM, wire).ok()
+    Register::open(rt.alloc(), net, seats, ROOM, wire).ok()
 }
 
 /// How many questions the worker that asked most asked, and how many nanoseconds an answer took.
@@ -132,7 +124,7 @@ fn asked_of<R: Clock>(buses: &[TimedBus<R>]) -> (u32, u128) {
 }
 
 /// One boot over buses that take a time for each answer.
-fn boot_timed<'a, R: Clock + AllocGlobal + Threads + Wait + Copy + Send + Sync + Drop>(
+fn boot_timed<'a, R: Clock + AllocGlobal + Threads + Wait + Send + Sync>(
     rt: &'a R,
     net: &Network,
     workers: u16,
@@ -145,7 +137,7 @@ fn boot_timed<'a, R: Clock + AllocGlobal + Threads + Wait + Copy + Send + Sync +
 }
 
 /// Nanoseconds of the best of so many boots over slaves that answer at once.
-fn best_of<R: Clock + AllocGlobal + Threads + Wait + Copy + Send + Sync + Drop>(
+fn best_of<R: Clock + AllocGlobal + Threads + Wait + Send + Sync>(
     rt: &R,
     net: &Network,
     workers: u16,
@@ -163,7 +155,7 @@ fn best_of<R: Clock + AllocGlobal + Threads + Wait + Copy + Send + Sync + Drop>(
 }
 
 /// Prints the time of one boot over buses that take a time for each answer.
-fn measure_timed<R: Clock + Print + AllocGlobal + Threads + Wait + Copy + Send + Sync + Drop>(
+fn measure_timed<R: Clock + Print + AllocGlobal + Threads + Wait + Send + Sync>(
     rt: &R,
     net: &Network,
     workers: u16,
@@ -189,7 +181,7 @@ fn measure_timed<R: Clock + Print + AllocGlobal + Threads + Wait + Copy + Send +
 /// microseconds for each answer; beside it the questions of the worker that asked most, the time that
 /// an answer took, and how many times the product of the two the boot took. Over slaves that answer at
 /// once it is the best of fifteen boots, threads included.
-pub fn measure<R: Clock + Print + AllocGlobal + Threads + Wait + Copy + Send + Sync + Drop>(
+pub fn measure<R: Clock + Print + AllocGlobal + Threads + Wait + Send + Sync>(
     rt: &R,
     workers: u16,
     micros: u32,
@@ -206,7 +198,7 @@ pub fn measure<R: Clock + Print + AllocGlobal + Threads + Wait + Copy + Send + S
 
 /// Boots the slaves once over buses that take a time for each answer, and once over slaves that answer
 /// at once.
-pub fn run_briefly<R: Clock + Print + AllocGlobal + Threads + Wait + Copy + Send + Sync + Drop>(
+pub fn run_briefly<R: Clock + Print + AllocGlobal + Threads + Wait + Send + Sync>(
     rt: &R,
 ) -> Option<()> {
     let net = full_network(rt.alloc(), SLAVES)?;

@@ -67,9 +67,9 @@ impl Caller {
 }
 
 /// Makes this many calls from one seat. `None` where one isn't made.
-pub fn call_often<W: Wire, K: RunName, R: Wait + Drop>(
+pub fn call_often<W: Wire, K: RunName, R: Wait>(
     rt: &R,
-    register: &Register<W, K, R>,
+    register: &Register<W, K>,
     seat: &mut Seat<K>,
     terms: &[Terms],
     mut caller: Caller,

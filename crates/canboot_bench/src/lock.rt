@@ -28,9 +28,9 @@ const FEW: u32 = 500;
 const FEW_THREADS: u16 = 2;
 
 /// Makes the calls in a thread for each seat, and waits for them.
-fn call_in_threads<R: Threads + Wait + Send + Sync + Drop, K: RunName + Send + Sync>(
+fn call_in_threads<R: Threads + Wait + Send + Sync, K: RunName + Send + Sync>(
     rt: &R,
-    register: &Register<Tape, K, R>,
+    register: &Register<Tape, K>,
     seats: &mut [Seat<K>],
     terms: &[Terms],
     count: u32,
@@ -48,9 +48,9 @@ fn call_in_threads<R: Threads + Wait + Send + Sync + Drop, K: RunName + Send + S
 }
 
 /// Nanoseconds of one run of a register; `None` too where it doesn't close with all calls.
-fn run_register<R: Clock + Threads + Wait + Copy + Send + Sync + Drop, K: RunName + Send + Sync>(
+fn run_register<R: Clock + Threads + Wait + Send + Sync, K: RunName + Send + Sync>(
     rt: &R,
-    opened: Opened<Tape, R>,
+    opened: Opened<Tape>,
     terms: &[Terms],
     count: u32,
 ) -> Option<u128>
@@ -75,9 +75,9 @@ fn run_register<R: Clock + Threads + Wait + Copy + Send + Sync + Drop, K: RunNam
 }
 
 /// Nanoseconds of one run of a book.
-fn run_book<R: Clock + Wait + Copy + Drop, K: RunName>(
+fn run_book<R: Clock, K: RunName>(
     rt: &R,
-    opened: Opened<Tape, R>,
+    opened: Opened<Tape>,
     terms: &[Terms],
     count: u32,
 ) -> Option<u128>
@@ -85,11 +85,11 @@ fn run_book<R: Clock + Wait + Copy + Drop, K: RunName>(
 {
     let (mut book, mut seats) = opened.book::<K>().ok()?;
     let seat = seats.as_mut_slice().get_mut(0)?;
-    book.apply(rt, seat, Call::StartNetwork).ok()?;
+    book.apply(seat, Call::StartNetwork).ok()?;
     let mut caller = Caller::new(0, 1);
     let from = Instant::now(rt).ok()?;
     for _ in 0..count {
-        let receipt = book.apply(rt, seat, caller.next_call(terms)?).ok()?;
+        let receipt = book.apply(seat, caller.next_call(terms)?).ok()?;
         caller.go_on(&receipt.reply);
     }
     let nanos = from.elapsed(rt).ok()?.as_nanos();
@@ -101,7 +101,7 @@ fn run_book<R: Clock + Wait + Copy + Drop, K: RunName>(
 }
 
 /// Tenths of a nanosecond for one call, the best of so many runs; of a book where there is no thread.
-fn best<R: Clock + AllocGlobal + Threads + Wait + Copy + Send + Sync + Drop>(
+fn best<R: Clock + AllocGlobal + Threads + Wait + Send + Sync>(
     rt: &R,
     net: &Network,
     terms: &[Terms],
@@ -126,7 +126,7 @@ fn best<R: Clock + AllocGlobal + Threads + Wait + Copy + Send + Sync + Drop>(
 /// Prints the nanoseconds of a call, over so many calls of each of so many threads, which boot 126
 /// slaves again and again; of a book where there is no thread. `None` where there are over 16 threads,
 /// or all calls together are over 65,535.
-pub fn measure<R: Clock + Print + AllocGlobal + Threads + Wait + Copy + Send + Sync + Drop>(
+pub fn measure<R: Clock + Print + AllocGlobal + Threads + Wait + Send + Sync>(
     rt: &R,
     count: u32,
     threads: u16,
@@ -149,7 +149,7 @@ pub fn measure<R: Clock + Print + AllocGlobal + Threads + Wait + Copy + Send + S
 }
 
 /// Makes a few calls of a book, and of a register by threads, in one run each.
-pub fn run_briefly<R: Clock + Print + AllocGlobal + Threads + Wait + Copy + Send + Sync + Drop>(
+pub fn run_briefly<R: Clock + Print + AllocGlobal + Threads + Wait + Send + Sync>(
     rt: &R,
 ) -> Option<()> {
     let net = full_network(rt.alloc(), SLAVES)?;

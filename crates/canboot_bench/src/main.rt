@@ -39,7 +39,7 @@ use std::sync::Wait;
 use std::thread::Threads;
 
 /// A short run of each measure.
-fn run_briefly<R: Clock + Print + AllocGlobal + Threads + Wait + Copy + Send + Sync + Drop>(
+fn run_briefly<R: Clock + Print + AllocGlobal + Threads + Wait + Send + Sync>(
     rt: &R,
 ) -> Option<()> {
     calls::run_briefly(rt)?;
@@ -56,9 +56,7 @@ fn number_at(words: &[String], place: usize) -> Option<u32> {
     }
 }
 
-fn run<R: Clock + Env + Print + AllocGlobal + Threads + Wait + Copy + Send + Sync + Drop>(
-    rt: &R,
-) -> Option<()> {
+fn run<R: Clock + Env + Print + AllocGlobal + Threads + Wait + Send + Sync>(rt: &R) -> Option<()> {
     let words = env::args(rt).ok()?.collect::<Vec<String>>(rt.alloc()).ok()?;
     let words = words.as_slice();
     let Some(measure) = words.get(1) else {

@@ -5,7 +5,6 @@ ghost use Rattle.std.specs.Prelude.{◌≡◌, IfSome};
 use crate::tape::Tape;
 use cm_netlist::Network;
 use cm_register::{Opened, Register};
-use std::sync::Wait;
 
 /// How many entries a register may have.
 pub const MOST_ENTRIES: u32 = 65_536;
@@ -14,15 +13,15 @@ pub const MOST_ENTRIES: u32 = 65_536;
 const MOST_FRAMES: u32 = 126;
 
 /// A register of this network with so many seats, and a wire with room for all of its frames.
-pub fn open_register<'n, R: AllocGlobal + Wait + Copy + Drop>(
+pub fn open_register<'n, R: AllocGlobal>(
     rt: &R,
     net: &'n Network,
     seats: u16,
-) -> Option<Opened<'n, Tape, R>>
+) -> Option<Opened<'n, Tape>>
     ensures { IfSome result (λ o. (o.net.now ≡ net.now) × (o.seats ≡ seats)) }
 {
     let tape = Tape::new(rt.alloc(), MOST_ENTRIES.saturating_add(MOST_FRAMES))?;
-    let Ok(opened) = Register::open(rt.alloc(), *rt, net, seats, MOST_ENTRIES, tape) else {
+    let Ok(opened) = Register::open(rt.alloc(), net, seats, MOST_ENTRIES, tape) else {
         return None;
     };
     Some(opened)

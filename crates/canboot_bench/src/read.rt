@@ -64,7 +64,7 @@ struct Setting<'a> {
 }
 
 /// Measures the rounds with this beside the readers.
-fn run_rounds<R: Clock + AllocGlobal + Threads + Wait + Copy + Send + Sync + Drop>(
+fn run_rounds<R: Clock + AllocGlobal + Threads + Wait + Send + Sync>(
     rt: &R,
     setting: Setting,
     beside: Beside,
@@ -95,7 +95,7 @@ struct Sheets {
 }
 
 /// Measures the rounds with so many calls beside the readers, and with none.
-fn run_all<R: Clock + AllocGlobal + Threads + Wait + Copy + Send + Sync + Drop>(
+fn run_all<R: Clock + AllocGlobal + Threads + Wait + Send + Sync>(
     rt: &R,
     setting: Setting,
     count: u32,
@@ -109,7 +109,7 @@ fn run_all<R: Clock + AllocGlobal + Threads + Wait + Copy + Send + Sync + Drop>(
 }
 
 /// Prints the nanoseconds of a call with no reader.
-fn measure_calls<R: Clock + Print + AllocGlobal + Threads + Wait + Copy + Send + Sync + Drop>(
+fn measure_calls<R: Clock + Print + AllocGlobal + Threads + Wait + Send + Sync>(
     rt: &R,
     setting: Setting,
     count: u32,
@@ -130,7 +130,7 @@ fn measure_calls<R: Clock + Print + AllocGlobal + Threads + Wait + Copy + Send +
 }
 
 /// Prints what readers and a caller make beside one another, and the readers alone.
-fn measure_reads<R: Clock + Print + AllocGlobal + Threads + Wait + Copy + Send + Sync + Drop>(
+fn measure_reads<R: Clock + Print + AllocGlobal + Threads + Wait + Send + Sync>(
     rt: &R,
     setting: Setting,
     count: u32,
@@ -162,7 +162,7 @@ fn measure_reads<R: Clock + Print + AllocGlobal + Threads + Wait + Copy + Send +
 /// Prints how many reads per second so many readers make together beside so many calls without a
 /// pause and beside none, how many calls per second are made beside them, and the longest call; with no
 /// reader the nanoseconds of a call. `None` where there are over 4 readers, or over 65,535 calls.
-pub fn measure<R: Clock + Print + AllocGlobal + Threads + Wait + Copy + Send + Sync + Drop>(
+pub fn measure<R: Clock + Print + AllocGlobal + Threads + Wait + Send + Sync>(
     rt: &R,
     count: u32,
     readers: usize,
@@ -186,7 +186,7 @@ pub fn measure<R: Clock + Print + AllocGlobal + Threads + Wait + Copy + Send + S
 }
 
 /// Makes a few calls, and none, beside readers, in one round each.
-pub fn run_briefly<R: Clock + Print + AllocGlobal + Threads + Wait + Copy + Send + Sync + Drop>(
+pub fn run_briefly<R: Clock + Print + AllocGlobal + Threads + Wait + Send + Sync>(
     rt: &R,
 ) -> Option<()> {
     let net = full_network(rt.alloc(), SLAVES)?;

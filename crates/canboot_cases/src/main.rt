@@ -58,7 +58,7 @@ fn tell(rt: &impl Print, case: &Case<'_>, outcome: &Outcome) -> io::Result<()> {
 }
 
 /// Runs the cases of one file.
-fn run_file<R: Files + Print + AllocGlobal + Wait + Threads + Drop + Copy + Send + Sync>(
+fn run_file<R: Files + Print + AllocGlobal + Wait + Threads + Send + Sync>(
     rt: &R,
     path: &str,
     count: &mut Count,

@@ -100,7 +100,7 @@ fn is_journal<R: Files + AllocGlobal>(
 }
 
 /// Runs canboot as the case says.
-pub fn run_case<R: Files + AllocGlobal + Wait + Threads + Drop + Copy + Send + Sync>(
+pub fn run_case<R: Files + AllocGlobal + Wait + Threads + Send + Sync>(
     rt: &R,
     case: &Case<'_>,
 ) -> io::Result<Outcome> {

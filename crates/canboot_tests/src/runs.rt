@@ -55,11 +55,7 @@ pub(crate) fn full_list(alloc: Global) -> Result<Vec<u8>, Fail> {
 
 /// Runs on that list with 16 workers, and asserts that the journal is one, whose report is the one
 /// that was written, and that all slaves were booted.
-fn is_replayed<R: Wait + Threads + Abort + Drop + Copy + Send + Sync>(
-    rt: &R,
-    alloc: Global,
-    list: &[u8],
-) {
+fn is_replayed<R: Wait + Threads + Abort + Send + Sync>(rt: &R, alloc: Global, list: &[u8]) {
     let options = Options {
         workers: 16,
         attempts: 2,
@@ -155,7 +151,7 @@ fn the_start_is_refused_where_there_is_no_master(rt: HostRuntime) -> Result<(), 
 }
 
 /// The status of the run with a journal that takes so many writes; the report is written.
-fn status_with_journal<R: Wait + Threads + Abort + Drop + Copy + Send + Sync>(
+fn status_with_journal<R: Wait + Threads + Abort + Send + Sync>(
     rt: &R,
     alloc: Global,
     journal: Failing,
@@ -186,7 +182,7 @@ fn status_with_journal<R: Wait + Threads + Abort + Drop + Copy + Send + Sync>(
 
 /// The status of the run with an output that takes so many writes; no journal is written where it
 /// fails.
-fn status_with_output<R: Wait + Threads + Abort + Drop + Copy + Send + Sync>(
+fn status_with_output<R: Wait + Threads + Abort + Send + Sync>(
     rt: &R,
     alloc: Global,
     mut out: Failing,
@@ -226,7 +222,7 @@ enum Part {
 }
 
 /// The status of the run where this part takes so many writes.
-fn status_with<R: Wait + Threads + Abort + Drop + Copy + Send + Sync>(
+fn status_with<R: Wait + Threads + Abort + Send + Sync>(
     rt: &R,
     alloc: Global,
     part: Part,
@@ -239,11 +235,7 @@ fn status_with<R: Wait + Threads + Abort + Drop + Copy + Send + Sync>(
 }
 
 /// Asserts that each write of this part that fails is a failed write, and the flush too.
-fn fails_to_write<R: Wait + Threads + Abort + Drop + Copy + Send + Sync>(
-    rt: &R,
-    alloc: Global,
-    part: Part,
-) {
+fn fails_to_write<R: Wait + Threads + Abort + Send + Sync>(rt: &R, alloc: Global, part: Part) {
     let mut failures = 0;
     for writes in 0..500 {
         let flushes = true;

@@ -287,7 +287,7 @@ fn a_failing_error_output_keeps_the_status(rt: HostRuntime) -> Result<(), Fail> 
 }
 
 /// The exit status of a command line on a failing output and a failing error output.
-fn status_of<R: Files + AllocGlobal + Wait + Threads + Drop + Copy + Send + Sync>(
+fn status_of<R: Files + AllocGlobal + Wait + Threads + Send + Sync>(
     rt: &R,
     words: &[&str],
 ) -> Result<u8, AllocError> {

@@ -92,7 +92,7 @@ impl<K: RunName> Caller<K> {
     }
 
     /// Makes calls until there are enough.
-    fn call_often<R: Wait + Drop>(&mut self, rt: &R, register: &Register<SimWire, K, R>) {
+    fn call_often<R: Wait>(&mut self, rt: &R, register: &Register<SimWire, K>) {
         for _ in self.made..CALLS {
             let call = self.next_call();
             if let Ok(receipt) = register.call(rt, &mut self.seat, call) {
@@ -137,10 +137,10 @@ fn seats_of<K: RunName>(
 }
 
 /// Seat 1 starts the network, and then all seats make their calls, four in each thread.
-fn calls<K: RunName + Send + Sync, R: Wait + Threads + Abort + Drop + Copy + Send + Sync>(
+fn calls<K: RunName + Send + Sync, R: Wait + Threads + Abort + Send + Sync>(
     rt: &R,
     alloc: Global,
-    opened: Opened<SimWire, R>,
+    opened: Opened<SimWire>,
 ) -> Result<Closed<SimWire>, Fail>
     requires { Names K.RunName opened }
 {
@@ -187,7 +187,7 @@ fn teams_make_65536_calls(rt: HostRuntime) -> Result<(), Fail> {
     let begin = Instant::now(&rt)?;
     let net = full_network(rt.alloc())?;
     let wire = SimWire::new(rt.alloc(), 100_000)?;
-    let Ok(opened) = Register::open(rt.alloc(), rt, &net, SEATS, LIMIT, wire) else {
+    let Ok(opened) = Register::open(rt.alloc(), &net, SEATS, LIMIT, wire) else {
         return Err(Fail::from("open"));
     };
     let closed = calls::<Brand, _>(&rt, rt.alloc(), opened)?;

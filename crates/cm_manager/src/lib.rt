@@ -41,8 +41,7 @@ pub use cm_nmt::{
 pub use cm_past::HistoryReader;
 pub use cm_register::{
     Book, BookFault, CallFault, CloseFault, CloseKind, Closed, Made, OpenFault, Opened,
-    ReadFault as SeatReadFault, Receipt, Register, RunName, Seat, SeatList, SeatReader, Seen,
-    SharedManager,
+    ReadFault as SeatReadFault, Receipt, Register, RunName, Seat, SeatList, Seen, SharedManager,
 };
 pub use cm_run::{
     Booted, Last, OperateFault, Outcome, RunFault, RunKind, SimBus, SimSlave, SimWire, boot_all,

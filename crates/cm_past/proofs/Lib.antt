@@ -1,3 +1,8 @@
 pub mod Prefixes
 pub mod LegalEnds
-mod Adding
+mod Items
+mod RowSteps
+mod RowMoves
+mod Showing
+mod Refreshing
+mod Looking

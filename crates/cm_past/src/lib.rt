@@ -1,24 +1,29 @@
-//! What is known of a history that grows, by whoever doesn't hold its lock.
+//! What is known of a history that grows, by whoever doesn't hold its lock, and how it is shown.
 //!
 //! A [`Past`] says: these entries were the whole history at some moment. So the history begins with
 //! them from then on, and of two pasts of one history one begins the other. It has no entry in memory and
-//! takes no lock. An [`Appender`], of which each history has one, makes the history longer by an entry,
-//! and gives the past that says so. Each past is a legal history.
+//! takes no lock. Each past is a legal history.
 //!
-//! A [`HistoryReader`] is whoever sees the history while it grows.
+//! A [`HistoryWriter`], of which each history has one, makes the history longer by an entry and shows what
+//! is changed by it: in a row of words that threads share, one for each node, with the node's state as a
+//! read of it is answered. A [`HistoryReader`] looks at a node's word. It takes no lock, no memory and
+//! doesn't wait, and what it sees has all that it knew before as its beginning.
 //!
-//! [`UnnamedLog::new`] makes the log, and [`UnnamedLog::named`] gives its appender and the past of no entry.
+//! [`UnnamedHistory::new`] makes the row, and [`UnnamedHistory::named`] gives the writer.
 #![tactic(auto)]
 
-mod appender;
+mod change;
 mod history_name;
-mod log_rule;
+mod log_item;
 mod past;
 mod reader;
-mod unnamed_log;
+mod row;
+mod row_rule;
+mod unnamed_history;
+mod writer;
 
-pub use appender::Appender;
 pub use history_name::HistoryName;
 pub use past::Past;
 pub use reader::{HistoryReader, Look};
-pub use unnamed_log::UnnamedLog;
+pub use unnamed_history::UnnamedHistory;
+pub use writer::{HistoryWriter, NotShown};

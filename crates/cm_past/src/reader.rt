@@ -1,11 +1,19 @@
-ghost use Rattle.std.specs.Prelude.{◌≡◌, ◌≤◌, length, reverse, IfSome};
+ghost use Rattle.std.specs.Prelude.{◌≡◌, ◌≤◌, ◌<◌, ℕ, length, reverse, if◌then◌else◌, IfSome};
 ghost use mathlib.Core.List.{IsPrefix};
 ghost use Rattle.cm_netlist.specs.Network.{listing};
+ghost use Rattle.cm_nmt.specs.Listing.{Listing};
 ghost use Rattle.cm_history.specs.History.{shown};
+ghost use Rattle.cm_past.specs.Row.{IsLooked, IsWord};
+ghost use Rattle.cm_past.specs.Items.{IsOf};
 
 use crate::history_name::HistoryName;
 use crate::past::Past;
-use cm_nmt::NodeId;
+use crate::row::{GONE, Row};
+use crate::row_rule::SeenLog;
+use cm_history::UNKNOWN;
+use cm_nmt::{NmtState, NodeId};
+use std::marker::Model;
+use std::sync::Arc;
 
 /// What a reader saw: a history, and what it shows of a node.
 #[derive(Drop)]
@@ -15,15 +23,84 @@ pub struct Look<K: HistoryName> {
     pub state: u8,
 }
 
-/// One who sees the history of the name `K` while it grows, without a lock and without waiting. Its
-/// place among the readers is left where it is dropped.
-pub trait HistoryReader<K: HistoryName>: Drop {
+/// What a node's word says: with how many entries it was stored, the state, and the state with one entry
+/// less. Where it never was, both are the state that is shown at first.
+#[inline(always)]
+pub(crate) fn split(word: u64, is_own: bool) -> (u64, u8, u8)
+    ensures { (since state before : ℕ) → IsWord word since state before
+        → (since ≡ 0 → state ≡ (if is_own then 127 else 0))
+        → (result.0 ≡ since) × (result.1 ≡ state) × (0 < since → result.2 ≡ before) }
+{
+    if word == 0 {
+        let state = if is_own {
+            NmtState::PreOperational.code()
+        } else {
+            UNKNOWN
+        };
+        return (0, state, state);
+    }
+    (word / 65_536, (word / 256 % 256) as u8, (word % 256) as u8)
+}
+
+/// How many entries are shown, and the state of the node with them.
+#[inline(always)]
+fn see<K: HistoryName>(
+    row: &Row<K>,
+    own: NodeId,
+    id: NodeId,
+    seen: &mut SeenLog,
+) -> Option<(u64, u8)>
+    requires own { own ≡ K.net.own }
+    requires of { (seen.old.book ≡ K.log) × IsOf K.net seen.old.log }
+    ensures book { seen.new.book ≡ seen.old.book }
+    ensures later { IsPrefix seen.old.log seen.new.log }
+    ensures looked { IfSome result (λ r. IsLooked K.net seen.new.log id r.1 r.0) }
+{
+    let status = row.look(0, seen);
+    if status == GONE {
+        return None;
+    }
+    let word = row.look(usize::from(id.get()), seen);
+    let (since, state, before) = split(word, id == own);
+    let done = status % 4_294_967_296;
+    if since <= done {
+        Some((done, state))
+    } else {
+        Some((since - 1, before))
+    }
+}
+
+/// One who sees the history of the name `K` while it grows, without a lock and without waiting.
+#[derive(Drop)]
+pub struct HistoryReader<K: HistoryName> {
+    row: Arc<Row<K>>,
+    own: NodeId,
+    ghost own_is: { own ≡ K.net.own },
+}
+
+impl<K: HistoryName> HistoryReader<K> {
+    pub(crate) fn of(row: Arc<Row<K>>, own: NodeId) -> HistoryReader<K>
+        requires { own ≡ K.net.own }
+    {
+        HistoryReader { row, own }
+    }
+
     /// Looks at the history that is shown now, which has what was known before as its beginning, and at
-    /// what it shows of this node. `None` where nothing is shown, or a history that is shorter than what
-    /// was known.
-    fn look(&mut self, known: &Past<K>, id: NodeId) -> Option<Look<K>>
+    /// what it shows of this node. `None` where the writer is gone; or where the history that is shown
+    /// is shorter than what was known, which never comes, though no clause says so.
+    #[inline(always)]
+    pub fn look(&self, known: &Past<K>, id: NodeId) -> Option<Look<K>>
         ensures later { IfSome result (λ l. IsPrefix known.now l.past) }
         ensures state { IfSome result
             (λ l. l.state ≡ shown (listing K.net) (reverse l.past) id) }
-        ensures few { IfSome result (λ l. length l.past ≤ 65536) };
+        ensures few { IfSome result (λ l. length l.past ≤ 65536) }
+    {
+        let mut seen = known.seen.again();
+        let (count, state) = see(&self.row, self.own, id, &mut seen)?;
+        if count < known.count {
+            return None;
+        }
+        let past = Past::of(count, seen);
+        Some(Look { past, state })
+    }
 }

@@ -3,6 +3,7 @@ use Rattle.std.specs.Prelude.{◌≡◌, ℕ}
 use Rattle.logbook.specs.Pages.{Book}
 use Rattle.cm_nmt.specs.declared.wire.Wire.{Ghosts as WireGhosts}
 use Rattle.cm_netlist.specs.Network.{Network}
+use Rattle.cm_past.specs.Unnamed.{log_of}
 use Rattle.cm_register.specs.declared.opened.Opened.{Opened}
 use Rattle.cm_register.specs.Opening.{MayOpen}
 
@@ -10,9 +11,9 @@ use Rattle.cm_register.specs.Opening.{MayOpen}
 abbrev pub Name : Type 0
 Name = record { net : Network; log : Book; name : ℕ; parts : ℕ; seats : ℕ; limit : ℕ }
 
-module _ {W R : Type 0} {wires : WireGhosts W} where
+module _ {W : Type 0} {wires : WireGhosts W} where
   -- nothing was in the way, and what is opened has just what was given
-  pub record IsOpened (net : Network) (seats limit : ℕ) (wire : W) (opened : Opened W R wires) : Type 0 where
+  pub record IsOpened (net : Network) (seats limit : ℕ) (wire : W) (opened : Opened W wires) : Type 0 where
     pub may : MayOpen seats limit (wires.sent wire)
     pub network : opened.net.now ≡ net
     pub seated : opened.seats ≡ seats
@@ -20,10 +21,10 @@ module _ {W R : Type 0} {wires : WireGhosts W} where
     pub wired : opened.wire ≡ wire
 
   -- the name is that of this register
-  pub record Names (name : Name) (opened : Opened W R wires) : Type 0 where
+  pub record Names (name : Name) (opened : Opened W wires) : Type 0 where
     pub ledger : opened.blank.name ≡ name.name
     pub parts : opened.seats ≡ name.parts
     pub seats : opened.seats ≡ name.seats
     pub limit : opened.limit ≡ name.limit
     pub network : opened.net.now ≡ name.net
-    pub log : opened.log ≡ name.log
+    pub log : log_of opened.log ≡ name.log

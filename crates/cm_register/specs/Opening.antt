@@ -24,8 +24,7 @@ IsOpenCause seats limit sent fault.WireUsed = SeatsFit seats × LimitFits limit 
 IsOpenCause seats limit sent fault.OutOfMemory = MayOpen seats limit sent
 IsOpenCause seats limit sent fault.NoReader = ⊥
 
--- a register isn't named for want of memory, or of a reader
+-- a register isn't named for want of memory alone
 abbrev pub IsNameCause : OpenFault → Type 0
 IsNameCause fault.OutOfMemory = Unit {0}
-IsNameCause fault.NoReader = Unit {0}
 IsNameCause _ = ⊥

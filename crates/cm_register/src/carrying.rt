@@ -1,6 +1,5 @@
-//! How a call that was answered is carried out: by the one manager, and by what readers see.
+//! How a call that was answered is carried out: by the one manager, and in what readers see.
 ghost use Rattle.std.specs.Prelude.{◌≡◌, ◌<◌, ◌≤◌, ◌==◌, ◌++◌, ◌∷◌, [], ℕ, false, length, reverse, OnOk, OnErr};
-ghost use Rattle.left_right.specs.Handles.{pending, published};
 ghost use Rattle.cm_netlist.specs.Network.{listing};
 ghost use Rattle.cm_history.specs.Answering.{node_named};
 ghost use Rattle.cm_history.specs.Legal.{IsAnswered, IsLegal};
@@ -9,11 +8,8 @@ ghost use Rattle.cm_sequential.specs.Standing.{Stands};
 use cm_history::{Call, Entry};
 use cm_netlist::Network;
 use cm_nmt::NodeId;
-use cm_panel::{Change, Panels, show_entry};
-use cm_past::HistoryName;
+use cm_past::{HistoryName, HistoryWriter, NotShown};
 use cm_sequential::{Manager, replay};
-use std::alloc::AllocError;
-use std::sync::Wait;
 
 /// The node that a call names, the own one where it names none.
 #[inline(always)]
@@ -32,7 +28,7 @@ fn node_of(call: &Call, own: NodeId) -> NodeId
 }
 
 /// Makes the manager anew from the calls of a legal history. It stands apart, since a manager has over
-/// 6 KB, which is cleared first, and this never comes while memory isn't refused.
+/// 6 KB, which is cleared first, and this never comes, though no clause says so.
 #[cold]
 #[inline(never)]
 fn go_back(manager: &mut Manager, net: &Network, history: &[Entry])
@@ -45,45 +41,35 @@ fn go_back(manager: &mut Manager, net: &Network, history: &[Entry])
     }
 }
 
-/// Carries out the call of the next entry, and shows it to readers. Where memory is refused nothing has
-/// changed: the manager is made anew then from the history.
+/// Carries out the call of the next entry, and shows it to readers. Where they can't be shown it nothing
+/// has changed: the manager is made anew then from the history.
 #[inline(always)]
-pub(crate) fn carry_out<K: HistoryName, R: Wait + Drop>(
-    rt: &R,
+pub(crate) fn carry_out<K: HistoryName>(
     manager: &mut Manager,
-    panels: &mut Panels<K, R>,
+    writer: &mut HistoryWriter<K>,
     net: &Network,
     history: &[Entry],
     entry: &Entry,
-) -> Result<(), AllocError>
+) -> Result<(), NotShown>
     requires name { net.now ≡ K.net }
     requires stands { Stands manager.old K.net (reverse history.now) }
-    requires shown { published panels.old ≡ history.now }
-    requires none { pending panels.old ≡ [] }
+    requires shown { writer.old ≡ history.now }
     requires few { length history.now < 65536 }
     requires legal { IsLegal (listing K.net) (reverse history.now) }
     requires answered { IsAnswered (listing K.net) entry.now (reverse history.now) }
-    ensures shown { OnOk result (published panels.new ≡ history.now ++ entry.now ∷ []) }
+    ensures shown { OnOk result (writer.new ≡ history.now ++ entry.now ∷ []) }
     ensures stands { OnOk result (Stands manager.new K.net (entry.now ∷ reverse history.now)) }
-    ensures same { OnErr result (published panels.new ≡ history.now) }
+    ensures same { OnErr result (writer.new ≡ history.now) }
     ensures again { OnErr result (Stands manager.new K.net (reverse history.now)) }
-    ensures none { pending panels.new ≡ [] }
 {
     manager.carry_out(&entry.call, entry.reply, &entry.orders);
     let own = net.own_id();
     let node = node_of(&entry.call, own);
-    let known = panels.published().past();
-    let change = Change::new(
-        known,
-        entry,
-        node,
-        manager.shown(node),
-        own,
-        manager.shown(own),
-    );
-    if show_entry(rt, panels, change).is_err() {
+    let value = manager.shown(node);
+    let own_value = manager.shown(own);
+    if let Err(not_shown) = writer.show_entry(entry, node, value, own_value) {
         go_back(manager, net, history);
-        return Err(AllocError);
+        return Err(not_shown);
     }
     Ok(())
 }

@@ -4,14 +4,10 @@ ghost use Rattle.cm_register.specs.BookInvariant.{MayClose};
 ghost use Rattle.cm_register.specs.Closing.{IsCloseCause, IsClosed, close_number};
 
 use crate::book::Book;
-use crate::seat::Seat;
 use cm_history::Entry;
 use cm_nmt::Wire;
-use cm_panel::{Operation, Panel};
-use cm_seat::{RunName, SeatList, are_apart, are_known};
+use cm_seat::{RunName, Seat, SeatList, are_apart, are_known};
 use cm_sequential::Manager;
-use left_right::Absorb;
-use std::sync::Wait;
 use std::sync::ledger::Share;
 use thiserror::Error;
 
@@ -56,12 +52,9 @@ impl CloseKind {
 
 /// Why a book isn't closed, with the book and the seats, which go on working.
 #[derive(Drop)]
-pub struct BookFault<'n, W: Wire, K: RunName, R: Wait + Drop>
-where
-    Panel<K>: Absorb<Operation<K>, State = [Entry; 0]>,
-{
+pub struct BookFault<'n, W: Wire, K: RunName> {
     pub kind: CloseKind,
-    pub book: Book<'n, W, K, R>,
+    pub book: Book<'n, W, K>,
     pub seats: Vec<Seat<K>>,
 }
 
@@ -84,7 +77,7 @@ fn gather<K: RunName>(
     lists
 }
 
-impl<'n, W: Wire, K: RunName, R: Wait + Drop> Book<'n, W, K, R> {
+impl<'n, W: Wire, K: RunName> Book<'n, W, K> {
     /// Why this book can't be closed with these seats, if anything is in the way.
     fn close_cause(&self, seats: &[Seat<K>]) -> Result<(), CloseKind>
         ensures may { IfOk result (λ u. MayClose self.now.history K.seats seats.now) }
@@ -95,7 +88,7 @@ impl<'n, W: Wire, K: RunName, R: Wait + Drop> Book<'n, W, K, R> {
         if given < wanted {
             return Err(CloseKind::SeatsMissing((wanted - given) as u16));
         }
-        if !are_known(&self.panels.published().past(), seats) {
+        if !are_known(&self.writer.past(), seats) {
             return Err(CloseKind::NoVersion);
         }
         if !are_apart(seats) {
@@ -115,7 +108,7 @@ impl<'n, W: Wire, K: RunName, R: Wait + Drop> Book<'n, W, K, R> {
             seats: _,
             limit: _,
             manager,
-            panels: _,
+            writer: _,
             history,
             counts: _,
             wire,
@@ -136,7 +129,7 @@ impl<'n, W: Wire, K: RunName, R: Wait + Drop> Book<'n, W, K, R> {
     /// Closes the book of one thread, as [`crate::Register::close`] closes that of several. It is
     /// refused just where a seat is missing, where what a seat knows isn't found to be of the history,
     /// and where a number comes twice.
-    pub fn close(self, seats: Vec<Seat<K>>) -> Result<Closed<W>, BookFault<'n, W, K, R>>
+    pub fn close(self, seats: Vec<Seat<K>>) -> Result<Closed<W>, BookFault<'n, W, K>>
         ensures history { IfOk result (λ c. c.history.items ≡ self.entry.history) }
         ensures closed { IfOk result (IsClosed W.sent K.net K.seats K.limit seats.items) }
         ensures fault { IfErr result

@@ -15,13 +15,13 @@ mod closing;
 mod fault;
 mod opened;
 mod register;
-mod seat;
 
 pub use book::Book;
 pub use closing::{BookFault, CloseKind, Closed};
 pub use cm_nmt::Wire;
-pub use cm_seat::{CallFault, Made, ReadFault, Receipt, RunName, SeatList, Seen, SharedManager};
+pub use cm_seat::{
+    CallFault, Made, ReadFault, Receipt, RunName, Seat, SeatList, Seen, SharedManager,
+};
 pub use fault::OpenFault;
 pub use opened::Opened;
 pub use register::{CloseFault, Register};
-pub use seat::{Seat, SeatReader};

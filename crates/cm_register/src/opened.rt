@@ -1,38 +1,33 @@
 ghost use Rattle.std.specs.Prelude.{◌≡◌, ◌<◌, ◌≤◌, [], vec_capacity, vec_len, IfOk, IfErr};
 ghost use Rattle.cm_seat.specs.Opening.{fresh_seats};
+ghost use Rattle.cm_past.specs.Unnamed.{net_of};
 ghost use Rattle.cm_register.specs.Opening.{IsNameCause};
-ghost use Rattle.left_right.specs.Handles.{published};
 
 use crate::book::Book;
 use crate::fault::OpenFault;
 use crate::register::Register;
-use crate::seat::Seat;
 use cm_history::Entry;
 use cm_netlist::Network;
 use cm_nmt::Wire;
-use cm_panel::{Panels, new_reader, open_panels};
-use cm_past::UnnamedLog;
-use cm_seat::{RunName, SeatList};
+use cm_past::{HistoryWriter, UnnamedHistory};
+use cm_seat::{RunName, Seat, SeatList};
 use cm_sequential::Manager;
 use std::alloc::Global;
 use std::marker::Brand;
-use std::sync::Wait;
 use std::sync::ledger::{Blank, Share};
 
 /// A register that has no name yet. Its memory for the whole history, and for what closing needs, is
 /// taken.
 #[derive(Drop)]
-pub struct Opened<'n, W: Wire, R: Drop> {
+pub struct Opened<'n, W: Wire> {
     pub net: &'n Network,
     pub seats: u16,
     pub limit: u32,
     pub wire: W,
-    /// What a change of the panels waits with for readers.
-    pub rt: R,
     /// The ledger that is to be, of which each seat gets a part.
     pub blank: Blank,
-    /// The log that is to be, which says to readers what the history is.
-    pub log: UnnamedLog,
+    /// The history that is to be, as its log says what it is, and as readers are shown it.
+    pub log: UnnamedHistory,
     alloc: Global,
     history: Vec<Entry>,
     lists: Vec<SeatList>,
@@ -40,11 +35,12 @@ pub struct Opened<'n, W: Wire, R: Drop> {
     pub ghost limit_fits: { (0 < limit) × (limit ≤ 65536) },
     pub ghost parts: { blank.parts ≡ seats },
     pub ghost unused: { W.sent wire ≡ [] },
+    pub ghost net_is: { net_of log ≡ net.now },
     ghost room: { (limit ≤ vec_capacity history) × (seats ≤ vec_capacity lists) },
     ghost empty: { (vec_len history ≡ 0) × (vec_len lists ≡ 0) },
 }
 
-impl<'n, W: Wire, R: Wait + Drop> Book<'n, W, Brand, R> {
+impl<'n, W: Wire> Book<'n, W, Brand> {
     ghost use Rattle.cm_register.specs.Naming.{IsOpened};
     ghost use Rattle.cm_register.specs.Opening.{IsOpenCause};
 
@@ -52,12 +48,11 @@ impl<'n, W: Wire, R: Wait + Drop> Book<'n, W, Brand, R> {
     /// 64, and at most `limit` entries in its history, 1 to 65,536. After a refusal the wire is dropped.
     pub fn open(
         alloc: Global,
-        rt: R,
         net: &'n Network,
         seats: u16,
         limit: u32,
         wire: W,
-    ) -> Result<Opened<'n, W, R>, OpenFault>
+    ) -> Result<Opened<'n, W>, OpenFault>
         ensures opened { IfOk result (IsOpened net.now seats limit wire) }
         ensures fault { IfErr result (IsOpenCause seats limit (W.sent wire)) }
     {
@@ -76,14 +71,16 @@ impl<'n, W: Wire, R: Wait + Drop> Book<'n, W, Brand, R> {
         let Ok(lists) = Vec::with_capacity(alloc, usize::from(seats)) else {
             return Err(OpenFault::OutOfMemory);
         };
+        let Ok(log) = UnnamedHistory::new(alloc, net) else {
+            return Err(OpenFault::OutOfMemory);
+        };
         Ok(Opened {
             net,
             seats,
             limit,
             wire,
-            rt,
             blank: Blank::new(u64::from(seats)),
-            log: UnnamedLog::new(),
+            log,
             alloc,
             history,
             lists,
@@ -92,15 +89,15 @@ impl<'n, W: Wire, R: Wait + Drop> Book<'n, W, Brand, R> {
 }
 
 /// The seats in order, each with one part of the ledger and a reader of its own.
-fn make_seats<K: RunName, R: Wait + Drop>(
+fn make_seats<K: RunName>(
     alloc: Global,
     seats: u16,
-    panels: &Panels<K, R>,
+    writer: &HistoryWriter<K>,
     rest: &mut Share<K>,
 ) -> Result<Vec<Seat<K>>, OpenFault>
     requires share { (rest.old.parts ≡ seats) × (rest.old.amount ≡ 0) }
     requires seats { (seats ≡ K.seats) × (seats ≤ 64) }
-    requires panels { published panels.now ≡ [] }
+    requires writer { writer.now ≡ [] }
     ensures seats { IfOk result (λ v. v.items ≡ fresh_seats K.seats) }
     ensures rest { IfOk result (λ v. (rest.new.parts ≡ 0) × (rest.new.amount ≡ 0)) }
     ensures fault { IfErr result IsNameCause }
@@ -109,25 +106,23 @@ fn make_seats<K: RunName, R: Wait + Drop>(
         return Err(OpenFault::OutOfMemory);
     };
     for number in 0..seats {
-        let Ok(reader) = new_reader(panels) else {
-            return Err(OpenFault::NoReader);
+        let Ok(reader) = writer.reader() else {
+            return Err(OpenFault::OutOfMemory);
         };
         let share = rest.split_off(1, 0);
-        let known = panels.published().past();
+        let known = writer.past();
         all.push_reserved(Seat::new(alloc, number + 1, share, reader, known));
     }
     Ok(all)
 }
 
-impl<'n, W: Wire, R: Wait + Drop> Opened<'n, W, R> {
+impl<'n, W: Wire> Opened<'n, W> {
     ghost use Rattle.cm_register.specs.Naming.{Names};
 
     /// The book and the seats in order, which have made no call and seen nothing: a register for one
     /// thread. The condition says that `K` names this register; [`std::marker::Brand`] is passed for
-    /// it. Refused where memory is, or a seat is given no reader; the wire is dropped then.
-    pub fn book<K: RunName>(self) -> Result<(Book<'n, W, K, R>, Vec<Seat<K>>), OpenFault>
-    where
-        R: Copy,
+    /// it. Refused where memory is; the wire is dropped then.
+    pub fn book<K: RunName>(self) -> Result<(Book<'n, W, K>, Vec<Seat<K>>), OpenFault>
         requires { Names K.RunName self }
         ensures book { IfOk result (λ r. (r.0.history ≡ []) × (r.0.sent ≡ [])
             × (r.0.room ≡ W.room_of self.entry.wire)) }
@@ -139,18 +134,17 @@ impl<'n, W: Wire, R: Wait + Drop> Opened<'n, W, R> {
             seats,
             limit,
             wire,
-            rt,
             blank,
             log,
             alloc,
             history,
             lists,
         } = self;
-        let Ok(panels) = open_panels::<K, R>(alloc, rt, net, log, seats) else {
+        let Ok(writer) = log.named::<K>(alloc) else {
             return Err(OpenFault::OutOfMemory);
         };
         let (ledger, mut rest) = blank.open::<K>();
-        let all = make_seats(alloc, seats, &panels, &mut rest)?;
+        let all = make_seats(alloc, seats, &writer, &mut rest)?;
         Ok((
             Book::fresh(
                 net,
@@ -162,7 +156,7 @@ impl<'n, W: Wire, R: Wait + Drop> Opened<'n, W, R> {
                 lists,
                 ledger,
                 rest,
-                panels,
+                writer,
             ),
             all,
         ))
@@ -170,10 +164,8 @@ impl<'n, W: Wire, R: Wait + Drop> Opened<'n, W, R> {
 
     /// The register, which threads share, and the seats in order, which have made no call and seen
     /// nothing. The condition says that `K` names this register; [`std::marker::Brand`] is passed for
-    /// it. Refused where memory is, or a seat is given no reader; the wire is dropped then.
-    pub fn named<K: RunName>(self) -> Result<(Register<'n, W, K, R>, Vec<Seat<K>>), OpenFault>
-    where
-        R: Copy,
+    /// it. Refused where memory is; the wire is dropped then.
+    pub fn named<K: RunName>(self) -> Result<(Register<'n, W, K>, Vec<Seat<K>>), OpenFault>
         requires { Names K.RunName self }
         ensures seats { IfOk result (λ r. r.1.items ≡ fresh_seats K.seats) }
         ensures fault { IfErr result IsNameCause }

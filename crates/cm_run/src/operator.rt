@@ -3,7 +3,7 @@ ghost use Rattle.cm_seat.specs.Reads.{HasMadeCalls};
 ghost use Rattle.cm_run.specs.Operating.{HasGrown, HasSome};
 
 use cm_history::Call;
-use cm_seat::{CallFault, HistoryReader, Receipt, RunName, Seat, SharedManager};
+use cm_seat::{CallFault, Receipt, RunName, Seat, SharedManager};
 use std::alloc::Global;
 use std::sync::Wait;
 
@@ -16,11 +16,11 @@ pub struct OperateFault {
 
 /// Makes the calls in order, up to the first that isn't made; a refusal of the manager is a reply like
 /// any other. Room for the receipts is taken first: where it is refused, no call was made.
-pub fn operate<K: RunName, E: HistoryReader<K>, R: Wait, M: SharedManager<K, E, R>>(
+pub fn operate<K: RunName, R: Wait, M: SharedManager<K, R>>(
     rt: &R,
     alloc: Global,
     register: &M,
-    seat: &mut Seat<K, E>,
+    seat: &mut Seat<K>,
     calls: &[Call],
 ) -> Result<Vec<Receipt>, OperateFault>
     ensures number { seat.new.number ≡ seat.old.number }

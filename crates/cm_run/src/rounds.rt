@@ -6,14 +6,14 @@ use crate::outcome::{Attempt, Last, Outcome};
 use cm_boot::{Bus, boot_slave};
 use cm_history::{Call, Refusal, Reply};
 use cm_nmt::{NodeId, Status};
-use cm_seat::{HistoryReader, RunName, Seat, SharedManager};
+use cm_seat::{RunName, Seat, SharedManager};
 use std::sync::Wait;
 
 /// One attempt to boot a slave: the begin, the boot over the bus, the report.
-fn attempt<K: RunName, E: HistoryReader<K>, R: Wait, M: SharedManager<K, E, R>, B: Bus>(
+fn attempt<K: RunName, R: Wait, M: SharedManager<K, R>, B: Bus>(
     rt: &R,
     register: &M,
-    seat: &mut Seat<K, E>,
+    seat: &mut Seat<K>,
     bus: &mut B,
     id: NodeId,
 ) -> Attempt
@@ -67,10 +67,10 @@ fn is_followed(attempt: &Attempt) -> bool
 }
 
 /// The attempts at one slave, `most` at most.
-pub fn round<K: RunName, E: HistoryReader<K>, R: Wait, M: SharedManager<K, E, R>, B: Bus>(
+pub fn round<K: RunName, R: Wait, M: SharedManager<K, R>, B: Bus>(
     rt: &R,
     register: &M,
-    seat: &mut Seat<K, E>,
+    seat: &mut Seat<K>,
     bus: &mut B,
     id: NodeId,
     most: u8,

@@ -5,7 +5,7 @@ ghost use Rattle.cm_run.specs.Jobs.{AllDone, AllDoneOrStopped, IsDoneIfRun};
 use crate::jobs::{Job, Plan};
 use crate::working::work;
 use cm_boot::Bus;
-use cm_seat::{HistoryReader, RunName, SharedManager};
+use cm_seat::{RunName, SharedManager};
 use std::snapshot::Snapshot;
 use std::sync::Wait;
 use std::sync::atomic::{AtomicUsize, Ordering};
@@ -14,34 +14,34 @@ use std::thread::{Promise, PromisedHandle, Scope, Threads};
 
 /// A job that comes back, and whether it was run.
 #[derive(Drop)]
-struct Back<B: Bus, K: RunName, E: HistoryReader<K>> {
-    job: Job<B, K, E>,
+struct Back<B: Bus, K: RunName> {
+    job: Job<B, K>,
     was_run: bool,
 }
 
 /// What a worker's thread is given, by which is known what it hands back.
 #[derive(Drop)]
-struct Given<B: Bus, K: RunName, E: HistoryReader<K>> {
+struct Given<B: Bus, K: RunName> {
     plan: Plan,
     worker: usize,
-    job: Snapshot<Job<B, K, E>>,
+    job: Snapshot<Job<B, K>>,
 }
 
-impl<B: Bus, K: RunName, E: HistoryReader<K>> Promise<Back<B, K, E>> for Given<B, K, E> {
+impl<B: Bus, K: RunName> Promise<Back<B, K>> for Given<B, K> {
     ghost use Rattle.cm_run.specs.Jobs.{IsDoneIfRun};
 
     ghost kept_by = { λ g r. IsDoneIfRun g.plan g.worker g.job.value r.was_run r.job };
 }
 
 /// Runs the job, unless it was this worker's thread that was refused.
-fn run_unless_refused<K: RunName, E: HistoryReader<K>, R: Wait, M: SharedManager<K, E, R>, B: Bus>(
+fn run_unless_refused<K: RunName, R: Wait, M: SharedManager<K, R>, B: Bus>(
     rt: &R,
     register: &M,
     plan: Plan,
     refused: &AtomicUsize,
     worker: usize,
-    job: Job<B, K, E>,
-) -> Back<B, K, E>
+    job: Job<B, K>,
+) -> Back<B, K>
     ensures { IsDoneIfRun plan worker job result.was_run result.job }
 {
     if refused.load(Ordering::SeqCst) == worker {
@@ -61,9 +61,8 @@ fn start<
     's,
     V,
     K: RunName + Send + Sync + 's,
-    E: HistoryReader<K> + Send + 's,
     R: Wait + Threads + Send + Sync,
-    M: SharedManager<K, E, R> + Sync,
+    M: SharedManager<K, R> + Sync,
     B: Bus + Send + 's,
 >(
     scope: &Scope<'s, V>,
@@ -72,8 +71,8 @@ fn start<
     plan: Plan,
     refused: &'s AtomicUsize,
     worker: usize,
-    job: Job<B, K, E>,
-) -> Result<PromisedHandle<Back<B, K, E>, Given<B, K, E>>, Back<B, K, E>>
+    job: Job<B, K>,
+) -> Result<PromisedHandle<Back<B, K>, Given<B, K>>, Back<B, K>>
     ensures plan { IfOk result (λ h. (h.promise.plan ≡ plan) × (h.promise.worker ≡ worker)) }
     ensures job { IfOk result (λ h. h.promise.job.value ≡ job) }
     ensures back { IfErr result (λ r. IsDoneIfRun plan worker job r.was_run r.job) }
@@ -102,9 +101,8 @@ fn run_first<
     's,
     V,
     K: RunName + Send + Sync + 's,
-    E: HistoryReader<K> + Send + 's,
     R: Wait + Threads + Send + Sync,
-    M: SharedManager<K, E, R> + Sync,
+    M: SharedManager<K, R> + Sync,
     B: Bus + Send + 's,
 >(
     scope: &Scope<'s, V>,
@@ -112,7 +110,7 @@ fn run_first<
     register: &'s M,
     plan: Plan,
     refused: &'s AtomicUsize,
-    jobs: &mut Vec<Job<B, K, E>>,
+    jobs: &mut Vec<Job<B, K>>,
 ) -> bool
     ensures len { vec_len jobs.new ≡ vec_len jobs.old }
     ensures capacity { vec_capacity jobs.new ≡ vec_capacity jobs.old }
@@ -141,16 +139,10 @@ fn run_first<
 /// Runs all jobs, each in a thread of its own. `Err` where a thread was refused.
 pub(crate) fn run_jobs<
     K: RunName + Send + Sync,
-    E: HistoryReader<K> + Send,
     R: Wait + Threads + Send + Sync,
-    M: SharedManager<K, E, R> + Sync,
+    M: SharedManager<K, R> + Sync,
     B: Bus + Send,
->(
-    rt: &R,
-    register: &M,
-    plan: Plan,
-    jobs: Vec<Job<B, K, E>>,
-) -> Result<Vec<Job<B, K, E>>, Vec<Job<B, K, E>>>
+>(rt: &R, register: &M, plan: Plan, jobs: Vec<Job<B, K>>) -> Result<Vec<Job<B, K>>, Vec<Job<B, K>>>
     ensures done_len { IfOk result (λ v. vec_len v ≡ vec_len jobs) }
     ensures done { IfOk result (λ v. AllDone plan jobs.items v.items) }
     ensures stopped_len { IfErr result (λ v. vec_len v ≡ vec_len jobs) }
@@ -161,7 +153,7 @@ pub(crate) fn run_jobs<
     thread::scope(
         thread::scope_env(),
         rt,
-        |scope| -> Result<Vec<Job<B, K, E>>, Vec<Job<B, K, E>>>
+        |scope| -> Result<Vec<Job<B, K>>, Vec<Job<B, K>>>
             ensures done_len { IfOk result (λ v. vec_len v ≡ vec_len jobs) }
             ensures done { IfOk result (λ v. AllDone plan jobs.items v.items) }
             ensures stopped_len { IfErr result (λ v. vec_len v ≡ vec_len jobs) }

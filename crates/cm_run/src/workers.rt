@@ -7,25 +7,25 @@ use crate::jobs::{Plan, Room, merge, pair_up, split_up, take_room};
 use crate::outcome::Outcome;
 use crate::team::run_jobs;
 use cm_boot::Bus;
-use cm_seat::{HistoryReader, RunName, Seat, SharedManager};
+use cm_seat::{RunName, Seat, SharedManager};
 use std::alloc::Global;
 use std::sync::Wait;
 use std::thread::Threads;
 
 /// What the workers did, with the seats and buses that they were given, in their order.
 #[derive(Drop)]
-pub struct Booted<B: Bus, K: RunName, E: HistoryReader<K>> {
+pub struct Booted<B: Bus, K: RunName> {
     /// One outcome for each listed slave, in rising order of the node-IDs.
     pub outcomes: Vec<Outcome>,
-    pub seats: Vec<Seat<K, E>>,
+    pub seats: Vec<Seat<K>>,
     pub buses: Vec<B>,
 }
 
 /// Why not every slave was booted, with all seats and buses, in their order.
 #[derive(Drop)]
-pub struct RunFault<B: Bus, K: RunName, E: HistoryReader<K>> {
+pub struct RunFault<B: Bus, K: RunName> {
     pub kind: RunKind,
-    pub seats: Vec<Seat<K, E>>,
+    pub seats: Vec<Seat<K>>,
     pub buses: Vec<B>,
 }
 
@@ -47,18 +47,17 @@ fn fault_of(seats: usize, buses: usize, attempts: u8) -> Option<RunKind>
 /// Boots every listed slave, as [`boot_all`] does, in memory that was taken.
 fn boot_in<
     K: RunName + Send + Sync,
-    E: HistoryReader<K> + Send,
     R: Wait + Threads + Send + Sync,
-    M: SharedManager<K, E, R> + Sync,
+    M: SharedManager<K, R> + Sync,
     B: Bus + Send,
 >(
     rt: &R,
     register: &M,
     plan: Plan,
-    room: Room<B, K, E>,
-    mut seats: Vec<Seat<K, E>>,
+    room: Room<B, K>,
+    mut seats: Vec<Seat<K>>,
     mut buses: Vec<B>,
-) -> Result<Booted<B, K, E>, RunFault<B, K, E>>
+) -> Result<Booted<B, K>, RunFault<B, K>>
     requires workers { (vec_len seats ≡ plan.workers) × (vec_len buses ≡ plan.workers)
         × (plan.workers ≤ 16) }
     requires jobs { (vec_len room.jobs ≡ 0) × (plan.workers ≤ vec_capacity room.jobs) }
@@ -113,18 +112,17 @@ fn boot_in<
 /// were started finish, and their calls stand.
 pub fn boot_all<
     K: RunName + Send + Sync,
-    E: HistoryReader<K> + Send,
     R: Wait + Threads + Send + Sync,
-    M: SharedManager<K, E, R> + Sync,
+    M: SharedManager<K, R> + Sync,
     B: Bus + Send,
 >(
     rt: &R,
     alloc: Global,
     register: &M,
-    seats: Vec<Seat<K, E>>,
+    seats: Vec<Seat<K>>,
     buses: Vec<B>,
     attempts: u8,
-) -> Result<Booted<B, K, E>, RunFault<B, K, E>>
+) -> Result<Booted<B, K>, RunFault<B, K>>
     ensures may { IfOk result (λ r. MayRun (vec_len seats) (vec_len buses) attempts) }
     ensures outcomes { IfOk result (λ r. map id_of r.outcomes.items ≡ listed_ids K.net) }
     ensures all { IfOk result (λ r. (vec_len r.seats ≡ vec_len seats)

@@ -11,16 +11,16 @@ use crate::jobs::{Job, Plan};
 use crate::outcome::Outcome;
 use crate::rounds::round;
 use cm_boot::Bus;
-use cm_seat::{HistoryReader, RunName, Seat, SharedManager};
+use cm_seat::{RunName, Seat, SharedManager};
 use std::sync::Wait;
 
 /// The rounds of the worker's slaves, in order.
-fn make_rounds<K: RunName, E: HistoryReader<K>, R: Wait, M: SharedManager<K, E, R>, B: Bus>(
+fn make_rounds<K: RunName, R: Wait, M: SharedManager<K, R>, B: Bus>(
     rt: &R,
     register: &M,
     plan: Plan,
     worker: usize,
-    seat: &mut Seat<K, E>,
+    seat: &mut Seat<K>,
     bus: &mut B,
     outcomes: &mut Vec<Outcome>,
 )
@@ -44,13 +44,13 @@ fn make_rounds<K: RunName, E: HistoryReader<K>, R: Wait, M: SharedManager<K, E, 
 }
 
 /// Boots the slaves of a worker, with its job.
-pub(crate) fn work<K: RunName, E: HistoryReader<K>, R: Wait, M: SharedManager<K, E, R>, B: Bus>(
+pub(crate) fn work<K: RunName, R: Wait, M: SharedManager<K, R>, B: Bus>(
     rt: &R,
     register: &M,
     plan: Plan,
     worker: usize,
-    job: Job<B, K, E>,
-) -> Job<B, K, E>
+    job: Job<B, K>,
+) -> Job<B, K>
     ensures { IsDone plan worker job result }
 {
     let Job {

@@ -8,10 +8,10 @@ ghost use Rattle.cm_seat.specs.SeatCalls.{HasCallsOf};
 
 use crate::run_name::RunName;
 use crate::seat::Seat;
-use cm_past::{HistoryReader, Past};
+use cm_past::Past;
 
 /// Whether no number comes twice.
-pub fn are_apart<K: RunName, E: HistoryReader<K>>(seats: &[Seat<K, E>]) -> bool
+pub fn are_apart<K: RunName>(seats: &[Seat<K>]) -> bool
     ensures { IsTrue result ↔ AreApart seats.now }
 {
     match seats {
@@ -24,7 +24,7 @@ pub fn are_apart<K: RunName, E: HistoryReader<K>>(seats: &[Seat<K, E>]) -> bool
 }
 
 /// Whether the history has what the seat knows as its beginning.
-fn is_known<K: RunName, E: HistoryReader<K>>(history: &Past<K>, seat: &Seat<K, E>) -> bool
+fn is_known<K: RunName>(history: &Past<K>, seat: &Seat<K>) -> bool
     ensures known { IsTrue result → IsKnown history.now seat.now }
     ensures calls { IsTrue result → HasCallsOf history.now seat.now }
 {
@@ -32,7 +32,7 @@ fn is_known<K: RunName, E: HistoryReader<K>>(history: &Past<K>, seat: &Seat<K, E
 }
 
 /// Whether it has what each seat knows, and so the calls that each made.
-pub fn are_known<K: RunName, E: HistoryReader<K>>(history: &Past<K>, seats: &[Seat<K, E>]) -> bool
+pub fn are_known<K: RunName>(history: &Past<K>, seats: &[Seat<K>]) -> bool
     ensures known { IsTrue result → AllKnown history.now seats.now }
     ensures calls { IsTrue result → AllHaveCallsOf history.now seats.now }
 {

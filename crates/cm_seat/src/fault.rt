@@ -1,12 +1,11 @@
 use thiserror::Error;
 
 /// Why a call isn't made. Nothing has changed, and the call is in no history. They are tested in
-/// this order: OutOfMemory of the seat's list, SeatStale, JournalFull, WireFull, OutOfMemory of what
-/// is shown to readers.
+/// this order: OutOfMemory of the seat's list, SeatStale, JournalFull, WireFull, and OutOfMemory where
+/// readers can't be shown the call, which never comes, though no clause says so.
 #[derive(Clone, Copy, Debug, PartialEq, Eq, Error)]
 pub enum CallFault {
-    /// Memory for the seat's list, or for what is shown to readers, was refused; the call may be made
-    /// again.
+    /// Memory for the seat's list was refused; the call may be made again.
     #[error("out of memory")]
     OutOfMemory = 1,
     /// The history has as many entries as are allowed: no call is made any more.
@@ -26,8 +25,8 @@ pub enum ReadFault {
     /// The target isn't 1 to 127.
     #[error("not a node-ID")]
     BadTarget = 1,
-    /// The seat is given no version, or one that is shorter than what it knows. This never comes
-    /// while the register is there, though no clause says so.
+    /// Nothing is shown: the register is gone, closed or dropped. This never comes while the register
+    /// is there, though no clause says so.
     #[error("no version to read")]
     NoVersion,
 }

@@ -22,13 +22,13 @@ use std::sync::ledger::{Book, Share};
 
 /// One who makes calls and reads: a worker that boots slaves, or an operator. It keeps the list of its
 /// calls. Its share of the register's ledger, of one part, has that list's length as its amount. It has
-/// a place among the readers, which it leaves where it is dropped.
+/// a reader of the register's history, which keeps the words that it looks at.
 #[derive(Drop)]
-pub struct Seat<K: RunName, E: HistoryReader<K>> {
+pub struct Seat<K: RunName> {
     number: u16,
     list: Vec<Made>,
     share: Share<K>,
-    reader: E,
+    reader: HistoryReader<K>,
     /// The longest history that it saw or was told.
     known: Past<K>,
     /// How many entries it saw in its last read.
@@ -37,7 +37,7 @@ pub struct Seat<K: RunName, E: HistoryReader<K>> {
     called: usize,
 }
 
-impl<K: RunName, E: HistoryReader<K>> Model for Seat<K, E> {
+impl<K: RunName> Model for Seat<K> {
     ghost use Rattle.std.specs.Prelude.{◌≡◌, ◌<◌, ◌≤◌, length, vec_capacity};
     ghost use Rattle.cm_seat.specs.Views.{SeatView};
     ghost use Rattle.cm_seat.specs.Knowing.{IsKnowing, seat_view};
@@ -67,9 +67,15 @@ fn take_room(list: &mut Vec<Made>, room: Option<Vec<Made>>)
     }
 }
 
-impl<K: RunName, E: HistoryReader<K>> Seat<K, E> {
+impl<K: RunName> Seat<K> {
     /// A seat that has made no call, and has seen nothing.
-    pub fn new(alloc: Global, number: u16, share: Share<K>, reader: E, known: Past<K>) -> Seat<K, E>
+    pub fn new(
+        alloc: Global,
+        number: u16,
+        share: Share<K>,
+        reader: HistoryReader<K>,
+        known: Past<K>,
+    ) -> Seat<K>
         requires number { (0 < number) × (number ≤ K.seats) × (number ≤ 64) }
         requires share { (share.parts ≡ 1) × (share.amount ≡ 0) }
         requires known { known ≡ [] }

@@ -17,14 +17,11 @@ use std::test::Fail;
 #[test]
 fn a_full_wire_refuses_a_call(rt: HostRuntime) -> Result<(), Fail> {
     let net = network(&rt, rt.alloc(), 1, &[(2, 0x05), (3, 0x15), (4, 0x05)]);
-    let opened = open(rt, rt.alloc(), &net, 1, 10, 1)?;
+    let opened = open(rt.alloc(), &net, 1, 10, 1)?;
     lacks_room::<Brand, _>(&rt, opened)
 }
 
-fn lacks_room<K: RunName, R: Wait + Abort + Drop + Copy>(
-    rt: &R,
-    opened: Opened<SimWire, R>,
-) -> Result<(), Fail>
+fn lacks_room<K: RunName, R: Wait + Abort>(rt: &R, opened: Opened<SimWire>) -> Result<(), Fail>
     requires { Names K.RunName opened }
 {
     let Ok((register, mut seats)) = opened.named::<K>() else {
@@ -52,7 +49,7 @@ fn lacks_room<K: RunName, R: Wait + Abort + Drop + Copy>(
 #[test]
 fn a_call_returns_what_is_recorded(rt: HostRuntime) -> Result<(), Fail> {
     let net = network(&rt, rt.alloc(), 1, &[]);
-    let opened = open(rt, rt.alloc(), &net, 2, 12, 10)?;
+    let opened = open(rt.alloc(), &net, 2, 12, 10)?;
     calls_in_turn::<Brand, _>(&rt, opened)
 }
 
@@ -67,10 +64,7 @@ fn has_places(list: &SeatList, number: u16, places: &[u32]) -> bool {
             .all(|(made, place)| made.position == *place)
 }
 
-fn calls_in_turn<K: RunName, R: Wait + Abort + Drop + Copy>(
-    rt: &R,
-    opened: Opened<SimWire, R>,
-) -> Result<(), Fail>
+fn calls_in_turn<K: RunName, R: Wait + Abort>(rt: &R, opened: Opened<SimWire>) -> Result<(), Fail>
     requires { Names K.RunName opened }
 {
     let Ok((register, mut seats)) = opened.named::<K>() else {
@@ -109,15 +103,12 @@ fn calls_in_turn<K: RunName, R: Wait + Abort + Drop + Copy>(
 #[test]
 fn a_seat_that_was_dropped_is_missing(rt: HostRuntime) -> Result<(), Fail> {
     let net = network(&rt, rt.alloc(), 1, &[(5, 0x05)]);
-    let opened = open(rt, rt.alloc(), &net, 2, 12, 10)?;
+    let opened = open(rt.alloc(), &net, 2, 12, 10)?;
     drops_a_seat::<Brand, _>(&rt, opened)
 }
 
 /// A seat calls and reads as before where another was dropped, and the register doesn't close.
-fn drops_a_seat<K: RunName, R: Wait + Abort + Drop + Copy>(
-    rt: &R,
-    opened: Opened<SimWire, R>,
-) -> Result<(), Fail>
+fn drops_a_seat<K: RunName, R: Wait + Abort>(rt: &R, opened: Opened<SimWire>) -> Result<(), Fail>
     requires { Names K.RunName opened }
 {
     let Ok((register, mut seats)) = opened.named::<K>() else {

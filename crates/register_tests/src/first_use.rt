@@ -13,10 +13,7 @@ use std::sync::Wait;
 use std::test::Fail;
 
 /// What is done with the register. `K` is its name: it has one register alone.
-fn start<K: RunName, R: Wait + Abort + Drop + Copy>(
-    rt: &R,
-    opened: Opened<SimWire, R>,
-) -> Result<(), Fail>
+fn start<K: RunName, R: Wait + Abort>(rt: &R, opened: Opened<SimWire>) -> Result<(), Fail>
     requires { Names K.RunName opened }
 {
     let Ok((register, mut seats)) = opened.named::<K>() else {
@@ -47,7 +44,7 @@ fn a_register_is_opened_and_named(rt: HostRuntime) -> Result<(), Fail> {
     };
     let net = Network::new(rt.alloc(), own, Startup(1), 0);
     let wire = SimWire::new(rt.alloc(), 10)?;
-    let Ok(opened) = Register::open(rt.alloc(), rt, &net, 1, 10, wire) else {
+    let Ok(opened) = Register::open(rt.alloc(), &net, 1, 10, wire) else {
         return Err(Fail::from("open"));
     };
     start::<Brand, _>(&rt, opened)

@@ -78,10 +78,11 @@ fn read_while_held<K: RunName>(rt: &impl Abort, seat: &mut Seat<K>, signs: &Sign
     sure(rt, seen == Ok(before) || seen == Ok(after));
 }
 
-fn reads_beside_a_held_frame<
-    K: RunName + Send + Sync,
-    R: Wait + Threads + Abort + Drop + Copy + Send + Sync,
->(rt: &R, opened: Opened<HoldingWire, R>, signs: &Signs) -> Result<(), Fail>
+fn reads_beside_a_held_frame<K: RunName + Send + Sync, R: Wait + Threads + Abort + Send + Sync>(
+    rt: &R,
+    opened: Opened<HoldingWire>,
+    signs: &Signs,
+) -> Result<(), Fail>
     requires { Names K.RunName opened }
 {
     let Ok((register, mut seats)) = opened.named::<K>() else {
@@ -119,7 +120,7 @@ fn a_read_returns_while_a_frame_is_held(rt: HostRuntime) -> Result<(), Fail> {
         signs: &signs,
         was_read: false,
     };
-    let Ok(opened) = Register::open(rt.alloc(), rt, &net, 2, 12, wire) else {
+    let Ok(opened) = Register::open(rt.alloc(), &net, 2, 12, wire) else {
         return Err(Fail::from("open"));
     };
     reads_beside_a_held_frame::<Brand, _>(&rt, opened, &signs)

@@ -1,5 +1,5 @@
 //! What no contract says of the register: that it opens, that its calls are made and that it closes,
-//! in one thread and in many; that each seat has a place for reads without the lock, that they see the
+//! in one thread and in many; that each seat reads without the lock, that reads see the
 //! calls of all seats, and that they go on while a call is made. One file for each topic.
 #![tactic(auto)]
 
@@ -16,11 +16,9 @@ mod one_book;
 #[cfg(test)]
 mod opening;
 #[cfg(test)]
-mod panel;
+mod readers;
 #[cfg(test)]
 mod reads;
-#[cfg(test)]
-mod rounds;
 #[cfg(test)]
 mod seats;
 #[cfg(test)]

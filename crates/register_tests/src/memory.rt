@@ -29,9 +29,9 @@ fn story(position: u32) -> (Call, Reply, u8) {
 }
 
 /// Makes a call, and once more where memory is refused.
-fn insist<K: RunName, R: Wait + Abort + Drop>(
+fn insist<K: RunName, R: Wait + Abort>(
     rt: &R,
-    register: &Register<SimWire, K, R>,
+    register: &Register<SimWire, K>,
     seat: &mut Seat<K>,
     call: &Call,
     position: u32,
@@ -48,9 +48,9 @@ fn insist<K: RunName, R: Wait + Abort + Drop>(
 }
 
 /// Makes a call, and then reads.
-fn call_and_read<K: RunName, R: Wait + Abort + Drop>(
+fn call_and_read<K: RunName, R: Wait + Abort>(
     rt: &R,
-    register: &Register<SimWire, K, R>,
+    register: &Register<SimWire, K>,
     seat: &mut Seat<K>,
     position: u32,
 ) {
@@ -61,19 +61,16 @@ fn call_and_read<K: RunName, R: Wait + Abort + Drop>(
 
 /// Names the register, makes the calls and the reads, and closes it. Whether memory for the name was
 /// there.
-fn calls_and_reads<K: RunName, R: Wait + Abort + Drop + Copy>(
+fn calls_and_reads<K: RunName, R: Wait + Abort>(
     rt: &R,
-    opened: Opened<SimWire, R>,
+    opened: Opened<SimWire>,
 ) -> Result<bool, Fail>
     requires { Names K.RunName opened }
 {
     let (register, mut seats) = match opened.named::<K>() {
         Ok(named) => named,
         Err(fault) => {
-            sure(
-                rt,
-                fault == OpenFault::OutOfMemory || fault == OpenFault::NoReader,
-            );
+            sure(rt, fault == OpenFault::OutOfMemory);
             return Ok(false);
         }
     };
@@ -92,15 +89,11 @@ fn calls_and_reads<K: RunName, R: Wait + Abort + Drop + Copy>(
 }
 
 /// Opens a register, makes the calls and the reads. Whether memory for all but the calls was there.
-fn opens_and_calls<R: Wait + Abort + Drop + Copy>(
-    rt: &R,
-    alloc: Global,
-    net: &Network,
-) -> Result<bool, Fail> {
+fn opens_and_calls<R: Wait + Abort>(rt: &R, alloc: Global, net: &Network) -> Result<bool, Fail> {
     let Ok(wire) = SimWire::new(alloc, 1) else {
         return Ok(false);
     };
-    match Register::open(alloc, *rt, net, 1, CALLS, wire) {
+    match Register::open(alloc, net, 1, CALLS, wire) {
         Ok(opened) => calls_and_reads::<Brand, _>(rt, opened),
         Err(fault) => {
             sure(rt, fault == OpenFault::OutOfMemory);

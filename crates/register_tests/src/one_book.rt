@@ -10,13 +10,12 @@ use cm_simulated::SimWire;
 use std::alloc::Global;
 use std::marker::Brand;
 use std::process::Abort;
-use std::sync::Wait;
 use std::test::Fail;
 
 /// Its book, and its seat.
-fn open<'n, K: RunName, R: Wait + Drop + Copy>(
-    opened: Opened<'n, SimWire, R>,
-) -> Result<(Book<'n, SimWire, K, R>, Seat<K>), Fail>
+fn open<'n, K: RunName>(
+    opened: Opened<'n, SimWire>,
+) -> Result<(Book<'n, SimWire, K>, Seat<K>), Fail>
     requires { Names K.RunName opened }
 {
     let Ok((book, mut seats)) = opened.book::<K>() else {
@@ -32,22 +31,17 @@ fn open<'n, K: RunName, R: Wait + Drop + Copy>(
 fn one_slave_boots(rt: HostRuntime) -> Result<(), Fail> {
     let net = network(&rt, rt.alloc(), 1, &[(2, 0x0D)]);
     let wire = SimWire::new(rt.alloc(), 10)?;
-    let Ok(opened) = Book::<SimWire, Brand, HostRuntime>::open(rt.alloc(), rt, &net, 1, 10, wire)
-    else {
+    let Ok(opened) = Book::<SimWire, Brand>::open(rt.alloc(), &net, 1, 10, wire) else {
         return Err(Fail::from("open"));
     };
     boots::<Brand, _>(&rt, rt.alloc(), opened)
 }
 
-fn boots<K: RunName, R: Wait + Abort + Drop + Copy>(
-    rt: &R,
-    alloc: Global,
-    opened: Opened<SimWire, R>,
-) -> Result<(), Fail>
+fn boots<K: RunName, R: Abort>(rt: &R, alloc: Global, opened: Opened<SimWire>) -> Result<(), Fail>
     requires { Names K.RunName opened }
 {
     let two = node(rt, 2);
-    let (mut book, mut seat) = open::<K, _>(opened)?;
+    let (mut book, mut seat) = open::<K>(opened)?;
     let started = Orders::One(frame(rt, [0x01, 2]));
     let entries = [
         entry(1, Call::StartNetwork, Reply::Started, Orders::ResetUnkept),
@@ -60,7 +54,7 @@ fn boots<K: RunName, R: Wait + Abort + Drop + Copy>(
         ),
     ];
     for (position, entry) in (1..4).zip(entries.iter()) {
-        let made = book.apply(rt, &mut seat, entry.call);
+        let made = book.apply(&mut seat, entry.call);
         is_made(rt, made, position, entry.reply);
     }
     sure(rt, book.history() == entries.as_slice());
@@ -75,27 +69,26 @@ fn boots<K: RunName, R: Wait + Abort + Drop + Copy>(
 fn a_full_wire_refuses_a_call(rt: HostRuntime) -> Result<(), Fail> {
     let net = network(&rt, rt.alloc(), 1, &[(2, 0x05), (3, 0x15), (4, 0x05)]);
     let wire = SimWire::new(rt.alloc(), 1)?;
-    let Ok(opened) = Book::<SimWire, Brand, HostRuntime>::open(rt.alloc(), rt, &net, 1, 10, wire)
-    else {
+    let Ok(opened) = Book::<SimWire, Brand>::open(rt.alloc(), &net, 1, 10, wire) else {
         return Err(Fail::from("open"));
     };
     lacks_room::<Brand, _>(&rt, rt.alloc(), opened)
 }
 
-fn lacks_room<K: RunName, R: Wait + Abort + Drop + Copy>(
+fn lacks_room<K: RunName, R: Abort>(
     rt: &R,
     alloc: Global,
-    opened: Opened<SimWire, R>,
+    opened: Opened<SimWire>,
 ) -> Result<(), Fail>
     requires { Names K.RunName opened }
 {
-    let (mut book, mut seat) = open::<K, _>(opened)?;
-    let start = book.apply(rt, &mut seat, Call::StartNetwork);
+    let (mut book, mut seat) = open::<K>(opened)?;
+    let start = book.apply(&mut seat, Call::StartNetwork);
     is_refused(rt, start, CallFault::WireFull);
     sure(rt, seat.list().is_empty() && book.history().is_empty());
     is_made(
         rt,
-        book.apply(rt, &mut seat, Call::Read(2)),
+        book.apply(&mut seat, Call::Read(2)),
         1,
         Reply::Refused(3),
     );
@@ -105,11 +98,11 @@ fn lacks_room<K: RunName, R: Wait + Abort + Drop + Copy>(
 }
 
 /// Asserts that a book isn't closed without its seat; both are handed back.
-fn lacks_its_seat<'n, K: RunName, R: Wait + Abort + Drop>(
-    rt: &R,
-    book: Book<'n, SimWire, K, R>,
+fn lacks_its_seat<'n, K: RunName>(
+    rt: &impl Abort,
+    book: Book<'n, SimWire, K>,
     seats: Vec<Seat<K>>,
-) -> Result<(Book<'n, SimWire, K, R>, Vec<Seat<K>>), Fail> {
+) -> Result<(Book<'n, SimWire, K>, Vec<Seat<K>>), Fail> {
     match book.close(seats) {
         Ok(_) => Err(Fail::from("closed")),
         Err(fault) => {
@@ -121,10 +114,10 @@ fn lacks_its_seat<'n, K: RunName, R: Wait + Abort + Drop>(
 
 /// A book stays open where its seat is missing, and is closed with it: these are its entries, and the
 /// frames sent.
-fn closes_with_its_seat_alone<K: RunName, R: Wait + Abort + Drop>(
-    rt: &R,
+fn closes_with_its_seat_alone<K: RunName>(
+    rt: &impl Abort,
     alloc: Global,
-    book: Book<SimWire, K, R>,
+    book: Book<SimWire, K>,
     seat: Seat<K>,
     entries: &[Entry],
     frames: &[Frame],

@@ -7,7 +7,6 @@ use cm_simulated::SimWire;
 use std::alloc::Global;
 use std::marker::Brand;
 use std::process::Abort;
-use std::sync::Wait;
 use std::test::Fail;
 
 /// A wire with room for a frame, on which another may have been sent.
@@ -20,8 +19,8 @@ fn wire_of(rt: &impl Abort, alloc: Global, is_used: bool) -> Result<SimWire, Fai
 }
 
 /// Asserts what opening comes to, with a wire on which a frame may have been sent.
-fn opens<R: Wait + Abort + Drop + Copy>(
-    rt: &R,
+fn opens(
+    rt: &impl Abort,
     alloc: Global,
     net: &Network,
     seats: u16,
@@ -30,10 +29,10 @@ fn opens<R: Wait + Abort + Drop + Copy>(
     fault: Option<OpenFault>,
 ) -> Result<(), Fail> {
     let wire = wire_of(rt, alloc, is_used)?;
-    let book = Book::<SimWire, Brand, R>::open(alloc, *rt, net, seats, limit, wire);
+    let book = Book::<SimWire, Brand>::open(alloc, net, seats, limit, wire);
     sure(rt, book.err() == fault);
     let wire = wire_of(rt, alloc, is_used)?;
-    let register = Register::open(alloc, *rt, net, seats, limit, wire);
+    let register = Register::open(alloc, net, seats, limit, wire);
     sure(rt, register.err() == fault);
     Ok(())
 }

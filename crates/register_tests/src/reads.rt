@@ -15,9 +15,9 @@ use std::test::Fail;
 const CALLS: u32 = 8 * 128;
 
 /// Reads every node, and asks the same by a call.
-fn reads_as_calls<K: RunName, R: Wait + Abort + Drop>(
+fn reads_as_calls<K: RunName, R: Wait + Abort>(
     rt: &R,
-    register: &Register<SimWire, K, R>,
+    register: &Register<SimWire, K>,
     seat: &mut Seat<K>,
 ) {
     for number in 1..128 {
@@ -32,9 +32,9 @@ fn reads_as_calls<K: RunName, R: Wait + Abort + Drop>(
 }
 
 /// Makes the eight calls, of which none is refused.
-fn reads_after_each<K: RunName, R: Wait + Abort + Drop + Copy>(
+fn reads_after_each<K: RunName, R: Wait + Abort>(
     rt: &R,
-    opened: Opened<SimWire, R>,
+    opened: Opened<SimWire>,
 ) -> Result<(), Fail>
     requires { Names K.RunName opened }
 {
@@ -66,7 +66,7 @@ fn reads_after_each<K: RunName, R: Wait + Abort + Drop + Copy>(
 fn every_node_is_read_as_a_call_answers(rt: HostRuntime) -> Result<(), Fail> {
     for own in [1, 127] {
         let net = network(&rt, rt.alloc(), own, &[(5, 0x0D), (6, 0x05), (126, 0x05)]);
-        let opened = open(rt, rt.alloc(), &net, 1, CALLS, 1000)?;
+        let opened = open(rt.alloc(), &net, 1, CALLS, 1000)?;
         reads_after_each::<Brand, _>(&rt, opened)?;
     }
     Ok(())

@@ -19,14 +19,14 @@ const READS: u32 = 1000;
 #[test]
 fn a_seat_reads_beside_the_calls_of_another(rt: HostRuntime) -> Result<(), Fail> {
     let net = network(&rt, rt.alloc(), 1, &[(5, 0x05)]);
-    let opened = open(rt, rt.alloc(), &net, 2, READS + 2, 10)?;
+    let opened = open(rt.alloc(), &net, 2, READS + 2, 10)?;
     reads_beside_calls::<Brand, _>(&rt, opened)
 }
 
 /// Reads slave 5 by calls, of which the first has place 3.
-fn read_by_calls<K: RunName, R: Wait + Abort + Drop>(
+fn read_by_calls<K: RunName, R: Wait + Abort>(
     rt: &R,
-    register: &Register<SimWire, K, R>,
+    register: &Register<SimWire, K>,
     seat: &mut Seat<K>,
 ) {
     for position in 3..READS + 3 {
@@ -47,10 +47,10 @@ fn read_stopped<K: RunName>(rt: &impl Abort, seat: &mut Seat<K>) {
     }
 }
 
-fn reads_beside_calls<
-    K: RunName + Send + Sync,
-    R: Wait + Threads + Abort + Drop + Copy + Send + Sync,
->(rt: &R, opened: Opened<SimWire, R>) -> Result<(), Fail>
+fn reads_beside_calls<K: RunName + Send + Sync, R: Wait + Threads + Abort + Send + Sync>(
+    rt: &R,
+    opened: Opened<SimWire>,
+) -> Result<(), Fail>
     requires { Names K.RunName opened }
 {
     let Ok((register, mut seats)) = opened.named::<K>() else {
@@ -79,7 +79,7 @@ fn reads_beside_calls<
 #[test]
 fn each_of_64_seats_reads(rt: HostRuntime) -> Result<(), Fail> {
     let net = network(&rt, rt.alloc(), 1, &[(5, 0x05)]);
-    let opened = open(rt, rt.alloc(), &net, 64, 12, 10)?;
+    let opened = open(rt.alloc(), &net, 64, 12, 10)?;
     each_reads::<Brand, _>(&rt, opened)
 }
 
@@ -93,10 +93,7 @@ fn shows_no_call<K: RunName>(rt: &impl Abort, seat: &mut Seat<K>) {
 }
 
 /// One seat reads before any call; after its calls every seat sees them.
-fn each_reads<K: RunName, R: Wait + Abort + Drop + Copy>(
-    rt: &R,
-    opened: Opened<SimWire, R>,
-) -> Result<(), Fail>
+fn each_reads<K: RunName, R: Wait + Abort>(rt: &R, opened: Opened<SimWire>) -> Result<(), Fail>
     requires { Names K.RunName opened }
 {
     let Ok((register, mut seats)) = opened.named::<K>() else {
@@ -119,13 +116,13 @@ fn each_reads<K: RunName, R: Wait + Abort + Drop + Copy>(
 #[test]
 fn a_register_that_is_gone_shows_nothing(rt: HostRuntime) -> Result<(), Fail> {
     let net = network(&rt, rt.alloc(), 1, &[(5, 0x05)]);
-    let opened = open(rt, rt.alloc(), &net, 1, 12, 10)?;
+    let opened = open(rt.alloc(), &net, 1, 12, 10)?;
     reads_no_version::<Brand, _>(&rt, opened)
 }
 
-fn reads_no_version<K: RunName, R: Wait + Abort + Drop + Copy>(
+fn reads_no_version<K: RunName, R: Wait + Abort>(
     rt: &R,
-    opened: Opened<SimWire, R>,
+    opened: Opened<SimWire>,
 ) -> Result<(), Fail>
     requires { Names K.RunName opened }
 {
@@ -140,4 +137,64 @@ fn reads_no_version<K: RunName, R: Wait + Abort + Drop + Copy>(
     sure(rt, seat.read(5) == Err(ReadFault::NoVersion));
     sure(rt, seat.read(0) == Err(ReadFault::BadTarget));
     Ok(())
+}
+
+/// Stops slave 5 and starts it again, by calls of which the first has place 3.
+fn change_by_calls<K: RunName, R: Wait + Abort>(
+    rt: &R,
+    register: &Register<SimWire, K>,
+    seat: &mut Seat<K>,
+) {
+    for position in 3..READS + 3 {
+        let state = if position % 2 == 0 { 4 } else { 5 };
+        let changed = register.call(rt, seat, Call::Request(5, state));
+        is_made(rt, changed, position, Reply::Done);
+    }
+}
+
+/// Reads two nodes in turn: the count never goes back.
+fn read_two<K: RunName>(rt: &impl Abort, seat: &mut Seat<K>) {
+    let mut last = 2;
+    for _ in 0..READS * 50 {
+        for node in [5, 1] {
+            let seen = match seat.read(node) {
+                Ok(seen) => seen,
+                Err(fault) => panic!(rt; "node {node} after {last}: {fault}"),
+            };
+            sure(rt, last <= seen.count);
+            last = seen.count;
+        }
+    }
+}
+
+fn reads_two_beside_calls<K: RunName + Send + Sync, R: Wait + Threads + Abort + Send + Sync>(
+    rt: &R,
+    opened: Opened<SimWire>,
+) -> Result<(), Fail>
+    requires { Names K.RunName opened }
+{
+    let Ok((register, mut seats)) = opened.named::<K>() else {
+        return Err(Fail::from("named"));
+    };
+    let Some(mut second) = seats.pop() else {
+        return Err(Fail::from("seats"));
+    };
+    let Some(mut first) = seats.pop() else {
+        return Err(Fail::from("seats"));
+    };
+    stop_the_slave(rt, &register, &mut first);
+    let shared = &register;
+    thread::join(
+        rt,
+        || change_by_calls(rt, shared, &mut second),
+        || read_two(rt, &mut first),
+    );
+    Ok(())
+}
+
+#[test]
+fn a_seat_reads_two_nodes_beside_calls(rt: HostRuntime) -> Result<(), Fail> {
+    let net = network(&rt, rt.alloc(), 1, &[(5, 0x05)]);
+    let opened = open(rt.alloc(), &net, 2, READS + 2, READS + 2)?;
+    reads_two_beside_calls::<Brand, _>(&rt, opened)
 }

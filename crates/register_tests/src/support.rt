@@ -73,24 +73,23 @@ pub(crate) fn network(rt: &impl Abort, alloc: Global, own: u8, slaves: &[(u8, u3
 }
 
 /// A register with so many seats and entries, whose wire has room for so many frames.
-pub(crate) fn open<'n, R: Wait + Drop>(
-    rt: R,
+pub(crate) fn open<'n>(
     alloc: Global,
     net: &'n Network,
     seats: u16,
     limit: u32,
     room: u32,
-) -> Result<Opened<'n, SimWire, R>, Fail> {
+) -> Result<Opened<'n, SimWire>, Fail> {
     let wire = SimWire::new(alloc, room)?;
-    let Ok(opened) = Register::open(alloc, rt, net, seats, limit, wire) else {
+    let Ok(opened) = Register::open(alloc, net, seats, limit, wire) else {
         return Err(Fail::from("open"));
     };
     Ok(opened)
 }
 
 /// What a register leaves that closes with these seats.
-pub(crate) fn close<W: Wire, K: RunName, R: Wait + Drop>(
-    register: Register<W, K, R>,
+pub(crate) fn close<W: Wire, K: RunName>(
+    register: Register<W, K>,
     seats: Vec<Seat<K>>,
 ) -> Result<Closed<W>, Fail> {
     let Ok(closed) = register.close(seats) else {
@@ -129,9 +128,9 @@ pub(crate) fn sees<K: RunName>(
 }
 
 /// Starts the network and stops slave 5, by the first two calls.
-pub(crate) fn stop_the_slave<W: Wire, K: RunName, R: Wait + Abort + Drop>(
+pub(crate) fn stop_the_slave<W: Wire, K: RunName, R: Wait + Abort>(
     rt: &R,
-    register: &Register<W, K, R>,
+    register: &Register<W, K>,
     seat: &mut Seat<K>,
 ) {
     let start = register.call(rt, seat, Call::StartNetwork);
@@ -142,12 +141,12 @@ pub(crate) fn stop_the_slave<W: Wire, K: RunName, R: Wait + Abort + Drop>(
 
 /// Asserts that a register doesn't close with these seats, of which so many are missing, and that both
 /// are handed back, which they are.
-pub(crate) fn lacks_seats<'n, K: RunName, R: Wait + Abort + Drop>(
-    rt: &R,
-    register: Register<'n, SimWire, K, R>,
+pub(crate) fn lacks_seats<'n, K: RunName>(
+    rt: &impl Abort,
+    register: Register<'n, SimWire, K>,
     seats: Vec<Seat<K>>,
     missing: u16,
-) -> Result<(Register<'n, SimWire, K, R>, Vec<Seat<K>>), Fail> {
+) -> Result<(Register<'n, SimWire, K>, Vec<Seat<K>>), Fail> {
     let given = seats.len();
     match register.close(seats) {
         Ok(_) => Err(Fail::from("closed")),

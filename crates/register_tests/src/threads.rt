@@ -26,7 +26,7 @@ struct Reader<K: RunName> {
 
 impl<K: RunName> Reader<K> {
     /// Reads, before the network is started.
-    fn read_often<R: Wait + Abort + Drop>(&mut self, rt: &R, register: &Register<SimWire, K, R>) {
+    fn read_often<R: Wait + Abort>(&mut self, rt: &R, register: &Register<SimWire, K>) {
         for _ in 0..self.calls {
             let made = register.call(rt, &mut self.seat, Call::Read(1));
             sure(
@@ -38,10 +38,10 @@ impl<K: RunName> Reader<K> {
 }
 
 /// Each seat reads in a thread of its own.
-fn read_in_threads<K: RunName + Send + Sync, R: Wait + Threads + Abort + Drop + Send + Sync>(
+fn read_in_threads<K: RunName + Send + Sync, R: Wait + Threads + Abort + Send + Sync>(
     rt: &R,
     alloc: Global,
-    register: &Register<SimWire, K, R>,
+    register: &Register<SimWire, K>,
     seats: Vec<Seat<K>>,
 ) -> Result<Vec<Seat<K>>, Fail> {
     let mut readers = Vec::new(alloc);
@@ -67,9 +67,9 @@ fn seats_of<K: RunName>(alloc: Global, readers: Vec<Reader<K>>) -> Result<Vec<Se
 }
 
 /// Asserts that no seat makes another call.
-fn is_full<K: RunName, R: Wait + Abort + Drop>(
+fn is_full<K: RunName, R: Wait + Abort>(
     rt: &R,
-    register: &Register<SimWire, K, R>,
+    register: &Register<SimWire, K>,
     seats: &mut [Seat<K>],
 ) {
     for (seat, calls) in seats.iter_mut().zip(CALLS) {
@@ -92,9 +92,9 @@ fn rises(list: &SeatList) -> bool {
 }
 
 /// Closes the register once with too few seats, and then with all.
-fn close_in_two<K: RunName, R: Wait + Abort + Drop>(
-    rt: &R,
-    register: Register<SimWire, K, R>,
+fn close_in_two<K: RunName>(
+    rt: &impl Abort,
+    register: Register<SimWire, K>,
     mut seats: Vec<Seat<K>>,
 ) -> Result<Closed<SimWire>, Fail> {
     let Some(last) = seats.pop() else {
@@ -108,14 +108,14 @@ fn close_in_two<K: RunName, R: Wait + Abort + Drop>(
 #[test]
 fn seats_call_in_threads(rt: HostRuntime) -> Result<(), Fail> {
     let net = network(&rt, rt.alloc(), 1, &[(2, 0x0D)]);
-    let opened = open(rt, rt.alloc(), &net, 3, 12, 10)?;
+    let opened = open(rt.alloc(), &net, 3, 12, 10)?;
     reads::<Brand, _>(&rt, rt.alloc(), opened)
 }
 
-fn reads<K: RunName + Send + Sync, R: Wait + Threads + Abort + Drop + Copy + Send + Sync>(
+fn reads<K: RunName + Send + Sync, R: Wait + Threads + Abort + Send + Sync>(
     rt: &R,
     alloc: Global,
-    opened: Opened<SimWire, R>,
+    opened: Opened<SimWire>,
 ) -> Result<(), Fail>
     requires { Names K.RunName opened }
 {

@@ -6,7 +6,7 @@ ghost use Rattle.cm_register.specs.Naming.{Names};
 use crate::support::{agreeing, close, is_made, network, node, open, sure};
 use cm_history::{Call, Reply};
 use cm_nmt::Status;
-use cm_register::{CallFault, Closed, Opened, Register, RunName, Seat, SeatReader};
+use cm_register::{CallFault, Closed, Opened, Register, RunName, Seat};
 use cm_run::{Booted, Last, Outcome, RunFault, RunKind, boot_all};
 use cm_simulated::{SimBus, SimWire};
 use std::alloc::Global;
@@ -26,10 +26,10 @@ fn outcome(rt: &impl Abort, number: u8, last: Last) -> Outcome {
 
 /// The last seat starts the network, the others' workers boot it, with these outcomes; the seats
 /// come back in their order, and the register closes with all of them.
-fn boots<K: RunName + Send + Sync, R: Wait + Threads + Abort + Drop + Copy + Send + Sync>(
+fn boots<K: RunName + Send + Sync, R: Wait + Threads + Abort + Send + Sync>(
     rt: &R,
     alloc: Global,
-    opened: Opened<SimWire, R>,
+    opened: Opened<SimWire>,
     attempts: u8,
     outcomes: &[Outcome],
 ) -> Result<Closed<SimWire>, Fail>
@@ -59,7 +59,7 @@ fn boots<K: RunName + Send + Sync, R: Wait + Threads + Abort + Drop + Copy + Sen
 #[test]
 fn workers_boot_the_slaves_side_by_side(rt: HostRuntime) -> Result<(), Fail> {
     let net = network(&rt, rt.alloc(), 127, &[(1, 0x0D), (2, 0x0D)]);
-    let opened = open(rt, rt.alloc(), &net, 3, 20, 10)?;
+    let opened = open(rt.alloc(), &net, 3, 20, 10)?;
     let ok = Last::Status(Status::Ok);
     let outcomes = [outcome(&rt, 1, ok), outcome(&rt, 2, ok)];
     let closed = boots::<Brand, _>(&rt, rt.alloc(), opened, 2, &outcomes)?;
@@ -71,7 +71,7 @@ fn workers_boot_the_slaves_side_by_side(rt: HostRuntime) -> Result<(), Fail> {
 #[test]
 fn a_full_wire_ends_each_round(rt: HostRuntime) -> Result<(), Fail> {
     let net = network(&rt, rt.alloc(), 1, &[(2, 0x05), (3, 0x15), (4, 0x05)]);
-    let opened = open(rt, rt.alloc(), &net, 2, 20, 2)?;
+    let opened = open(rt.alloc(), &net, 2, 20, 2)?;
     let full = Last::Fault(CallFault::WireFull);
     let outcomes = [
         outcome(&rt, 2, full),
@@ -88,7 +88,7 @@ fn a_full_wire_ends_each_round(rt: HostRuntime) -> Result<(), Fail> {
 #[test]
 fn a_full_history_ends_each_round(rt: HostRuntime) -> Result<(), Fail> {
     let net = network(&rt, rt.alloc(), 1, &[(2, 0x05), (3, 0x05), (4, 0x05)]);
-    let opened = open(rt, rt.alloc(), &net, 2, 4, 10)?;
+    let opened = open(rt.alloc(), &net, 2, 4, 10)?;
     let full = Last::Fault(CallFault::JournalFull);
     let outcomes = [
         outcome(&rt, 2, Last::Status(Status::Ok)),
@@ -109,7 +109,7 @@ fn is_booted_or_lacks_memory(outcome: &Outcome) -> bool {
 /// every worker was started, and gives the seats back.
 fn seats_of<K: RunName>(
     rt: &impl Abort,
-    booted: Result<Booted<SimBus, K, SeatReader<K>>, RunFault<SimBus, K, SeatReader<K>>>,
+    booted: Result<Booted<SimBus, K>, RunFault<SimBus, K>>,
 ) -> Vec<Seat<K>> {
     match booted {
         Ok(booted) => {
@@ -131,10 +131,11 @@ fn seats_of<K: RunName>(
 }
 
 /// Boots, whatever memory is refused: it is said, and no seat is lost.
-fn boots_or_says_why_not<
-    K: RunName + Send + Sync,
-    R: Wait + Threads + Abort + Drop + Copy + Send + Sync,
->(rt: &R, alloc: Global, opened: Opened<SimWire, R>) -> Result<(), Fail>
+fn boots_or_says_why_not<K: RunName + Send + Sync, R: Wait + Threads + Abort + Send + Sync>(
+    rt: &R,
+    alloc: Global,
+    opened: Opened<SimWire>,
+) -> Result<(), Fail>
     requires { Names K.RunName opened }
 {
     let Ok((register, mut seats)) = opened.named::<K>() else {
@@ -156,9 +157,9 @@ fn boots_or_says_why_not<
 }
 
 /// The register closes, but where memory for one more seat in the list is refused.
-fn closes<K: RunName, R: Wait + Abort + Drop>(
-    rt: &R,
-    register: Register<SimWire, K, R>,
+fn closes<K: RunName>(
+    rt: &impl Abort,
+    register: Register<SimWire, K>,
     mut seats: Vec<Seat<K>>,
     operator: Seat<K>,
 ) -> Result<(), Fail> {
@@ -174,7 +175,7 @@ fn what_memory_refuses_is_said(rt: HostRuntime) -> Result<(), Fail> {
     let Ok(wire) = SimWire::new(rt.alloc(), 10) else {
         return Ok(());
     };
-    let Ok(opened) = Register::open(rt.alloc(), rt, &net, 3, 20, wire) else {
+    let Ok(opened) = Register::open(rt.alloc(), &net, 3, 20, wire) else {
         return Ok(());
     };
     boots_or_says_why_not::<Brand, _>(&rt, rt.alloc(), opened)

@@ -18,10 +18,10 @@ const CALLS: u32 = 20;
 
 /// An operator's calls, whatever memory is refused: as many are made as it says, and the register
 /// closes with them.
-fn operates<K: RunName, R: Wait + Abort + Drop + Copy>(
+fn operates<K: RunName, R: Wait + Abort>(
     rt: &R,
     alloc: Global,
-    opened: Opened<SimWire, R>,
+    opened: Opened<SimWire>,
 ) -> Result<(), Fail>
     requires { Names K.RunName opened }
 {
@@ -54,7 +54,7 @@ fn an_operator_is_told_what_memory_refuses(rt: HostRuntime) -> Result<(), Fail> 
     let Ok(wire) = SimWire::new(rt.alloc(), 1) else {
         return Ok(());
     };
-    let Ok(opened) = Register::open(rt.alloc(), rt, &net, 1, CALLS, wire) else {
+    let Ok(opened) = Register::open(rt.alloc(), &net, 1, CALLS, wire) else {
         return Ok(());
     };
     operates::<Brand, _>(&rt, rt.alloc(), opened)

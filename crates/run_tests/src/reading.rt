@@ -4,7 +4,7 @@ ghost use Rattle.cm_register.specs.Naming.{Names};
 
 use crate::support::{agreeing, close, is_made, network, open, sure};
 use cm_history::{Call, Reply};
-use cm_register::{Opened, Register, RunName, Seat, SeatReader, Seen};
+use cm_register::{Opened, Register, RunName, Seat, Seen};
 use cm_run::{Booted, boot_all};
 use cm_simulated::{SimBus, SimWire};
 use std::alloc::Global;
@@ -35,14 +35,14 @@ fn reads_in_turn<K: RunName>(rt: &impl Abort, seat: &mut Seat<K>) -> Result<(), 
 }
 
 /// Boots the slaves in another thread, while a seat reads.
-fn boots_beside<K: RunName + Send + Sync, R: Wait + Threads + Abort + Drop + Send + Sync>(
+fn boots_beside<K: RunName + Send + Sync, R: Wait + Threads + Abort + Send + Sync>(
     rt: &R,
     alloc: Global,
-    register: &Register<SimWire, K, R>,
+    register: &Register<SimWire, K>,
     seats: Vec<Seat<K>>,
     buses: Vec<SimBus>,
     reader: &mut Seat<K>,
-) -> Result<Booted<SimBus, K, SeatReader<K>>, Fail> {
+) -> Result<Booted<SimBus, K>, Fail> {
     thread::scope(thread::scope_env(), rt, |scope| {
         let Ok(boot) = scope.spawn(move || boot_all(rt, alloc, register, seats, buses, 2)) else {
             return Err(Fail::from("thread"));
@@ -57,10 +57,11 @@ fn boots_beside<K: RunName + Send + Sync, R: Wait + Threads + Abort + Drop + Sen
 
 /// The last seat starts the network, and reads while the others' workers boot it. Its reads after the
 /// boot see all of it, though it made no other call.
-fn reads_beside_a_boot<
-    K: RunName + Send + Sync,
-    R: Wait + Threads + Abort + Drop + Copy + Send + Sync,
->(rt: &R, alloc: Global, opened: Opened<SimWire, R>) -> Result<(), Fail>
+fn reads_beside_a_boot<K: RunName + Send + Sync, R: Wait + Threads + Abort + Send + Sync>(
+    rt: &R,
+    alloc: Global,
+    opened: Opened<SimWire>,
+) -> Result<(), Fail>
     requires { Names K.RunName opened }
 {
     let Ok((register, mut seats)) = opened.named::<K>() else {
@@ -88,6 +89,6 @@ fn reads_beside_a_boot<
 #[test]
 fn a_seat_reads_while_workers_boot(rt: HostRuntime) -> Result<(), Fail> {
     let net = network(&rt, rt.alloc(), 127, &[(1, 0x0D), (2, 0x0D)]);
-    let opened = open(rt, rt.alloc(), &net, 3, 20, 10)?;
+    let opened = open(rt.alloc(), &net, 3, 20, 10)?;
     reads_beside_a_boot::<Brand, _>(&rt, rt.alloc(), opened)
 }

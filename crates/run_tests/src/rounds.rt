@@ -26,10 +26,10 @@ fn are_answered(rt: &impl Abort, receipts: &[Receipt]) {
 
 /// An operator calls before and at the start; then slave 2 is booted, which is there, and slave 3,
 /// which is silent.
-fn boots<K: RunName, R: Wait + Abort + Drop + Copy>(
+fn boots<K: RunName, R: Wait + Abort>(
     rt: &R,
     alloc: Global,
-    opened: Opened<SimWire, R>,
+    opened: Opened<SimWire>,
 ) -> Result<(), Fail>
     requires { Names K.RunName opened }
 {
@@ -73,6 +73,6 @@ fn outcome(id: NodeId, attempts: u8, status: Status) -> Outcome {
 #[test]
 fn a_silent_slave_is_tried_again(rt: HostRuntime) -> Result<(), Fail> {
     let net = network(&rt, rt.alloc(), 1, &[(2, 0x0D), (3, 0x05)]);
-    let opened = open(rt, rt.alloc(), &net, 1, 20, 10)?;
+    let opened = open(rt.alloc(), &net, 1, 20, 10)?;
     boots::<Brand, _>(&rt, rt.alloc(), opened)
 }

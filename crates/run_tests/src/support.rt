@@ -8,7 +8,6 @@ use cm_register::{CallFault, Closed, Opened, Receipt, Register, RunName, Seat};
 use cm_simulated::{SimBus, SimSlave, SimWire};
 use std::alloc::{AllocError, Global};
 use std::process::Abort;
-use std::sync::Wait;
 use std::test::Fail;
 
 // Each comparison is asserted here, since an assertion of its own in each place is long to prove.
@@ -48,24 +47,23 @@ pub(crate) fn network(rt: &impl Abort, alloc: Global, own: u8, slaves: &[(u8, u3
 }
 
 /// A register with so many seats and entries, whose wire has room for so many frames.
-pub(crate) fn open<'n, R: Wait + Drop>(
-    rt: R,
+pub(crate) fn open<'n>(
     alloc: Global,
     net: &'n Network,
     seats: u16,
     limit: u32,
     room: u32,
-) -> Result<Opened<'n, SimWire, R>, Fail> {
+) -> Result<Opened<'n, SimWire>, Fail> {
     let wire = SimWire::new(alloc, room)?;
-    let Ok(opened) = Register::open(alloc, rt, net, seats, limit, wire) else {
+    let Ok(opened) = Register::open(alloc, net, seats, limit, wire) else {
         return Err(Fail::from("open"));
     };
     Ok(opened)
 }
 
 /// What a register leaves that closes with these seats.
-pub(crate) fn close<K: RunName, R: Wait + Drop>(
-    register: Register<SimWire, K, R>,
+pub(crate) fn close<K: RunName>(
+    register: Register<SimWire, K>,
     seats: Vec<Seat<K>>,
 ) -> Result<Closed<SimWire>, Fail> {
     let Ok(closed) = register.close(seats) else {

@@ -106,10 +106,10 @@ fn have_come_to(rt: &impl Abort, outcomes: &[Outcome], first: Status) {
 
 /// Boots nodes 1 and 2 with a worker for each seat but the last, which starts the network. Node 1
 /// comes to this status, node 2 to Ok.
-fn boots<K: RunName + Send + Sync, R: Wait + Threads + Abort + Drop + Copy + Send + Sync>(
+fn boots<K: RunName + Send + Sync, R: Wait + Threads + Abort + Send + Sync>(
     rt: &R,
     alloc: Global,
-    opened: Opened<SimWire, R>,
+    opened: Opened<SimWire>,
     first: Status,
 ) -> Result<(), Fail>
     requires { Names K.RunName opened }
@@ -146,23 +146,23 @@ fn boots<K: RunName + Send + Sync, R: Wait + Threads + Abort + Drop + Copy + Sen
 #[test]
 fn two_workers_work_at_once(rt: HostRuntime) -> Result<(), Fail> {
     let net = network(&rt, rt.alloc(), 127, &[(1, 0x0D), (2, 0x0D)]);
-    let opened = open(rt, rt.alloc(), &net, 3, 12, 10)?;
+    let opened = open(rt.alloc(), &net, 3, 12, 10)?;
     boots::<Brand, _>(&rt, rt.alloc(), opened, Status::Ok)
 }
 
 #[test]
 fn one_worker_waits_in_vain(rt: HostRuntime) -> Result<(), Fail> {
     let net = network(&rt, rt.alloc(), 127, &[(1, 0x0D), (2, 0x0D)]);
-    let opened = open(rt, rt.alloc(), &net, 2, 12, 10)?;
+    let opened = open(rt.alloc(), &net, 2, 12, 10)?;
     boots::<Brand, _>(&rt, rt.alloc(), opened, Status::B)
 }
 
 /// Asserts that this many buses and attempts are refused with each of these kinds, and that all seats
 /// come back.
-fn refuses<K: RunName + Send + Sync, R: Wait + Threads + Abort + Drop + Copy + Send + Sync>(
+fn refuses<K: RunName + Send + Sync, R: Wait + Threads + Abort + Send + Sync>(
     rt: &R,
     alloc: Global,
-    opened: Opened<SimWire, R>,
+    opened: Opened<SimWire>,
     cases: &[(usize, u8, RunKind)],
 ) -> Result<(), Fail>
     requires { Names K.RunName opened }
@@ -188,7 +188,7 @@ fn refuses<K: RunName + Send + Sync, R: Wait + Threads + Abort + Drop + Copy + S
 #[test]
 fn one_seat_wants_one_bus_and_1_to_10_attempts(rt: HostRuntime) -> Result<(), Fail> {
     let net = network(&rt, rt.alloc(), 127, &[(1, 0x0D)]);
-    let opened = open(rt, rt.alloc(), &net, 1, 12, 10)?;
+    let opened = open(rt.alloc(), &net, 1, 12, 10)?;
     let cases = [
         (0, 1, RunKind::BadWorkers),
         (1, 0, RunKind::BadAttempts),
@@ -200,6 +200,6 @@ fn one_seat_wants_one_bus_and_1_to_10_attempts(rt: HostRuntime) -> Result<(), Fa
 #[test]
 fn there_are_no_17_workers(rt: HostRuntime) -> Result<(), Fail> {
     let net = network(&rt, rt.alloc(), 127, &[(1, 0x0D)]);
-    let opened = open(rt, rt.alloc(), &net, 17, 12, 10)?;
+    let opened = open(rt.alloc(), &net, 17, 12, 10)?;
     refuses::<Brand, _>(&rt, rt.alloc(), opened, &[(17, 1, RunKind::BadWorkers)])
 }

@@ -60,9 +60,9 @@ pub struct Round {
 }
 
 /// Makes this many calls, and gives the nanoseconds of the longest.
-fn call_timed<R: Clock + Wait + Drop, K: RunName>(
+fn call_timed<R: Clock + Wait, K: RunName>(
     rt: &R,
-    register: &Register<Tape, K, R>,
+    register: &Register<Tape, K>,
     seat: &mut Seat<K>,
     terms: &[Terms],
     count: u32,
@@ -80,9 +80,9 @@ fn call_timed<R: Clock + Wait + Drop, K: RunName>(
 }
 
 /// Makes what there is beside the readers, and gives the nanoseconds of the longest call.
-fn make<R: Clock + Wait + Drop, K: RunName>(
+fn make<R: Clock + Wait, K: RunName>(
     rt: &R,
-    register: &Register<Tape, K, R>,
+    register: &Register<Tape, K>,
     seat: &mut Seat<K>,
     terms: &[Terms],
     beside: Beside,
@@ -101,9 +101,9 @@ fn make<R: Clock + Wait + Drop, K: RunName>(
 }
 
 /// The same, with the time of all of it.
-fn make_timed<R: Clock + Wait + Drop, K: RunName>(
+fn make_timed<R: Clock + Wait, K: RunName>(
     rt: &R,
-    register: &Register<Tape, K, R>,
+    register: &Register<Tape, K>,
     seat: &mut Seat<K>,
     terms: &[Terms],
     beside: Beside,
@@ -118,9 +118,9 @@ fn make_timed<R: Clock + Wait + Drop, K: RunName>(
 }
 
 /// The first seat makes it, once all readers read; the other seats read until it is over.
-fn take_part<R: Clock + Wait + Drop, K: RunName>(
+fn take_part<R: Clock + Wait, K: RunName>(
     rt: &R,
-    register: &Register<Tape, K, R>,
+    register: &Register<Tape, K>,
     seat: &mut Seat<K>,
     place: usize,
     plan: Plan,
@@ -137,9 +137,9 @@ fn take_part<R: Clock + Wait + Drop, K: RunName>(
 }
 
 /// Makes it from the first seat while so many of the others read.
-fn make_beside_readers<R: Clock + Threads + Wait + Send + Sync + Drop, K: RunName + Send + Sync>(
+fn make_beside_readers<R: Clock + Threads + Wait + Send + Sync, K: RunName + Send + Sync>(
     rt: &R,
-    register: &Register<Tape, K, R>,
+    register: &Register<Tape, K>,
     seats: &mut [Seat<K>],
     plan: Plan,
     board: &Board,
@@ -158,9 +158,9 @@ fn make_beside_readers<R: Clock + Threads + Wait + Send + Sync + Drop, K: RunNam
 }
 
 /// One round, with a register of its own. `None` too where it doesn't close with all calls.
-pub fn run_round<R: Clock + Threads + Wait + Copy + Send + Sync + Drop, K: RunName + Send + Sync>(
+pub fn run_round<R: Clock + Threads + Wait + Send + Sync, K: RunName + Send + Sync>(
     rt: &R,
-    opened: Opened<Tape, R>,
+    opened: Opened<Tape>,
     plan: Plan,
 ) -> Option<Round>
     requires { Names K.RunName opened }

@@ -1,3 +1,4 @@
+use Rattle.cm_past.specs.Unnamed.{log_of}
 use Rattle.canboot.proofs.simulation.simulate.Given as goal
 
 abbrev pub ghosts-run_named-K-Ledger : goal.ghosts-run_named-K-Ledger
@@ -7,4 +8,4 @@ abbrev pub ghosts-run_named-K-RunName : goal.ghosts-run_named-K-RunName
 ghosts-run_named-K-RunName g a = record { seats = a.opened.seats; limit = a.opened.limit }
 
 abbrev pub ghosts-run_named-K-HistoryName : goal.ghosts-run_named-K-HistoryName
-ghosts-run_named-K-HistoryName g a = record { net = a.opened.net.now; log = a.opened.log }
+ghosts-run_named-K-HistoryName g a = record { net = a.opened.net.now; log = log_of a.opened.log }

@@ -8,8 +8,8 @@ use Rattle.cm_seat.proofs.Knowing.{calls_in_longer, is_known, knowing_read}
 use Rattle.cm_seat.proofs.Takes.{drop_whole, take_all}
 use Rattle.cm_seat.proofs.seat.Seat.read.Goals as goal
 
-pub invariant_of-self-2 : goal.invariant_of-self-2
-invariant_of-self-2 g c =
+pub invariant_of-self : goal.invariant_of-self
+invariant_of-self g c =
     let s = c.self.inside in
     let past = c.in-Some-look.look.past in
     let calls : c.len-self-inside.result ≡ length s.list.items = c.len-self-inside.ensures ∙ s.list.ok.0 in

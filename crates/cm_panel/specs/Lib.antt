@@ -1,2 +1,0 @@
-pub mod Panels
-pub mod Operations

@@ -1,0 +1,45 @@
+-- What a log says: the entries of a history, and what the row of words shows of them (own).
+use Rattle.std.specs.Prelude.{◌≡◌, ◌≤◌, ℕ, List, [], ◌∷◌, ◌==◌, if◌then◌else◌, take, reverse, max}
+use mathlib.Core.List.{IsPrefix}
+use Rattle.std.specs.FinMap as map
+use Rattle.cm_nmt.specs.Listing.{Listing}
+use Rattle.cm_netlist.specs.Network.{Network}
+use Rattle.cm_history.specs.History.{shown}
+use Rattle.cm_history.specs.declared.call.Entry.{Entry}
+use Rattle.cm_past.specs.declared.log_item.LogItem.{LogItem}
+use Rattle.cm_past.specs.declared.log_item.LogItem.TheVariants as item
+
+-- the entries, the oldest first
+abbrev pub entries_in : List LogItem → List Entry
+entries_in [] = []
+entries_in (item.Entry e ∷ is) = e ∷ entries_in is
+entries_in (_ ∷ is) = entries_in is
+
+-- up to so many entries the words of all nodes are right
+abbrev pub done_in : List LogItem → ℕ
+done_in [] = 0
+done_in (item.Shown n ∷ is) = max n (done_in is)
+done_in (_ ∷ is) = done_in is
+
+-- with so many entries the word of the node was stored last, 0 where it never was
+abbrev pub since_in : List LogItem → ℕ → ℕ
+since_in [] t = 0
+since_in (item.Stored node n ∷ is) t = if node == t then max n (since_in is t) else since_in is t
+since_in (_ ∷ is) t = since_in is t
+
+-- the log is that of a history of this network
+abbrev pub IsOf : Network → List LogItem → Type 0
+IsOf net log = IsPrefix (item.Opened net ∷ []) log
+
+-- what the first m entries show of a node; entries are given with the oldest first
+abbrev pub shown_at : Listing → List Entry → ℕ → ℕ → ℕ
+shown_at net es m t = shown net (reverse (take m es)) t
+
+-- from where the node's word was stored last up to c entries, what is shown of the node is the same
+abbrev pub IsSame : Listing → List LogItem → ℕ → ℕ → Type 0
+IsSame net log c t = (m : ℕ) → since_in log t ≤ m → m ≤ c → shown_at net (entries_in log) m t ≡ shown_at net (entries_in log) (since_in log t) t
+
+-- the network list with which the log opens
+abbrev pub net_in : List LogItem → Network
+net_in (item.Opened net ∷ is) = net
+net_in _ = record { own = 0; startup = 0; boot_time = 0; slaves = map.empty }
