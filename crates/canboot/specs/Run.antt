@@ -4,6 +4,7 @@ use Rattle.std.specs.Io.KnownBytes.{Appends}
 use Rattle.cm_nmt.specs.Bits.{has_bit}
 use Rattle.cm_netlist.specs.Network.{Network}
 use Rattle.cm_format.specs.Text.{JournalView, text}
+use Rattle.cm_format.specs.declared.version.Version.TheVariants.{Two}
 use Rattle.cm_format.specs.Journals.{IsJournal}
 use Rattle.cm_format.specs.Report.{report_text}
 use Rattle.canboot_check.specs.Check.{IsFaultyText, IsList}
@@ -14,10 +15,11 @@ AppendsIfThere (Some old) (Some new) bytes = Appends old new bytes
 AppendsIfThere None None bytes = Unit {0}
 AppendsIfThere _ _ bytes = ⊥
 
--- the input was read to its end and is the network list of this journal, whose entries are legal, and which has a seat
--- for each of this many workers and one more, and a limit of 4,096 entries
+-- the input was read to its end and is the network list of this journal, which is of version 2, whose entries are legal,
+-- and which has a seat for each of this many workers and one more, and a limit of 4,096 entries
 pub record IsRun (workers : ℕ) (input input' : Option (List ℕ)) (j : JournalView) : Type 0 where
   pub list : IsList input input' j.network
+  pub version : j.version ≡ Two
   pub journal : IsJournal j
   pub seats : j.seats ≡ workers + 1
   pub limit : j.limit ≡ 4096

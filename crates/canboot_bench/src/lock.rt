@@ -4,7 +4,7 @@ ghost use Rattle.cm_register.specs.Naming.{Names};
 
 use crate::caller::{Caller, call_often};
 use crate::network::{SLAVES, full_network, listed_terms};
-use crate::opening::{MOST_ENTRIES, open_register};
+use crate::opening::{LIMIT, open_register};
 use crate::tape::Tape;
 use cm_history::Call;
 use cm_netlist::Network;
@@ -132,7 +132,7 @@ pub fn measure<R: Clock + Print + AllocGlobal + Threads + Wait + Send + Sync>(
     threads: u16,
 ) -> Option<()> {
     let all = count.saturating_mul(u32::from(threads.max(1)));
-    if count == 0 || MOST_THREADS < threads || MOST_ENTRIES <= all {
+    if count == 0 || MOST_THREADS < threads || LIMIT <= all {
         return None;
     }
     let net = full_network(rt.alloc(), SLAVES)?;

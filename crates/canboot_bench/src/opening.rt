@@ -7,7 +7,7 @@ use cm_netlist::Network;
 use cm_register::{Opened, Register};
 
 /// How many entries a register may have.
-pub const MOST_ENTRIES: u32 = 65_536;
+pub const LIMIT: u32 = 65_536;
 
 /// How many frames a call sends at most.
 const MOST_FRAMES: u32 = 126;
@@ -20,8 +20,8 @@ pub fn open_register<'n, R: AllocGlobal>(
 ) -> Option<Opened<'n, Tape>>
     ensures { IfSome result (λ o. (o.net.now ≡ net.now) × (o.seats ≡ seats)) }
 {
-    let tape = Tape::new(rt.alloc(), MOST_ENTRIES.saturating_add(MOST_FRAMES))?;
-    let Ok(opened) = Register::open(rt.alloc(), net, seats, MOST_ENTRIES, tape) else {
+    let tape = Tape::new(rt.alloc(), LIMIT.saturating_add(MOST_FRAMES))?;
+    let Ok(opened) = Register::open(rt.alloc(), net, seats, LIMIT, tape) else {
         return None;
     };
     Some(opened)

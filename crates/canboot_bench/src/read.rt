@@ -7,7 +7,7 @@ mod reader;
 mod round;
 
 use crate::network::{SLAVES, full_network, listed_terms};
-use crate::opening::{MOST_ENTRIES, open_register};
+use crate::opening::{LIMIT, open_register};
 use crate::timing::median;
 use cm_netlist::Network;
 use cm_nmt::Terms;
@@ -167,7 +167,7 @@ pub fn measure<R: Clock + Print + AllocGlobal + Threads + Wait + Send + Sync>(
     count: u32,
     readers: usize,
 ) -> Option<()> {
-    if count == 0 || MOST_ENTRIES <= count || MOST_READERS < readers {
+    if count == 0 || LIMIT <= count || MOST_READERS < readers {
         return None;
     }
     let net = full_network(rt.alloc(), SLAVES)?;

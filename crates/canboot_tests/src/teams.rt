@@ -24,16 +24,11 @@ const SEATS: u16 = 64;
 
 const THREADS: usize = 16;
 
-const LIMIT: u32 = 65_536;
-
-/// How many calls each seat makes.
-const CALLS: u32 = 1024;
-
 /// The time in seconds that all of it takes at most.
 const MOST_SECONDS: u64 = 30;
 
-/// How many calls the boot of one slave has, until it is lost again.
-const ROUND: u8 = 8;
+/// How many calls the boot of one slave has, until it is lost, held and released again.
+const ROUND: u8 = 10;
 
 /// Answers with which a slave of which no value is expected boots.
 fn answers() -> Answers {
@@ -67,6 +62,8 @@ impl<K: RunName> Caller<K> {
             4 => Call::Request(id.get(), 127),
             5 => Call::Elapsed(1),
             6 => Call::Lost(id),
+            7 => Call::Hold(id),
+            8 => Call::Release(id),
             _ => Call::StartNetwork,
         }
     }
@@ -91,9 +88,9 @@ impl<K: RunName> Caller<K> {
         }
     }
 
-    /// Makes calls until there are enough.
-    fn call_often<R: Wait>(&mut self, rt: &R, register: &Register<SimWire, K>) {
-        for _ in self.made..CALLS {
+    /// Makes calls until there are so many.
+    fn call_often<R: Wait>(&mut self, rt: &R, register: &Register<SimWire, K>, calls: u32) {
+        for _ in self.made..calls {
             let call = self.next_call();
             if let Ok(receipt) = register.call(rt, &mut self.seat, call) {
                 self.go_on(receipt.reply);
@@ -122,25 +119,27 @@ fn callers_of<K: RunName>(
     Ok(callers)
 }
 
-/// Asserts that every caller made its calls, and gives the seats back.
+/// Asserts that every caller made so many calls, and gives the seats back.
 fn seats_of<K: RunName>(
     rt: &impl Abort,
     alloc: Global,
     callers: Vec<Caller<K>>,
+    calls: u32,
 ) -> Result<Vec<Seat<K>>, Fail> {
     let mut seats = Vec::new(alloc);
     for caller in callers {
-        sure(rt, caller.made == CALLS);
+        sure(rt, caller.made == calls);
         seats.push(caller.seat)?;
     }
     Ok(seats)
 }
 
-/// Seat 1 starts the network, and then all seats make their calls, four in each thread.
-fn calls<K: RunName + Send + Sync, R: Wait + Threads + Abort + Send + Sync>(
+/// Seat 1 starts the network, and then all seats make so many calls, four seats in each thread.
+fn make_calls<K: RunName + Send + Sync, R: Wait + Threads + Abort + Send + Sync>(
     rt: &R,
     alloc: Global,
     opened: Opened<SimWire>,
+    calls: u32,
 ) -> Result<Closed<SimWire>, Fail>
     requires { Names K.RunName opened }
 {
@@ -162,9 +161,9 @@ fn calls<K: RunName + Send + Sync, R: Wait + Threads + Abort + Send + Sync>(
         rt,
         callers.as_mut_slice(),
         THREADS,
-        &|_, caller| { caller.call_often(rt, &register) },
+        &|_, caller| { caller.call_often(rt, &register, calls) },
     );
-    let Ok(closed) = register.close(seats_of(rt, alloc, callers)?) else {
+    let Ok(closed) = register.close(seats_of(rt, alloc, callers, calls)?) else {
         return Err(Fail::from("close"));
     };
     Ok(closed)
@@ -182,23 +181,39 @@ fn full_network(alloc: Global) -> Result<Network, Fail> {
     Ok(net)
 }
 
+/// Fills a history of this limit with the calls of all seats, the same number of each, and asserts that
+/// its journal is replayed.
+fn fill<R: Wait + Threads + Abort + Send + Sync>(
+    rt: &R,
+    alloc: Global,
+    limit: u32,
+) -> Result<(), Fail> {
+    let net = full_network(alloc)?;
+    let wire = SimWire::new(alloc, limit.saturating_mul(2))?;
+    let Ok(opened) = Register::open(alloc, &net, SEATS, limit, wire) else {
+        return Err(Fail::from("open"));
+    };
+    let closed = make_calls::<Brand, _>(rt, alloc, opened, limit / u32::from(SEATS))?;
+    let entries = closed.history.as_slice();
+    sure(rt, entries.len() == limit as usize);
+    let mut text: Vec<u8> = Vec::new(alloc);
+    journal_write(&net, SEATS, limit, entries, &mut text)?;
+    let mut out: Vec<u8> = Vec::new(alloc);
+    let mut err: Vec<u8> = Vec::new(alloc);
+    let status = replay_text(alloc, &mut text.as_slice(), &mut out, &mut err);
+    sure(rt, status == 0 && err.is_empty());
+    Ok(())
+}
+
 #[test]
 fn teams_make_65536_calls(rt: HostRuntime) -> Result<(), Fail> {
     let begin = Instant::now(&rt)?;
-    let net = full_network(rt.alloc())?;
-    let wire = SimWire::new(rt.alloc(), 100_000)?;
-    let Ok(opened) = Register::open(rt.alloc(), &net, SEATS, LIMIT, wire) else {
-        return Err(Fail::from("open"));
-    };
-    let closed = calls::<Brand, _>(&rt, rt.alloc(), opened)?;
-    let entries = closed.history.as_slice();
-    sure(&rt, entries.len() == LIMIT as usize);
-    let mut text: Vec<u8> = Vec::new(rt.alloc());
-    journal_write(&net, SEATS, LIMIT, entries, &mut text)?;
-    let mut out: Vec<u8> = Vec::new(rt.alloc());
-    let mut err: Vec<u8> = Vec::new(rt.alloc());
-    let status = replay_text(rt.alloc(), &mut text.as_slice(), &mut out, &mut err);
-    sure(&rt, status == 0 && err.is_empty());
+    fill(&rt, rt.alloc(), 65_536)?;
     sure(&rt, begin.elapsed(&rt)?.as_secs() < MOST_SECONDS);
     Ok(())
+}
+
+#[test]
+fn teams_make_131072_calls(rt: HostRuntime) -> Result<(), Fail> {
+    fill(&rt, rt.alloc(), 131_072)
 }

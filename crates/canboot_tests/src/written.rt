@@ -6,7 +6,14 @@ use std::process::Abort;
 use std::test::Fail;
 
 const JOURNAL: &[u8] =
-    b"canboot journal 1\nnetwork own 1 startup 00000001 boottime 0 seats 2 limit 16\nslave 2 assign 0000000D type 00020192 vendor 00000123 product 00000000 revision 00000000 serial 00000000 heartbeat 100 date 00000000 time 00000000 writes 2\nwrite 1017 00 2 0064\nwrite 6060 00 1 08\nentry 1 start = started / reset-unkept\nentry 2 begin 2 = begun 1 / none\nentry 2 report 2 1 00020192 00000123 - - - - - - 2 - preoperational = status Ok / one 01 02\nentry 1 read 2 = state 5 / none\nend 4\n";
+    b"canboot journal 2\nnetwork own 1 startup 00000001 boottime 0 seats 2 limit 16\nslave 2 assign 0000000D type 00020192 vendor 00000123 product 00000000 revision 00000000 serial 00000000 heartbeat 100 date 00000000 time 00000000 writes 2\nwrite 1017 00 2 0064\nwrite 6060 00 1 08\nentry 1 start = started / reset-unkept\nentry 2 begin 2 = begun 1 / none\nentry 2 report 2 1 00020192 00000123 - - - - - - 2 - preoperational = status Ok / one 01 02\nentry 1 read 2 = state 5 / none\nend 4\n";
+
+/// The first line of each version.
+const FIRST_LINES: [&[u8]; 2] = [b"canboot journal 1\n", b"canboot journal 2\n"];
+
+/// A history of version 2 alone.
+const HELD: &[u8] =
+    b"canboot journal 2\nnetwork own 1 startup 00000001 boottime 0 seats 2 limit 1048576\nslave 2 assign 0000000D type 00020192 vendor 00000000 product 00000000 revision 00000000 serial 00000000 heartbeat 0 date 00000000 time 00000000 writes 0\nentry 1 start = started / reset-unkept\nentry 2 hold 2 = done / one 02 02\nentry 1 begin 2 = refused 14 / none\nentry 2 release 2 = done / none\nentry 2 release 2 = refused 15 / none\nend 5\n";
 
 const REPORT: &[u8] =
     b"phase ready\nown operational\nentries 4\nopen 0\nframe 82 00\nframe 01 02\nslave 2 state 5 booted yes session 0 last Ok\n";
@@ -33,7 +40,7 @@ fn text_of(alloc: Global, journal: &Journal) -> Result<Vec<u8>, Fail> {
 /// A journal with so many starts of the network, of which the first is granted.
 fn starts(alloc: Global, count: u32) -> Result<String, AllocError> {
     let mut text = String::new(alloc);
-    text.push_str("canboot journal 1\n")?;
+    text.push_str("canboot journal 2\n")?;
     text.push_str("network own 1 startup 00000001 boottime 0 seats 1 limit 65536\n")?;
     text.push_str("entry 1 start = started / reset-unkept\n")?;
     for _ in 1..count {
@@ -53,6 +60,39 @@ fn what_is_written_is_what_was_read(rt: HostRuntime) -> Result<(), Fail> {
     let mut out: Vec<u8> = Vec::new(rt.alloc());
     report(&journal.network, journal.entries.as_slice(), &mut out)?;
     sure(&rt, out.as_slice() == REPORT);
+    Ok(())
+}
+
+#[test]
+fn holds_are_written_as_they_were_read(rt: HostRuntime) -> Result<(), Fail> {
+    let Ok(journal) = journal_read(rt.alloc(), HELD) else {
+        return Err(Fail::from("refused"));
+    };
+    sure(&rt, journal.version == 2);
+    let text = text_of(rt.alloc(), &journal)?;
+    sure(&rt, text.as_slice() == HELD);
+    Ok(())
+}
+
+#[test]
+fn a_journal_of_version_1_is_written_as_version_2(rt: HostRuntime) -> Result<(), Fail> {
+    let [first, second] = FIRST_LINES;
+    let Some(rest) = JOURNAL.strip_prefix(second) else {
+        return Err(Fail::from("first line"));
+    };
+    let mut old: Vec<u8> = Vec::new(rt.alloc());
+    old.extend_from_slice(first)?;
+    old.extend_from_slice(rest)?;
+    let Ok(journal) = journal_read(rt.alloc(), old.as_slice()) else {
+        return Err(Fail::from("refused"));
+    };
+    sure(&rt, journal.version == 1);
+    let text = text_of(rt.alloc(), &journal)?;
+    sure(&rt, text.as_slice() == JOURNAL);
+    let Ok(again) = journal_read(rt.alloc(), text.as_slice()) else {
+        return Err(Fail::from("refused again"));
+    };
+    sure(&rt, again.version == 2);
     Ok(())
 }
 

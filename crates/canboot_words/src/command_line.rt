@@ -50,14 +50,15 @@ const ABOUT: &str = "The NMT master of a CANopen network (CiA 301, CiA 302-2)";
 const ABOUT_REPLAY: &str = "Reads a journal on standard input and prints its status report";
 
 const HELP_REPLAY: &str =
-    "Reads a journal (version 1, a text of ASCII lines, at most 268,435,456 bytes) on standard \
+    "Reads a journal (version 1 or 2, a text of ASCII lines, at most 268,435,456 bytes) on standard \
 input to its end, makes sure that it is a legal history, and prints the status report of that \
 history on standard output: the phase, the manager's own NMT state, the number of entries and of \
-mandatory slaves that aren't booted, each NMT frame sent, and a line for each listed slave.
+mandatory slaves that aren't booted, each NMT frame sent, and a line for each listed slave, which \
+ends with 'held' where an operator holds it.
 
 A journal has these lines, with one space between two fields:
 
-  canboot journal 1
+  canboot journal 2                              or canboot journal 1
   network own ID startup 1F80h boottime 1F89h seats N limit N
   slave ID assign 1F81h type 1F84h vendor 1F85h product 1F86h revision 1F87h serial 1F88h \
 heartbeat MS date 1F26h time 1F27h writes N      for each slave, in rising node-ID
@@ -66,7 +67,9 @@ heartbeat MS date 1F26h time 1F27h writes N      for each slave, in rising node-
   end N                                          with the number of entries
 
 CALL is start, begin ID, report ID SESSION ANSWERS, signal ID BYTE, lost ID, request TARGET VALUE, \
-read TARGET or elapsed MS. MS of elapsed is the time in ms since the network was started, and not \
+read TARGET, elapsed MS, and in version 2 also hold ID and release ID, with which an operator takes \
+a slave out of booting and gives it back. The limit of the network's line is 1 to 1,048,576, in \
+version 1 to 65,536. MS of elapsed is the time in ms since the network was started, and not \
 since the last such call. The objects but boottime, the answers' values and the bytes are in \
 hexadecimal, all other numbers in decimal; docs/FORMATS.md has every range, the answers, replies and \
 orders.

@@ -38,6 +38,8 @@ decided_last net (call.Lost i) reply.TimeUp open_slaves p e = halted_last p e
 decided_last net (call.Request t v) reply.TimeUp open_slaves p e = halted_last p e
 decided_last net (call.Read t) reply.TimeUp open_slaves p e = halted_last p e
 decided_last net (call.Elapsed ms) reply.TimeUp open_slaves p e = halted_last p e
+decided_last net (call.Hold i) reply.TimeUp open_slaves p e = halted_last p e
+decided_last net (call.Release i) reply.TimeUp open_slaves p e = halted_last p e
 decided_last net call.StartNetwork reply.InTime open_slaves p e = ready_last (is_empty open_slaves) p e
 decided_last net (call.Begin i) reply.InTime open_slaves p e = ready_last (is_empty open_slaves) p e
 decided_last net (call.Report i n a) reply.InTime open_slaves p e = ready_last (is_empty open_slaves) p e
@@ -46,6 +48,8 @@ decided_last net (call.Lost i) reply.InTime open_slaves p e = ready_last (is_emp
 decided_last net (call.Request t v) reply.InTime open_slaves p e = ready_last (is_empty open_slaves) p e
 decided_last net (call.Read t) reply.InTime open_slaves p e = ready_last (is_empty open_slaves) p e
 decided_last net (call.Elapsed ms) reply.InTime open_slaves p e = ready_last (is_empty open_slaves) p e
+decided_last net (call.Hold i) reply.InTime open_slaves p e = ready_last (is_empty open_slaves) p e
+decided_last net (call.Release i) reply.InTime open_slaves p e = ready_last (is_empty open_slaves) p e
 decided_last net c r open_slaves p e = cc
 
 first_of : (start : Bool) (f d : Option Phase) (p : Phase) → cond start None (option_or f d) ≡ Some p → (f ≡ Some p → (is_ready p || is_halted p) ≡ true)

@@ -18,7 +18,7 @@ use Rattle.cm_history.specs.declared.slave.Slave.{Slave}
 use Rattle.cm_history.specs.Orders.{to_all, is_all, is_reset_all, is_reset_node}
 use Rattle.cm_history.specs.History.{becomes_operational, begun_number, is_good_report, is_granted, is_handled, is_noted, is_reset_value, only_if, reported}
 use Rattle.cm_history.specs.Answering.{blank_slave, node_named}
-use Rattle.cm_history.specs.Machine.{Machine, open_in, slave_after, slaves_after, phase_then, phase_after, own_after, after}
+use Rattle.cm_history.specs.Machine.{Machine, open_in, slave_after, slaves_after, phase_then, phase_after, own_after, held_after, after}
 use Rattle.cm_history.proofs.Runs.{machine_parts}
 
 -- ---- a slave that isn't reached
@@ -67,6 +67,9 @@ unreached net (call.Request t v) r o i s one few other unlisted =
     rw ((not_all o one).0, few, other, and_false (is_granted r), and_false (is_reset_value v), and_false (is_granted r), state_stays (is_listed net i) s unlisted) refl
 unreached net (call.Read t) r o i s one few other unlisted = rw ((not_all o one).0, state_stays (is_listed net i) s unlisted) refl
 unreached net (call.Elapsed ms) r o i s one few other unlisted = rw ((not_all o one).0, state_stays (is_listed net i) s unlisted) refl
+unreached net (call.Hold j) r o i s one few other unlisted =
+    rw ((not_all o one).0, other, and_false (is_granted r), state_stays (is_listed net i) s unlisted) refl
+unreached net (call.Release j) r o i s one few other unlisted = rw ((not_all o one).0, state_stays (is_listed net i) s unlisted) refl
 
 -- ---- a refused call
 
@@ -82,6 +85,8 @@ refused_slave net c n i s unlisted = by_call c (state_stays (is_listed net i) s 
     by_call (call.Request t v) e = rw e refl
     by_call (call.Read t) e = rw e refl
     by_call (call.Elapsed ms) e = rw e refl
+    by_call (call.Hold j) e = rw e refl
+    by_call (call.Release j) e = rw e refl
 
 pub phase_same : (p : Phase) → phase_then p None ≡ p
 phase_same phase.Idle = refl
@@ -98,6 +103,8 @@ refused_phase net (call.Lost j) n open_slaves p = phase_same p
 refused_phase net (call.Request t v) n open_slaves p = phase_same p
 refused_phase net (call.Read t) n open_slaves p = phase_same p
 refused_phase net (call.Elapsed ms) n open_slaves p = phase_same p
+refused_phase net (call.Hold j) n open_slaves p = phase_same p
+refused_phase net (call.Release j) n open_slaves p = phase_same p
 
 pub own_still : (net : Listing) (p : Phase) (own : NmtState) → unwrap_or (becomes_operational net p p) own ≡ own
 own_still net phase.Idle own = refl
@@ -114,6 +121,21 @@ own_stays net (call.Lost j) n p own = own_still net p own
 own_stays net (call.Request t v) n p own = own_still net p own
 own_stays net (call.Read t) n p own = own_still net p own
 own_stays net (call.Elapsed ms) n p own = own_still net p own
+own_stays net (call.Hold j) n p own = own_still net p own
+own_stays net (call.Release j) n p own = own_still net p own
+
+-- of whether a slave is held
+pub refused_held : (c : Call) (n i : ℕ) (h : Bool) → held_after c (reply.Refused n) i h ≡ h
+refused_held call.StartNetwork n i h = refl
+refused_held (call.Begin j) n i h = refl
+refused_held (call.Report j m a) n i h = refl
+refused_held (call.Signal j b) n i h = refl
+refused_held (call.Lost j) n i h = refl
+refused_held (call.Request t v) n i h = refl
+refused_held (call.Read t) n i h = refl
+refused_held (call.Elapsed ms) n i h = refl
+refused_held (call.Hold j) n i h = refl
+refused_held (call.Release j) n i h = refl
 
 node_stays : (net : Listing) (c : Call) (n i : ℕ) (s : Slave) (small : Bool) → nat_lt i 128 ≡ small → (i < 128 → is_listed net i ≡ false → s.state ≡ 0)
     → (128 ≤ i → s ≡ blank_slave) → cond small (slave_after net c (reply.Refused n) orders.None i s) blank_slave ≡ s
@@ -127,4 +149,4 @@ after_refused net m c n unlisted blank =
     let left = open_in net (slaves_after net c (reply.Refused n) orders.None m.slaves) in
     let phase : phase_after net c (reply.Refused n) left m.phase ≡ m.phase = refused_phase net c n left m.phase in
     machine_parts phase (ap (λ p. own_after net c (reply.Refused n) orders.None m.phase p m.own) phase ∙ own_stays net c n m.phase m.own) refl
-    (λ k i. node_stays net c n i (m.slaves i) (nat_lt i 128) refl (unlisted i) (blank i) k)
+    (λ k i. node_stays net c n i (m.slaves i) (nat_lt i 128) refl (unlisted i) (blank i) k) (λ k i. refused_held c n i (m.held i) k)

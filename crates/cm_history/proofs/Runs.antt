@@ -107,9 +107,9 @@ slaves_step net past e = λ k i. node_step net past e i (nat_lt i 128) k
 pub open_said : (net : Listing) (past : List Entry) → open_in net (said net past).slaves ≡ open_of net past
 open_said net past = agree_on_ids _ _ (λ i small. rw (lt-ltb i 128 small) refl)
 
-pub machine_parts : {p p' : Phase} {own own' : NmtState} {b b' : ℕ} {s s' : ℕ → Slave} → p ≡ p' → own ≡ own' → b ≡ b' → s ≡ s'
-    → ◌≡◌ {A = Machine} (record { phase = p; own = own; begun = b; slaves = s }) (record { phase = p'; own = own'; begun = b'; slaves = s' })
-machine_parts e f g h = rw (e, f, g, h) refl
+pub machine_parts : {p p' : Phase} {own own' : NmtState} {b b' : ℕ} {s s' : ℕ → Slave} {t t' : ℕ → Bool} → p ≡ p' → own ≡ own' → b ≡ b' → s ≡ s' → t ≡ t'
+    → ◌≡◌ {A = Machine} (record { phase = p; own = own; begun = b; slaves = s; held = t }) (record { phase = p'; own = own'; begun = b'; slaves = s'; held = t' })
+machine_parts e f g h k = rw (e, f, g, h, k) refl
 
 -- of any history, legal or not
 pub machine_step : (net : Listing) (past : List Entry) (e : Entry) → said net (e ∷ past) ≡ after net (said net past) e.call e.reply e.orders
@@ -119,7 +119,7 @@ machine_step net past e =
     sym (open_said net (e ∷ past)) ∙ ap (open_in net) slaves in
     let phase : phase_of net (e ∷ past) ≡ phase_after net e.call e.reply (open_in net (slaves_after net e.call e.reply e.orders (said net past).slaves)) (phase_of net past) =
     phase_more net past e ∙ ap (λ l. phase_after net e.call e.reply l (phase_of net past)) now_open in
-    machine_parts phase (ap (λ p. own_after net e.call e.reply e.orders (phase_of net past) p (own_of net past)) phase) refl slaves
+    machine_parts phase (ap (λ p. own_after net e.call e.reply e.orders (phase_of net past) p (own_of net past)) phase) refl slaves refl
 
 -- ---- the answer
 
@@ -129,8 +129,8 @@ slave_seen net past i false small h = refl
 slave_seen net past i true true h = refl
 slave_seen net past i true false h = let wrong = h refl in cc
 
-pub seen_parts : {p : Phase} {own : NmtState} {b : ℕ} {l l' : List ℕ} {s s' : Slave} → l ≡ l' → s ≡ s'
-    → ◌≡◌ {A = Lookup} (record { phase = p; own = own; begun = b; open_slaves = l; slave = s }) (record { phase = p; own = own; begun = b; open_slaves = l'; slave = s' })
+pub seen_parts : {p : Phase} {own : NmtState} {b : ℕ} {l l' : List ℕ} {s s' : Slave} {t : Bool} → l ≡ l' → s ≡ s'
+    → ◌≡◌ {A = Lookup} (record { phase = p; own = own; begun = b; open_slaves = l; slave = s; held = t }) (record { phase = p; own = own; begun = b; open_slaves = l'; slave = s'; held = t })
 seen_parts h k = rw (h, k) refl
 
 pub answer_said : (net : Listing) (past : List Entry) (c : Call) → ListsNodes net → answer_in net (said net past) c ≡ answer_of net past c
@@ -142,7 +142,7 @@ answer_said net past c nodes =
 -- ---- the run
 
 pub run_said : (net : Listing) (past : List Entry) → ListsNodes net → IsLegal net past → run net past ≡ said net past
-run_said net [] nodes legal = machine_parts refl refl refl (λ k i. idle_node (is_listed net i) (nat_lt i 128) k)
+run_said net [] nodes legal = machine_parts refl refl refl (λ k i. idle_node (is_listed net i) (nat_lt i 128) k) refl
   where
     idle_node : (listed small : Bool) → cond small blank_slave blank_slave ≡ cond small (record { state = cond listed 0 0; booted = false; session = None }) blank_slave
     idle_node true small = refl
@@ -161,6 +161,7 @@ shows_its_history net past nodes legal =
       own = ap (λ (m : Machine). m.own) same;
       begun = ap (λ (m : Machine). m.begun) same;
       slaves = λ i small. ap (λ (m : Machine). m.slaves i) same ∙ rw (lt-ltb i 128 small) refl;
+      held = λ i. ap (λ (m : Machine). m.held i) same;
       open_slaves = ap (λ (m : Machine). open_in net m.slaves) same ∙ open_said net past;
       answers = λ c. ap (λ m. answer_in net m c) same ∙ answer_said net past c nodes;
     }

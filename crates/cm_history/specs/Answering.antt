@@ -15,7 +15,7 @@ use Rattle.cm_nmt.specs.declared.status.Status.TheVariants as status
 use Rattle.cm_nmt.specs.Listing.{Listing, is_listed, is_to_be_booted, is_mandatory, is_master, starts_all_at_once, leaves_operational_to_application, starts_no_slave, resets_all_on_error, stops_all_on_error}
 use Rattle.cm_history.specs.Orders.{to_every, to_node}
 use Rattle.cm_history.specs.Phases.{is_idle, is_booting, is_ready, is_halted}
-use Rattle.cm_history.specs.History.{is_fatal, is_empty, is_reset_value, phase_of, own_of, begun_in, open_of, state_of, is_booted, session_of}
+use Rattle.cm_history.specs.History.{is_fatal, is_empty, is_reset_value, phase_of, own_of, begun_in, open_of, state_of, is_booted, is_held, session_of}
 use Rattle.cm_history.specs.declared.call.Call.{Call}
 use Rattle.cm_history.specs.declared.call.Call.TheVariants as call
 use Rattle.cm_history.specs.declared.call.Reply.{Reply}
@@ -45,6 +45,7 @@ pub record Lookup : Type 0 where
   pub begun : ℕ
   pub open_slaves : List ℕ
   pub slave : Slave
+  pub held : Bool
 
 -- the node that a call names, 0 where it names none
 abbrev pub node_named : Call → ℕ
@@ -56,6 +57,8 @@ node_named (call.Lost i) = i
 node_named (call.Request t v) = t
 node_named (call.Read t) = t
 node_named (call.Elapsed ms) = 0
+node_named (call.Hold i) = i
+node_named (call.Release i) = i
 
 abbrev pub seen_of : Listing → List Entry → ℕ → Lookup
 seen_of net past i = record {
@@ -64,6 +67,7 @@ seen_of net past i = record {
   begun = begun_in past;
   open_slaves = open_of net past;
   slave = if is_listed net i then slave_of net past i else blank_slave;
+  held = is_held past i;
 }
 
 -- ---- refusals: each call's numbers with their conditions, in the order in which they are tested
@@ -87,11 +91,14 @@ has_session (Some m) n = m == n
 --   11 the value is none of 4, 5, 6, 7, 127
 --   12 a start of all or of the manager itself, while a mandatory slave is open
 --   13 a reset of the manager itself
+--   14 the slave is held
+--   15 it isn't held
 abbrev pub refusals : Listing → Lookup → Call → List (ℕ × Bool)
 refusals net s call.StartNetwork = (1, not (is_master net)) ∷ (2, is_booting s.phase || is_ready s.phase) ∷ []
 refusals net s (call.Begin i) =
     (3, is_idle s.phase || is_halted s.phase)
     ∷ (4, not (is_listed net i))
+    ∷ (14, s.held)
     ∷ (5, is_some s.slave.session)
     ∷ (6, s.slave.booted)
     ∷ []
@@ -117,6 +124,8 @@ refusals net s (call.Request t v) =
     ∷ []
 refusals net s (call.Read t) = (3, is_idle s.phase) ∷ (10, t == 0 || nat_lt 127 t) ∷ []
 refusals net s (call.Elapsed ms) = (3, is_idle s.phase) ∷ []
+refusals net s (call.Hold i) = (3, is_idle s.phase) ∷ (4, not (is_listed net i)) ∷ (14, s.held) ∷ []
+refusals net s (call.Release i) = (3, is_idle s.phase) ∷ (4, not (is_listed net i)) ∷ (15, not s.held) ∷ []
 
 -- the number of each refusal, in a reply
 abbrev pub refusal_number : Refusal → ℕ
@@ -133,6 +142,8 @@ refusal_number refusal.BadTarget = 10
 refusal_number refusal.BadValue = 11
 refusal_number refusal.MandatoryOpen = 12
 refusal_number refusal.OwnReset = 13
+refusal_number refusal.Held = 14
+refusal_number refusal.NotHeld = 15
 
 -- the SDO abort codes of refused requests: invalid value for parameter, not possible in the present device state
 -- (the codes: CiA 301; which refusal has which: own)
@@ -226,6 +237,8 @@ granted_answer net s (call.Read t) = (reply.State (shown_of net s t), orders.Non
 granted_answer net s (call.Elapsed ms) =
     if is_late net s.phase s.open_slaves ms then (reply.TimeUp, orders.None)
     else (reply.InTime, if starts_every net s.phase s.open_slaves then to_every command.Start else orders.None)
+granted_answer net s (call.Hold i) = (reply.Done, to_node command.Stop i)
+granted_answer net s (call.Release i) = (reply.Done, orders.None)
 
 -- a refused call has no orders
 abbrev pub refused_or : Option ℕ → Reply × Orders → Reply × Orders

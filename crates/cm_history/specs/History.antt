@@ -79,6 +79,7 @@ is_reset_value v = v == 6 || v == 7
 --   a boot-up message of i
 --   the loss of i, booted, or one that is handled by a reset of all
 --   a granted request that resets i or all
+--   a granted hold of i
 abbrev pub clears_by : Call → Reply → Orders → ℕ → Bool
 clears_by call.StartNetwork r o i = is_granted r
 clears_by (call.Begin j) r o i = false
@@ -88,6 +89,8 @@ clears_by (call.Lost j) r o i = is_handled r && (j == i || is_reset_all o)
 clears_by (call.Request t v) r o i = is_granted r && (is_reset_value v && (t == i || t == 128))
 clears_by (call.Read t) r o i = false
 clears_by (call.Elapsed ms) r o i = false
+clears_by (call.Hold j) r o i = is_granted r && j == i
+clears_by (call.Release j) r o i = false
 
 abbrev pub clears : Entry → ℕ → Bool
 clears e i = clears_by e.call e.reply e.orders i
@@ -156,6 +159,7 @@ signalled _ byte = None
 --   the state that its error control message tells
 --   1 where it is lost
 --   the state that a granted request to it asks for
+--   4 at a granted hold of it, which stops it
 abbrev pub sets_by : Call → Reply → Orders → ℕ → Option ℕ
 sets_by call.StartNetwork r o i = if is_granted r then Some 0 else None
 sets_by (call.Begin j) r o i = None
@@ -165,6 +169,8 @@ sets_by (call.Lost j) r o i = if (is_noted r || is_handled r) && j == i then Som
 sets_by (call.Request t v) r o i = if is_granted r && t == i then Some (state_requested v) else None
 sets_by (call.Read t) r o i = None
 sets_by (call.Elapsed ms) r o i = None
+sets_by (call.Hold j) r o i = if is_granted r && j == i then Some 4 else None
+sets_by (call.Release j) r o i = None
 
 -- the last state to which an entry set slave i by itself, 0 where none did, and the commands to all from that
 -- entry on, the newest first
@@ -183,6 +189,19 @@ state_under v (c ∷ cs) = if v == 0 || v == 1 then v else (if list_any is_reset
 -- the state of slave i, 0 where it isn't listed
 abbrev pub state_of : Listing → List Entry → ℕ → ℕ
 state_of net past i = if is_listed net i then state_under (last_set past i).0 (last_set past i).1 else 0
+
+-- ---- each slave: whether an operator holds it
+
+-- what a granted hold or release of i makes of whether it is held; none where the entry is neither
+abbrev pub holds_by : Call → Reply → ℕ → Option Bool
+holds_by (call.Hold j) r i = if is_granted r && j == i then Some true else None
+holds_by (call.Release j) r i = if is_granted r && j == i then Some false else None
+holds_by _ r i = None
+
+-- the last granted hold or release of i is a hold; at first nothing is held
+abbrev pub is_held : List Entry → ℕ → Bool
+is_held [] i = false
+is_held (e ∷ past) i = unwrap_or (holds_by e.call e.reply i) (is_held past i)
 
 -- ---- the manager: phase, own state, sessions begun
 

@@ -29,6 +29,10 @@ abbrev pub AreOfSeats : ℕ → List Entry → Type 0
 AreOfSeats seats [] = Unit {0}
 AreOfSeats seats (e ∷ es) = (0 < e.seat) × (e.seat ≤ seats) × AreOfSeats seats es
 
+-- the greatest number of entries that a history may have (own)
+abbrev pub most_entries : ℕ
+most_entries = 1048576
+
 -- the whole history of a register, its oldest entry first: legal, of its seats alone, with no more entries than are allowed
 pub record IsHistory (net : Listing) (seats limit : ℕ) (entries : List Entry) : Type 0 where
   pub legal : IsLegal net (reverse entries)

@@ -2,7 +2,7 @@
 -- is what a history says, and that is what counts: see the law `machine_shows_its_history`.
 -- The rules are those of the tables: `answer_from` answers; what an answered call boots, clears, sets, begins and decides
 -- makes the next state.
-use Rattle.std.specs.Prelude.{◌≡◌, ◌≤◌, ◌<◌, ℕ, false, ◌==◌, ◌&&◌, ◌||◌, not, nat_lt, if◌then◌else◌, ◌+◌, List, [], ◌∷◌, filter, Option, Some, None, unwrap_or}
+use Rattle.std.specs.Prelude.{◌≡◌, ◌≤◌, ◌<◌, ℕ, Bool, false, ◌==◌, ◌&&◌, ◌||◌, not, nat_lt, if◌then◌else◌, ◌+◌, List, [], ◌∷◌, filter, Option, Some, None, unwrap_or}
 use Rattle.std.specs.Option.{option_or, is_some}
 use Rattle.cm_nmt.specs.Codes.{state_left}
 use Rattle.cm_nmt.specs.declared.state.NmtState.{NmtState}
@@ -10,7 +10,7 @@ use Rattle.cm_nmt.specs.declared.state.NmtState.TheVariants as state
 use Rattle.cm_nmt.specs.declared.command.Command.{Command}
 use Rattle.cm_nmt.specs.Listing.{node_ids, Listing, is_listed, is_mandatory}
 use Rattle.cm_history.specs.Orders.{to_all}
-use Rattle.cm_history.specs.History.{phase_of, own_of, begun_in, open_of, boots_by, clears_by, sets_by, reports_by, begins_by, begun_number, is_start_by, decides_by, own_by, becomes_operational}
+use Rattle.cm_history.specs.History.{phase_of, own_of, begun_in, open_of, boots_by, clears_by, sets_by, reports_by, begins_by, begun_number, is_start_by, decides_by, own_by, becomes_operational, holds_by, is_held}
 use Rattle.cm_history.specs.Answering.{Lookup, blank_slave, slave_of, node_named, answer_from, answer_of}
 use Rattle.cm_history.specs.declared.call.Call.{Call}
 use Rattle.cm_history.specs.declared.call.Reply.{Reply}
@@ -27,6 +27,7 @@ pub record Machine : Type 0 where
   pub own : NmtState
   pub begun : ℕ
   pub slaves : ℕ → Slave
+  pub held : ℕ → Bool
 
 -- what is kept of each node, blank for a number above 127
 abbrev pub of_nodes : (ℕ → Slave) → ℕ → Slave
@@ -34,7 +35,7 @@ of_nodes slaves i = if nat_lt i 128 then slaves i else blank_slave
 
 -- before any call
 abbrev pub idle : Machine
-idle = record { phase = phase.Idle; own = state.PreOperational; begun = 0; slaves = of_nodes (λ i. blank_slave) }
+idle = record { phase = phase.Idle; own = state.PreOperational; begun = 0; slaves = of_nodes (λ i. blank_slave); held = λ i. false }
 
 -- the mandatory slaves that aren't booted
 abbrev pub open_in : Listing → (ℕ → Slave) → List ℕ
@@ -50,6 +51,7 @@ seen_in net m i = record {
   begun = m.begun;
   open_slaves = open_in net m.slaves;
   slave = if is_listed net i then m.slaves i else blank_slave;
+  held = m.held i;
 }
 
 abbrev pub answer_in : Listing → Machine → Call → Reply × Orders
@@ -92,11 +94,21 @@ own_after net c r o before after own = unwrap_or (option_or (own_by net c r o) (
 abbrev pub begun_after : Reply → ℕ → ℕ
 begun_after r n = if is_some (begun_number r) then n + 1 else n
 
+-- whether slave i is held
+abbrev pub held_after : Call → Reply → ℕ → Bool → Bool
+held_after c r i held = unwrap_or (holds_by c r i) held
+
 abbrev pub after : Listing → Machine → Call → Reply → Orders → Machine
 after net m c r o =
     let slaves = slaves_after net c r o m.slaves in
     let phase = phase_after net c r (open_in net slaves) m.phase in
-    record { phase = phase; own = own_after net c r o m.phase phase m.own; begun = begun_after r m.begun; slaves = slaves }
+    record {
+      phase = phase;
+      own = own_after net c r o m.phase phase m.own;
+      begun = begun_after r m.begun;
+      slaves = slaves;
+      held = λ i. held_after c r i (m.held i);
+    }
 
 -- the call, answered, and the next state
 abbrev pub step : Listing → Machine → Call → Machine
@@ -110,7 +122,7 @@ run net (e ∷ past) = step net (run net past) e.call
 -- ---- what a history says, as a machine
 
 abbrev pub said : Listing → List Entry → Machine
-said net past = record { phase = phase_of net past; own = own_of net past; begun = begun_in past; slaves = of_nodes (slave_of net past) }
+said net past = record { phase = phase_of net past; own = own_of net past; begun = begun_in past; slaves = of_nodes (slave_of net past); held = is_held past }
 
 -- no number above 127 is listed
 abbrev pub ListsNodes : Listing → Type 0
@@ -122,5 +134,6 @@ pub record ShowsItsHistory (net : Listing) (past : List Entry) : Type 0 where
   pub own : (run net past).own ≡ own_of net past
   pub begun : (run net past).begun ≡ begun_in past
   pub slaves : (i : ℕ) → i < 128 → (run net past).slaves i ≡ slave_of net past i
+  pub held : (i : ℕ) → (run net past).held i ≡ is_held past i
   pub open_slaves : open_in net (run net past).slaves ≡ open_of net past
   pub answers : (c : Call) → answer_in net (run net past) c ≡ answer_of net past c

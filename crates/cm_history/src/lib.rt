@@ -16,7 +16,7 @@ mod refusal;
 mod same_call;
 mod slave;
 
-pub use call::{ALL_NODES, Call, Entry, Orders, Reply, abort_code};
+pub use call::{ALL_NODES, Call, Entry, MOST_ENTRIES, Orders, Reply, abort_code};
 pub use laws::{
     boots_start_rightly, machine_shows_its_history, network_becomes_operational_rightly, reads_show,
 };

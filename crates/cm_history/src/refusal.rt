@@ -30,6 +30,10 @@ pub enum Refusal {
     MandatoryOpen,
     /// 13: a reset of the manager itself.
     OwnReset,
+    /// 14: the slave is held.
+    Held,
+    /// 15: the slave isn't held.
+    NotHeld,
 }
 
 impl Refusal {
@@ -52,6 +56,8 @@ impl Refusal {
             Refusal::BadValue => 11,
             Refusal::MandatoryOpen => 12,
             Refusal::OwnReset => 13,
+            Refusal::Held => 14,
+            Refusal::NotHeld => 15,
         }
     }
 }

@@ -24,10 +24,13 @@
 #![tactic(auto)]
 
 pub use cm_boot::{Answer, Boot, Bus, Question, Step, WrongAnswer, boot_slave, judge, judge_terms};
-pub use cm_format::{FaultKind, Head, JournalFault, no_text_goes_on, one_text};
+pub use cm_format::{
+    FaultKind, Head, JournalFault, MOST_ENTRIES_OF_VERSION_1, Version, no_text_goes_on, one_text,
+};
 pub use cm_history::{
-    ALL_NODES, Call, Entry, Orders, Phase, Refusal, Reply, abort_code, boots_start_rightly,
-    machine_shows_its_history, network_becomes_operational_rightly, reads_show,
+    ALL_NODES, Call, Entry, MOST_ENTRIES, Orders, Phase, Refusal, Reply, abort_code,
+    boots_start_rightly, machine_shows_its_history, network_becomes_operational_rightly,
+    reads_show,
 };
 pub use cm_journal::{
     Journal, ReadFault, Replayed, journal_read, journal_replay, journal_write, replay_report,

@@ -7,6 +7,7 @@ use mathlib.Core.List.{IsPrefix}
 use Rattle.cm_nmt.specs.Listing.{Listing, is_listed}
 use Rattle.cm_netlist.specs.Network.{Network, listing}
 use Rattle.cm_history.specs.History.{shown}
+use Rattle.cm_history.specs.Legal.{most_entries}
 use Rattle.cm_history.specs.declared.call.Entry.{Entry}
 use Rattle.cm_past.specs.declared.log_item.LogItem.{LogItem}
 use Rattle.cm_past.specs.Changes.{IsChange, Stays}
@@ -122,7 +123,7 @@ moving_later net xs ys c e node value own own_value p was = record {
 }
 
 -- the change is of no more entries than a history may have
-pub moving_few : (net : Network) (log : List LogItem) (c : ℕ) (e : Entry) (node value own own_value : ℕ) → IsMoving net log c e node value own own_value → c < 65536
+pub moving_few : (net : Network) (log : List LogItem) (c : ℕ) (e : Entry) (node value own own_value : ℕ) → IsMoving net log c e node value own own_value → c < most_entries
 moving_few net log c e node value own own_value was = omega (arith, was.change.few, length-take-le c (entries_in log) (omega (arith, was.pending.there)))
 
 -- the history with the entry that was added

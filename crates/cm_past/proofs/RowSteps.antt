@@ -10,7 +10,7 @@ use base.Growing.{prefix_trans}
 use Rattle.logbook.specs.Pages.{Cell, cell}
 use Rattle.cm_nmt.specs.Listing.{Listing}
 use Rattle.cm_netlist.specs.Network.{Network, listing}
-use Rattle.cm_history.specs.Legal.{IsAnswered}
+use Rattle.cm_history.specs.Legal.{IsAnswered, most_entries}
 use Rattle.cm_history.specs.declared.call.Entry.{Entry}
 use Rattle.cm_past.specs.declared.log_item.LogItem.{LogItem}
 use Rattle.cm_past.specs.declared.log_item.LogItem.TheVariants as item
@@ -23,7 +23,7 @@ use Rattle.cm_past.proofs.LegalEnds.{legal_longer}
 of_later : (net : Network) (xs ys : List LogItem) → IsOf net xs → IsPrefix xs ys → IsOf net ys
 of_later net xs ys p q = prefix_trans (item.Opened net ∷ []) xs ys p q
 
-pub status_is : (net : Network) (cs : List Cell) (log : List LogItem) (c d : ℕ) → IsRow net cs log → (cell cs 0).0 ≡ status_word c d → c ≤ 65536 → d ≤ 65536
+pub status_is : (net : Network) (cs : List Cell) (log : List LogItem) (c d : ℕ) → IsRow net cs log → (cell cs 0).0 ≡ status_word c d → c ≤ most_entries → d ≤ most_entries
     → (length (entries_in log) ≡ c) × (done_in log ≡ d)
 status_is net cs log c d row found small less = by row.status
   where
@@ -56,7 +56,7 @@ module _ (net : Network) (cs : List Cell) (log : List LogItem) (row : IsRow net 
 
 -- an entry is added
 pub adds_entry : (net : Network) (seen : List LogItem) (e : Entry) (c : ℕ) (cs : List Cell) (log : List LogItem)
-    → IsOf net seen → c ≤ length (entries_in seen) → c < 65536 → IsAnswered (listing net) e (reverse (take c (entries_in seen)))
+    → IsOf net seen → c ≤ length (entries_in seen) → c < most_entries → IsAnswered (listing net) e (reverse (take c (entries_in seen)))
     → HasRow cs log → IsPrefix seen log → (cell cs 0).0 ≡ status_word c c
     → HasRow (slice_set cs 0 (status_word (c + 1) c, true)) (log ++ item.Entry e ∷ [])
 adds_entry net seen e c cs log of there few next (n, row) pre found = (
@@ -103,7 +103,7 @@ adds_entry net seen e c cs log of there few next (n, row) pre found = (
 
 -- the word of a node is stored
 pub stores : (net : Network) (seen : List LogItem) (k old c v b : ℕ) (cs : List Cell) (log : List LogItem)
-    → IsOf net seen → 1 ≤ k → k < 128 → c ≤ length (entries_in seen) → c ≤ 65536 → old < c * 65536 → v < 256 → b < 256
+    → IsOf net seen → 1 ≤ k → k < 128 → c ≤ length (entries_in seen) → c ≤ most_entries → old < c * 65536 → v < 256 → b < 256
     → v ≡ shown_at (listing net) (entries_in seen) c k → b ≡ shown_at (listing net) (entries_in seen) (c - 1) k
     → HasRow cs log → IsPrefix seen log → (cell cs k).0 ≡ old
     → HasRow (slice_set cs k (c * 65536 + v * 256 + b, true)) (log ++ item.Stored k c ∷ [])
@@ -175,7 +175,7 @@ stores net seen k old c v b cs log of low small there few older byte less_byte s
 
 -- the words of all nodes are right
 pub shows_all : (net : Network) (seen : List LogItem) (c : ℕ) (cs : List Cell) (log : List LogItem)
-    → IsOf net seen → 0 < c → c ≤ 65536 → c ≤ length (entries_in seen)
+    → IsOf net seen → 0 < c → c ≤ most_entries → c ≤ length (entries_in seen)
     → ((t : ℕ) → 1 ≤ t → t < 128 → IsSame (listing net) seen c t)
     → HasRow cs log → IsPrefix seen log → (cell cs 0).0 ≡ status_word c (c - 1)
     → HasRow (slice_set cs 0 (status_word c c, true)) (log ++ item.Shown c ∷ [])
@@ -224,7 +224,7 @@ gone net cs log row = record {
 }
 
 -- what is known where an entry was added
-pub pending_now : (net : Network) (seen log now : List LogItem) (e : Entry) (c : ℕ) → IsOf net seen → c < 65536 → IsPrefix seen log → Found 0 (status_word c c) log
+pub pending_now : (net : Network) (seen log now : List LogItem) (e : Entry) (c : ℕ) → IsOf net seen → c < most_entries → IsPrefix seen log → Found 0 (status_word c c) log
     → now ≡ log ++ item.Entry e ∷ [] → IsPending (listing net) now c e
 pending_now net seen log now e c of few pre (cs, (n, row), found) is = record {
   next = rw (entries, take_at (entries_in log) (e ∷ []) c count.0) (take_all (c + 1) (entries_in log ++ e ∷ []) (omega (arith, length-append (entries_in log) (e ∷ []), count.0)));

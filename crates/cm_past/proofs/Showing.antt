@@ -40,6 +40,8 @@ sets_others (call.Lost j) r o t s e = rw e (rw (and_not _) refl)
 sets_others (call.Request j v) r o t s e = rw e (rw (and_not _) refl)
 sets_others (call.Read j) r o t s e = refl
 sets_others (call.Elapsed ms) r o t s e = refl
+sets_others (call.Hold j) r o t s e = rw e (rw (and_not _) refl)
+sets_others (call.Release j) r o t s e = refl
 
 -- an unknown state stays, whatever is commanded
 stays : (o : Option Command) (b : Bool) → 0 ≡ obeyed o (cond b 0 0)

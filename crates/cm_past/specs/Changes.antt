@@ -3,14 +3,14 @@ use Rattle.std.specs.Prelude.{◌≡◌, ◌≤◌, ◌<◌, ℕ, false, ◌==�
 use Rattle.cm_nmt.specs.Listing.{Listing}
 use Rattle.cm_history.specs.Answering.{node_named}
 use Rattle.cm_history.specs.History.{shown}
-use Rattle.cm_history.specs.Legal.{IsAnswered}
+use Rattle.cm_history.specs.Legal.{IsAnswered, most_entries}
 use Rattle.cm_history.specs.declared.call.Entry.{Entry}
 
 -- the entry is the next one of the history, whose oldest entry comes first; these are what is shown with it of the
 -- manager itself and of the node, which is the one that its call names, if it names one
 pub record IsChange (net : Listing) (before : List Entry) (e : Entry) (node value own own_value : ℕ) : Type 0 where
   pub answered : IsAnswered net e (reverse before)
-  pub few : length before < 65536
+  pub few : length before < most_entries
   pub is_own : own ≡ net.own
   pub of_own : own_value ≡ shown net (e ∷ reverse before) own
   pub of_node : value ≡ shown net (e ∷ reverse before) node

@@ -4,7 +4,7 @@ use mathlib.Core.List.{IsPrefix}
 use Rattle.logbook.specs.Pages.{Book, Cell, cell, Named, Step, View}
 use Rattle.cm_nmt.specs.Listing.{Listing}
 use Rattle.cm_netlist.specs.Network.{Network, listing}
-use Rattle.cm_history.specs.Legal.{IsLegal}
+use Rattle.cm_history.specs.Legal.{IsLegal, most_entries}
 use Rattle.cm_history.specs.declared.call.Entry.{Entry}
 use Rattle.cm_past.specs.declared.log_item.LogItem.{LogItem}
 use Rattle.cm_past.specs.Changes.{IsChange}
@@ -27,7 +27,7 @@ IsWord n since state before =
 -- the entries are a legal history, and what was stored of each node is what it shows, up to where the words are right
 pub record IsRight (net : Listing) (log : List LogItem) : Type 0 where
   pub legal : IsLegal net (reverse (entries_in log))
-  pub few : length (entries_in log) ≤ 65536
+  pub few : length (entries_in log) ≤ most_entries
   pub done : done_in log ≤ length (entries_in log)
   pub since : (t : ℕ) → 1 ≤ t → t < 128 → since_in log t ≤ length (entries_in log)
   pub same : (t : ℕ) → 1 ≤ t → t < 128 → IsSame net log (done_in log) t
@@ -94,6 +94,6 @@ pub record IsFound (net : Listing) (log : List LogItem) (t word since state : �
 -- what a reader sees: a beginning of the history, and what it shows of the node
 pub record IsLooked (net : Network) (log : List LogItem) (t state count : ℕ) : Type 0 where
   pub there : count ≤ length (entries_in log)
-  pub few : count ≤ 65536
+  pub few : count ≤ most_entries
   pub legal : IsLegal (listing net) (reverse (take count (entries_in log)))
   pub shows : state ≡ shown_at (listing net) (entries_in log) count t

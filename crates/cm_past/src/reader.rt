@@ -3,6 +3,7 @@ ghost use mathlib.Core.List.{IsPrefix};
 ghost use Rattle.cm_netlist.specs.Network.{listing};
 ghost use Rattle.cm_nmt.specs.Listing.{Listing};
 ghost use Rattle.cm_history.specs.History.{shown};
+ghost use Rattle.cm_history.specs.Legal.{most_entries};
 ghost use Rattle.cm_past.specs.Row.{IsLooked, IsWord};
 ghost use Rattle.cm_past.specs.Items.{IsOf};
 
@@ -93,7 +94,7 @@ impl<K: HistoryName> HistoryReader<K> {
         ensures later { IfSome result (λ l. IsPrefix known.now l.past) }
         ensures state { IfSome result
             (λ l. l.state ≡ shown (listing K.net) (reverse l.past) id) }
-        ensures few { IfSome result (λ l. length l.past ≤ 65536) }
+        ensures few { IfSome result (λ l. length l.past ≤ most_entries) }
     {
         let mut seen = known.seen.again();
         let (count, state) = see(&self.row, self.own, id, &mut seen)?;

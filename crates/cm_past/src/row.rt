@@ -3,7 +3,7 @@ ghost use Rattle.std.specs.Prelude.{◌≡◌, ◌≤◌, ◌<◌, ◌+◌, ◌-
 ghost use mathlib.Core.List.{IsPrefix};
 ghost use Rattle.logbook.specs.Pages.{Cell, cell};
 ghost use Rattle.cm_netlist.specs.Network.{listing};
-ghost use Rattle.cm_history.specs.Legal.{IsAnswered};
+ghost use Rattle.cm_history.specs.Legal.{IsAnswered, most_entries};
 ghost use Rattle.cm_past.specs.Items.{IsOf, IsSame, entries_in, shown_at};
 ghost use Rattle.cm_past.specs.Row.{AreWords, Found, HasRow, IsPending, status_word};
 ghost use Rattle.cm_past.specs.declared.log_item.LogItem.{LogItem as Item};
@@ -27,7 +27,7 @@ pub(crate) type Words = Vec<Word<LogItem, u64, RowRule>>;
 /// The first word: how many entries there are, and up to how many the words of all nodes are right.
 #[inline(always)]
 fn status(count: u64, done: u64) -> u64
-    requires { (count ≤ 65536) × (done ≤ 65536) }
+    requires { (count ≤ most_entries) × (done ≤ most_entries) }
     ensures { result ≡ status_word count done }
 {
     count * 4_294_967_296 + done
@@ -95,7 +95,7 @@ impl<K: HistoryName> Row<K> {
     #[inline(always)]
     pub(crate) fn announce(&self, count: u64, entry: &Entry, seen: &mut SeenLog) -> bool
         requires of { (seen.old.book ≡ K.log) × IsOf K.net seen.old.log }
-        requires count { (count < 65536) × (count ≤ length (entries_in seen.old.log)) }
+        requires count { (count < most_entries) × (count ≤ length (entries_in seen.old.log)) }
         requires answered { IsAnswered (listing K.net) entry.now
             (reverse (take count (entries_in seen.old.log))) }
         ensures book { seen.new.book ≡ seen.old.book }
@@ -125,7 +125,7 @@ impl<K: HistoryName> Row<K> {
     ) -> bool
         requires of { (seen.old.book ≡ K.log) × IsOf K.net seen.old.log }
         requires older { old < count * 65536 }
-        requires count { (count ≤ 65536) × (count ≤ length (entries_in seen.old.log)) }
+        requires count { (count ≤ most_entries) × (count ≤ length (entries_in seen.old.log)) }
         requires state { state ≡ shown_at (listing K.net) (entries_in seen.old.log) count id }
         requires before { before ≡ shown_at (listing K.net) (entries_in seen.old.log) (count - 1) id }
         ensures book { seen.new.book ≡ seen.old.book }
@@ -144,7 +144,7 @@ impl<K: HistoryName> Row<K> {
     #[inline(always)]
     pub(crate) fn show(&self, count: u64, seen: &mut SeenLog)
         requires of { (seen.old.book ≡ K.log) × IsOf K.net seen.old.log }
-        requires count { (0 < count) × (count ≤ 65536)
+        requires count { (0 < count) × (count ≤ most_entries)
             × (count ≤ length (entries_in seen.old.log)) }
         requires same { (t : ℕ) → 1 ≤ t → t < 128
             → IsSame (listing K.net) seen.old.log count t }

@@ -4,6 +4,7 @@ use Rattle.std.specs.Prelude.{reverse}
 use Rattle.std.proofs.lemmas.List.{length-reverse, reverse-append}
 use Rattle.cm_netlist.specs.Network.{Network, listing}
 use Rattle.cm_history.specs.Answering.{answer_of}
+use Rattle.cm_history.specs.Legal.{most_entries}
 use Rattle.cm_history.specs.Machine.{answer_in}
 use Rattle.cm_history.specs.declared.call.Call.{Call}
 use Rattle.cm_history.specs.declared.call.Entry.{Entry}
@@ -23,7 +24,7 @@ own_of_answer m net past c r o stands answered =
     answered ∙ sym (stands_answer m net past c own.0 own.1 stands refl)
 
 -- it has begun few sessions, since the history has few entries
-pub few_begun : (m : Manager) (net : Network) (h : List Entry) → Stands m net (reverse h) → length h ≤ 65536 → sessions_begun m < 2 ^ 64 - 1
+pub few_begun : (m : Manager) (net : Network) (h : List Entry) → Stands m net (reverse h) → length h ≤ most_entries → sessions_begun m < 2 ^ 64 - 1
 few_begun m net h stands few = omega (arith, begun_most (reverse h), stands.same_state.begun, length-reverse h, few)
 
 pub stands_longer : (m : Manager) (net : Network) (h : List Entry) (e : Entry) → Stands m net (e ∷ reverse h) → Stands m net (reverse (h ++ e ∷ []))

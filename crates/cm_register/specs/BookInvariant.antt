@@ -4,7 +4,7 @@ use Rattle.std.specs.List.{slice_index_or}
 use Rattle.cm_nmt.specs.declared.frame.Frame.{Frame}
 use Rattle.cm_netlist.specs.Network.{Network, listing}
 use Rattle.cm_history.specs.OrderFrames.{frames_in}
-use Rattle.cm_history.specs.Legal.{AreOfSeats, IsLegal}
+use Rattle.cm_history.specs.Legal.{AreOfSeats, IsLegal, most_entries}
 use Rattle.cm_history.specs.declared.call.Entry.{Entry}
 use Rattle.cm_seat.specs.Handing.{AreApart}
 use Rattle.cm_seat.specs.Knowing.{AllHaveCallsOf}
@@ -23,7 +23,7 @@ pub record IsKept (net : Network) (seats limit : ℕ) (history : List Entry) (ca
   pub frames : sent ≡ frames_in (listing net) history
   pub few : length history ≤ limit
   pub room : limit ≤ capacity
-  pub small : limit ≤ 65536
+  pub small : limit ≤ most_entries
   pub tallied : total ≡ length history
   pub wide : length counts ≡ 64
   pub counted : AreCounts counts history

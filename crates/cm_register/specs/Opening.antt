@@ -1,6 +1,7 @@
 -- When a register is opened (own).
 use Rattle.std.specs.Prelude.{◌≡◌, ◌≤◌, ℕ, List, []}
 use Rattle.cm_nmt.specs.declared.frame.Frame.{Frame}
+use Rattle.cm_history.specs.Legal.{most_entries}
 use Rattle.cm_register.specs.declared.fault.OpenFault.{OpenFault}
 use Rattle.cm_register.specs.declared.fault.OpenFault.TheVariants as fault
 
@@ -8,9 +9,9 @@ use Rattle.cm_register.specs.declared.fault.OpenFault.TheVariants as fault
 abbrev pub SeatsFit : ℕ → Type 0
 SeatsFit seats = (1 ≤ seats) × (seats ≤ 64)
 
--- 1 to 65,536 entries are allowed
+-- 1 to 1,048,576 entries are allowed
 abbrev pub LimitFits : ℕ → Type 0
-LimitFits limit = (1 ≤ limit) × (limit ≤ 65536)
+LimitFits limit = (1 ≤ limit) × (limit ≤ most_entries)
 
 -- nothing but memory is in the way
 abbrev pub MayOpen : ℕ → ℕ → List Frame → Type 0

@@ -2,7 +2,7 @@
 ghost use Rattle.std.specs.Prelude.{◌≡◌, ◌<◌, ◌≤◌, ◌==◌, ◌++◌, ◌∷◌, [], ℕ, false, length, reverse, OnOk, OnErr};
 ghost use Rattle.cm_netlist.specs.Network.{listing};
 ghost use Rattle.cm_history.specs.Answering.{node_named};
-ghost use Rattle.cm_history.specs.Legal.{IsAnswered, IsLegal};
+ghost use Rattle.cm_history.specs.Legal.{IsAnswered, IsLegal, most_entries};
 ghost use Rattle.cm_sequential.specs.Standing.{Stands};
 
 use cm_history::{Call, Entry};
@@ -19,7 +19,12 @@ fn node_of(call: &Call, own: NodeId) -> NodeId
 {
     match call {
         Call::StartNetwork | Call::Elapsed(_) => own,
-        Call::Begin(id) | Call::Report(id, _, _) | Call::Signal(id, _) | Call::Lost(id) => *id,
+        Call::Begin(id)
+        | Call::Report(id, _, _)
+        | Call::Signal(id, _)
+        | Call::Lost(id)
+        | Call::Hold(id)
+        | Call::Release(id) => *id,
         Call::Request(target, _) | Call::Read(target) => match NodeId::new(*target) {
             Some(id) => id,
             None => own,
@@ -54,7 +59,7 @@ pub(crate) fn carry_out<K: HistoryName>(
     requires name { net.now ≡ K.net }
     requires stands { Stands manager.old K.net (reverse history.now) }
     requires shown { writer.old ≡ history.now }
-    requires few { length history.now < 65536 }
+    requires few { length history.now < most_entries }
     requires legal { IsLegal (listing K.net) (reverse history.now) }
     requires answered { IsAnswered (listing K.net) entry.now (reverse history.now) }
     ensures shown { OnOk result (writer.new ≡ history.now ++ entry.now ∷ []) }

@@ -1,4 +1,5 @@
 ghost use Rattle.std.specs.Prelude.{◌≡◌, ◌<◌, ◌≤◌, [], vec_capacity, vec_len, IfOk, IfErr};
+ghost use Rattle.cm_history.specs.Legal.{most_entries};
 ghost use Rattle.cm_seat.specs.Opening.{fresh_seats};
 ghost use Rattle.cm_past.specs.Unnamed.{net_of};
 ghost use Rattle.cm_register.specs.Opening.{IsNameCause};
@@ -6,7 +7,7 @@ ghost use Rattle.cm_register.specs.Opening.{IsNameCause};
 use crate::book::Book;
 use crate::fault::OpenFault;
 use crate::register::Register;
-use cm_history::Entry;
+use cm_history::{Entry, MOST_ENTRIES};
 use cm_netlist::Network;
 use cm_nmt::Wire;
 use cm_past::{HistoryWriter, UnnamedHistory};
@@ -32,7 +33,7 @@ pub struct Opened<'n, W: Wire> {
     history: Vec<Entry>,
     lists: Vec<SeatList>,
     pub ghost seats_fit: { (0 < seats) × (seats ≤ 64) },
-    pub ghost limit_fits: { (0 < limit) × (limit ≤ 65536) },
+    pub ghost limit_fits: { (0 < limit) × (limit ≤ most_entries) },
     pub ghost parts: { blank.parts ≡ seats },
     pub ghost unused: { W.sent wire ≡ [] },
     pub ghost net_is: { net_of log ≡ net.now },
@@ -45,7 +46,8 @@ impl<'n, W: Wire> Book<'n, W, Brand> {
     ghost use Rattle.cm_register.specs.Opening.{IsOpenCause};
 
     /// Opens a register for one thread, which [`Opened::book`] then names: with this many seats, 1 to
-    /// 64, and at most `limit` entries in its history, 1 to 65,536. After a refusal the wire is dropped.
+    /// 64, and at most `limit` entries in its history, 1 to 1,048,576. After a refusal the wire is
+    /// dropped.
     pub fn open(
         alloc: Global,
         net: &'n Network,
@@ -59,7 +61,7 @@ impl<'n, W: Wire> Book<'n, W, Brand> {
         if seats < 1 || seats > 64 {
             return Err(OpenFault::BadSeats);
         }
-        if limit < 1 || limit > 65536 {
+        if limit < 1 || limit > MOST_ENTRIES {
             return Err(OpenFault::BadLimit);
         }
         if wire.used() {

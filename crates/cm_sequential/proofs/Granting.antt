@@ -34,6 +34,8 @@ granted_reply net s (call.Lost id) = grind (arith, common_steps)
 granted_reply net s (call.Request t v) = refl
 granted_reply net s (call.Read t) = refl
 granted_reply net s (call.Elapsed ms) = grind (arith, common_steps)
+granted_reply net s (call.Hold id) = refl
+granted_reply net s (call.Release id) = refl
 
 -- an answer that isn't a refusal is that of a granted call
 unrefused : (q : Option ℕ) (granted : Reply × Orders) (r : Reply) (o : Orders) → (r, o) ≡ refused_or q granted → is_granted r ≡ true
@@ -74,7 +76,7 @@ pub goes_read : (net : Listing) (s : NetworkState) (t n : ℕ) → Goes net s (c
 goes_read net s t n =
     goes net s s s.slaves (call.Read t) (reply.State n) orders.None refl refl (λ counted. counted)
     (λ i small u. rw (state_stays (is_listed net i) (kept_slave s.slaves i) u) refl)
-    (sym (phase_same s.phase)) (sym (own_still net s.phase s.own)) refl
+    (sym (phase_same s.phase)) (sym (own_still net s.phase s.own)) refl (λ i. refl)
 
 -- ---- time, and requests to all
 

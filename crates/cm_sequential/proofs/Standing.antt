@@ -32,7 +32,7 @@ node_said s net past i true e sh =
     let low : i < 128 = ltb-true i 128 e in λ k. record { state = sh.state i low k; booted = sh.booted i low k; session = sh.session i low k }
 
 pub shown_said : (s : NetworkState) (net : Listing) (past : List Entry) → Shows s net past → machine s ≡ said net past
-shown_said s net past sh = machine_parts sh.phase sh.own sh.begun (λ k i. node_said s net past i (nat_lt i 128) refl sh k)
+shown_said s net past sh = machine_parts sh.phase sh.own sh.begun (λ k i. node_said s net past i (nat_lt i 128) refl sh k) (λ k i. sh.held i k)
 
 -- and the other way
 said_at : (s : NetworkState) (net : Listing) (past : List Entry) (i : ℕ) → i < 128 → machine s ≡ said net past → kept_slave s.slaves i ≡ slave_of net past i
@@ -47,6 +47,7 @@ said_shown s net past own_id e = record {
   state = λ i low. ap (λ (k : Slave). k.state) (said_at s net past i low e);
   booted = λ i low. ap (λ (k : Slave). k.booted) (said_at s net past i low e);
   session = λ i low. ap (λ (k : Slave). k.session) (said_at s net past i low e);
+  held = λ i. ap (λ (m : Machine). m.held i) e;
 }
 
 pub stands_answer : (m : Manager) (net : Network) (past : List Entry) (c : Call) (r : Reply) (o : Orders) → Stands m net past → IsAnswer m c r o

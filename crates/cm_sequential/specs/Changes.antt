@@ -18,7 +18,7 @@ use Rattle.cm_sequential.specs.declared.state.NetworkState.{NetworkState}
 
 -- the state as a machine
 abbrev pub machine : NetworkState → Machine
-machine s = record { phase = s.phase; own = s.own; begun = s.begun; slaves = of_nodes (kept_slave s.slaves) }
+machine s = record { phase = s.phase; own = s.own; begun = s.begun; slaves = of_nodes (kept_slave s.slaves); held = has s.held }
 
 -- ---- what the manager's type keeps
 

@@ -2,7 +2,7 @@
 use Rattle.std.specs.Prelude.{◌≡◌, ◌<◌, ℕ, if◌then◌else◌, ◌==◌, List, Option, Some, None}
 use Rattle.std.specs.List.{slice_index_or}
 use Rattle.cm_nmt.specs.Listing.{Listing}
-use Rattle.cm_history.specs.History.{begun_in, is_booted, own_of, phase_of, session_of, state_of}
+use Rattle.cm_history.specs.History.{begun_in, is_booted, is_held, own_of, phase_of, session_of, state_of}
 use Rattle.cm_history.specs.declared.call.Entry.{Entry}
 use Rattle.cm_history.specs.declared.slave.Slave.{Slave}
 use Rattle.cm_history.specs.NodeSets.{has}
@@ -32,7 +32,8 @@ kept_slave t i = record {
 }
 
 -- the state is that of the history over this listing: its own node-ID is the listing's; its phase, own state and number
--- of sessions begun are those of the history, and so are the state of each node, whether it is booted, and its session
+-- of sessions begun are those of the history, and so are the state of each node, whether it is booted, its session, and
+-- whether it is held
 pub record Shows (s : NetworkState) (net : Listing) (past : List Entry) : Type 0 where
   pub own_id : s.own_id ≡ net.own
   pub phase : s.phase ≡ phase_of net past
@@ -41,3 +42,4 @@ pub record Shows (s : NetworkState) (net : Listing) (past : List Entry) : Type 0
   pub state : (i : ℕ) → i < 128 → (kept_slave s.slaves i).state ≡ state_of net past i
   pub booted : (i : ℕ) → i < 128 → (kept_slave s.slaves i).booted ≡ is_booted past i
   pub session : (i : ℕ) → i < 128 → (kept_slave s.slaves i).session ≡ session_of past i
+  pub held : (i : ℕ) → has s.held i ≡ is_held past i

@@ -86,6 +86,9 @@ impl Manager {
         if !self.listing.is_listed(id.get()) {
             return refused(Refusal::NotListed);
         }
+        if self.state.held.contains(id) {
+            return refused(Refusal::Held);
+        }
         if self.state.slaves.session(id).is_some() {
             return refused(Refusal::Busy);
         }
@@ -288,6 +291,40 @@ impl Manager {
         (Reply::InTime, Orders::None)
     }
 
+    /// The answer to a hold.
+    fn answer_hold(&self, id: NodeId) -> (Reply, Orders)
+        ensures { IsAnswer self.now (call.Hold id) result.0 result.1 }
+    {
+        if self.state.phase.is_idle() {
+            return refused(Refusal::NotStarted);
+        }
+        if !self.listing.is_listed(id.get()) {
+            return refused(Refusal::NotListed);
+        }
+        let held = self.state.held.contains(id);
+        if held {
+            return refused(Refusal::Held);
+        }
+        (Reply::Done, Orders::to_node(Command::Stop, id))
+    }
+
+    /// The answer to a release.
+    fn answer_release(&self, id: NodeId) -> (Reply, Orders)
+        ensures { IsAnswer self.now (call.Release id) result.0 result.1 }
+    {
+        if self.state.phase.is_idle() {
+            return refused(Refusal::NotStarted);
+        }
+        if !self.listing.is_listed(id.get()) {
+            return refused(Refusal::NotListed);
+        }
+        let held = self.state.held.contains(id);
+        if !held {
+            return refused(Refusal::NotHeld);
+        }
+        (Reply::Done, Orders::None)
+    }
+
     /// The answer to a call.
     #[inline(always)]
     pub(crate) fn answer_by_tables(&self, call: &Call) -> (Reply, Orders)
@@ -303,6 +340,8 @@ impl Manager {
             Call::Request(target, value) => self.answer_request(*target, *value),
             Call::Read(target) => self.answer_read(*target),
             Call::Elapsed(ms) => self.answer_elapsed(*ms),
+            Call::Hold(id) => self.answer_hold(*id),
+            Call::Release(id) => self.answer_release(*id),
         }
     }
 }

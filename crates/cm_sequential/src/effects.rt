@@ -69,6 +69,7 @@ impl NetworkState {
             self.old.phase self.new.phase) self.old.own }
         ensures slaves { self.new.slaves ≡ self.old.slaves }
         ensures begun { self.new.begun ≡ self.old.begun }
+        ensures held { self.new.held ≡ self.old.held }
         ensures own_id { self.new.own_id ≡ self.old.own_id }
     {
         if !self.phase.is_booting() {
@@ -84,7 +85,7 @@ impl NetworkState {
         }
     }
 
-    /// The network is started: every slave is cleared, and its state unknown.
+    /// The network is started: every slave is cleared, and its state unknown. What is held stays so.
     fn start(&mut self, listing: &ListingCopy)
         ensures { Goes (kept_listing listing.now) self.old Call.StartNetwork Reply.Started
             Orders.ResetUnkept self.new }
@@ -238,6 +239,25 @@ impl NetworkState {
         self.settle(listing, false);
     }
 
+    /// An operator holds a slave: it is stopped, and cleared.
+    fn hold(&mut self, listing: &ListingCopy, id: NodeId)
+        requires { IsTrue (is_listed (kept_listing listing.now) id) }
+        ensures { Goes (kept_listing listing.now) self.old (Call.Hold id) Reply.Done
+            (to_node Command.Stop id) self.new }
+    {
+        self.slaves.clear(listing, id, Command::Stop.state_left());
+        self.held.insert(id);
+    }
+
+    /// An operator gives a slave back.
+    fn release(&mut self, listing: &ListingCopy, id: NodeId)
+        requires { IsTrue (is_listed (kept_listing listing.now) id) }
+        ensures { Goes (kept_listing listing.now) self.old (Call.Release id) Reply.Done Orders.None
+            self.new }
+    {
+        self.held.remove(id);
+    }
+
     /// Carries out a call that was granted with this reply and these orders.
     #[inline(always)]
     pub(crate) fn carry_out(
@@ -272,6 +292,8 @@ impl NetworkState {
                 Reply::TimeUp => self.time_up(listing),
                 _ => self.in_time(listing, orders),
             },
+            Call::Hold(id) => self.hold(listing, *id),
+            Call::Release(id) => self.release(listing, *id),
         }
     }
 }

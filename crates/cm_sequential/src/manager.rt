@@ -1,6 +1,6 @@
 ghost use Rattle.std.specs.Prelude.{◌≡◌, ℕ, List, [], ◌∷◌, ◌^◌, ◌<◌, ◌≤◌, ◌-◌, ◌+◌, length};
 ghost use Rattle.cm_netlist.specs.Network.{Network as AnyNetwork, listing};
-ghost use Rattle.cm_history.specs.History.{begun_in, state_of, own_of, phase_of, is_booted, session_of, open_of, shown};
+ghost use Rattle.cm_history.specs.History.{begun_in, state_of, own_of, phase_of, is_booted, is_held, session_of, open_of, shown};
 ghost use Rattle.cm_history.specs.Answering.{answer_of};
 ghost use Rattle.cm_history.specs.declared.call.Entry.{Entry};
 ghost use Rattle.cm_sequential.specs.States.{kept_listing};
@@ -24,7 +24,7 @@ impl Manager {
     ghost use Rattle.cm_sequential.specs.Standing.{IsAnswer, Stands, sessions_begun};
 
     /// The manager of this network before any call: phase idle, own state pre-operational, every
-    /// state unknown, nothing booted, no session.
+    /// state unknown, nothing booted, no session, nothing held.
     pub fn new(net: &Network) -> Manager
         ensures stands { Stands result net.now [] }
         ensures begun { sessions_begun result ≡ 0 }
@@ -140,6 +140,15 @@ impl Manager {
             → result ≡ session_of past id }
     {
         self.state.session(id)
+    }
+
+    /// Whether an operator holds the slave, so that its boot can't begin. A hold lasts until a release,
+    /// over starts of the network, signals, losses and resets.
+    pub fn held(&self, id: NodeId) -> bool
+        ensures { (net : AnyNetwork) (past : List Entry) → Stands self.now net past
+            → result ≡ is_held past id }
+    {
+        self.state.held(id)
     }
 
     /// How many sessions were begun.

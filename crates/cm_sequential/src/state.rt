@@ -1,7 +1,7 @@
 ghost use Rattle.std.specs.Prelude.{◌≡◌, ◌==◌, false, if◌then◌else◌, List, length};
 ghost use Rattle.cm_nmt.specs.Codes.{state_code};
 ghost use Rattle.cm_nmt.specs.Listing.{Listing, is_listed};
-ghost use Rattle.cm_history.specs.History.{begun_in, is_booted, own_of, phase_of, session_of, shown, state_of};
+ghost use Rattle.cm_history.specs.History.{begun_in, is_booted, is_held, own_of, phase_of, session_of, shown, state_of};
 ghost use Rattle.cm_history.specs.Machine.{idle, ListsNodes};
 ghost use Rattle.cm_history.specs.declared.call.Entry.{Entry};
 ghost use Rattle.cm_history.specs.NodeSets.{members_of};
@@ -10,12 +10,12 @@ ghost use Rattle.cm_sequential.specs.Changes.{machine, Fits};
 
 use crate::listing_copy::ListingCopy;
 use crate::slaves::SlaveTable;
-use cm_history::Phase;
+use cm_history::{NodeSet, Phase};
 use cm_nmt::{NmtState, NodeId};
 
 /// All of the manager that changes, in a value of its own, which is copied: the phase, the
-/// manager's own state, how many sessions were begun, and of each slave its state, whether it is
-/// booted, and its session.
+/// manager's own state, how many sessions were begun, of each slave its state, whether it is booted,
+/// and its session, and which slaves are held.
 #[derive(Clone, Copy, Debug, PartialEq, Eq)]
 pub(crate) struct NetworkState {
     own_id: NodeId,
@@ -23,6 +23,7 @@ pub(crate) struct NetworkState {
     pub(crate) own: NmtState,
     pub(crate) begun: u64,
     pub(crate) slaves: SlaveTable,
+    pub(crate) held: NodeSet,
 }
 
 impl NetworkState {
@@ -39,6 +40,7 @@ impl NetworkState {
             own: NmtState::PreOperational,
             begun: 0,
             slaves: SlaveTable::blank(listing),
+            held: NodeSet::empty(),
         }
     }
 
@@ -103,6 +105,14 @@ impl NetworkState {
             → result ≡ session_of past id }
     {
         self.slaves.session(id)
+    }
+
+    /// Whether an operator holds the slave.
+    pub(crate) fn held(&self, id: NodeId) -> bool
+        ensures { (net : Listing) (past : List Entry) → Shows self.now net past
+            → result ≡ is_held past id }
+    {
+        self.held.contains(id)
     }
 
     /// How many sessions were begun.

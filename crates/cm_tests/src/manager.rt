@@ -169,6 +169,8 @@ fn a_call_is_answered_before_it_is_carried_out(rt: HostRuntime) {
         (Call::Request(2, 127), 127),
         (Call::Read(2), 127),
         (Call::Elapsed(1), 127),
+        (Call::Hold(two), 4),
+        (Call::Release(two), 4),
     ] {
         assert!(rt; asked.begun() < 1000 && applied.begun() < 1000);
         let before = asked;

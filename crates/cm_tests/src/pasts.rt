@@ -2,6 +2,7 @@
 
 ghost use Rattle.std.specs.Prelude.{◌≡◌, ◌==◌, ◌≤◌, ◌<◌, ◌+◌, ℕ, false, length, reverse, OnOk};
 ghost use Rattle.cm_history.specs.Answering.{node_named};
+ghost use Rattle.cm_history.specs.Legal.{most_entries};
 ghost use Rattle.cm_past.specs.Unnamed.{log_of, net_of};
 ghost use Rattle.cm_sequential.specs.Standing.{Stands};
 
@@ -24,7 +25,12 @@ fn node_of(call: &Call, own: NodeId) -> NodeId
 {
     match call {
         Call::StartNetwork | Call::Elapsed(_) => own,
-        Call::Begin(id) | Call::Report(id, _, _) | Call::Signal(id, _) | Call::Lost(id) => *id,
+        Call::Begin(id)
+        | Call::Report(id, _, _)
+        | Call::Signal(id, _)
+        | Call::Lost(id)
+        | Call::Hold(id)
+        | Call::Release(id) => *id,
         Call::Request(target, _) | Call::Read(target) => match NodeId::new(*target) {
             Some(id) => id,
             None => own,
@@ -41,7 +47,7 @@ fn show<K: HistoryName>(
 ) -> Result<(), Fail>
     requires own { own ≡ K.net.own }
     requires stands { Stands manager.old K.net (reverse writer.old) }
-    requires few { length writer.old < 65536 }
+    requires few { length writer.old < most_entries }
     ensures stands { OnOk result (Stands manager.new K.net (reverse writer.new)) }
     ensures few { OnOk result (length writer.new ≡ length writer.old + 1) }
 {

@@ -44,9 +44,9 @@ fn a_register_is_opened_or_the_first_fault_is_told(rt: HostRuntime) -> Result<()
         (0, 1, false, Some(OpenFault::BadSeats)),
         (65, 1, false, Some(OpenFault::BadSeats)),
         (1, 0, false, Some(OpenFault::BadLimit)),
-        (1, 65_537, false, Some(OpenFault::BadLimit)),
+        (1, 1_048_577, false, Some(OpenFault::BadLimit)),
         (1, 1, true, Some(OpenFault::WireUsed)),
-        (64, 65_536, false, None),
+        (64, 1_048_576, false, None),
         (0, 0, false, Some(OpenFault::BadSeats)),
         (1, 0, true, Some(OpenFault::BadLimit)),
     ] {

@@ -11,8 +11,8 @@ use std::process::Abort;
 use std::sync::Wait;
 use std::test::Fail;
 
-/// How many calls are made: each of the eight kinds, and behind each a Read of every node.
-const CALLS: u32 = 8 * 128;
+/// How many calls are made: each of the ten kinds, and behind each a Read of every node.
+const CALLS: u32 = 10 * 128;
 
 /// Reads every node, and asks the same by a call.
 fn reads_as_calls<K: RunName, R: Wait + Abort>(
@@ -31,7 +31,7 @@ fn reads_as_calls<K: RunName, R: Wait + Abort>(
     }
 }
 
-/// Makes the eight calls, of which none is refused.
+/// Makes the ten calls, of which none is refused; node 5 is read as stopped where it is held.
 fn reads_after_each<K: RunName, R: Wait + Abort>(
     rt: &R,
     opened: Opened<SimWire>,
@@ -54,11 +54,14 @@ fn reads_after_each<K: RunName, R: Wait + Abort>(
         Call::Request(128, 4),
         Call::Read(5),
         Call::Elapsed(10),
+        Call::Hold(five),
+        Call::Release(five),
     ] {
         let made = register.call(rt, &mut seat, call);
         sure(rt, made.is_ok_and(|receipt| receipt.reply.is_granted()));
         reads_as_calls(rt, &register, &mut seat);
     }
+    sure(rt, seat.read(5).is_ok_and(|seen| seen.state == 4));
     Ok(())
 }
 

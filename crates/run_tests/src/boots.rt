@@ -4,8 +4,8 @@
 ghost use Rattle.cm_register.specs.Naming.{Names};
 
 use crate::support::{agreeing, close, is_made, network, node, open, sure};
-use cm_history::{Call, Reply};
-use cm_nmt::Status;
+use cm_history::{Call, Phase, Reply};
+use cm_nmt::{NmtState, Status};
 use cm_register::{CallFault, Closed, Opened, Register, RunName, Seat};
 use cm_run::{Booted, Last, Outcome, RunFault, RunKind, boot_all};
 use cm_simulated::{SimBus, SimWire};
@@ -64,6 +64,25 @@ fn workers_boot_the_slaves_side_by_side(rt: HostRuntime) -> Result<(), Fail> {
     let outcomes = [outcome(&rt, 1, ok), outcome(&rt, 2, ok)];
     let closed = boots::<Brand, _>(&rt, rt.alloc(), opened, 2, &outcomes)?;
     sure(&rt, closed.history.len() == 5);
+    Ok(())
+}
+
+/// A history with room for more entries than a journal of version 1.
+#[test]
+fn four_workers_boot_126_slaves(rt: HostRuntime) -> Result<(), Fail> {
+    let mut slaves = Vec::new(rt.alloc());
+    let mut outcomes = Vec::new(rt.alloc());
+    for number in 1..127_u8 {
+        slaves.push((number, 0x0D))?;
+        outcomes.push(outcome(&rt, number, Last::Status(Status::Ok)))?;
+    }
+    let net = network(&rt, rt.alloc(), 127, slaves.as_slice());
+    let opened = open(rt.alloc(), &net, 5, 70_000, 200)?;
+    let closed = boots::<Brand, _>(&rt, rt.alloc(), opened, 1, outcomes.as_slice())?;
+    sure(&rt, closed.history.len() == 253);
+    sure(&rt, closed.wire.sent().len() == 127);
+    sure(&rt, closed.manager.phase() == Phase::Ready);
+    sure(&rt, closed.manager.own() == NmtState::Operational);
     Ok(())
 }
 

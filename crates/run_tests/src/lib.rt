@@ -5,6 +5,8 @@
 #[cfg(test)]
 mod boots;
 #[cfg(test)]
+mod holding;
+#[cfg(test)]
 mod memory;
 #[cfg(test)]
 mod reading;

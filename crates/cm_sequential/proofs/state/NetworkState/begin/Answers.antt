@@ -1,5 +1,5 @@
-use Rattle.std.proofs.Common.{rules}
+use Rattle.cm_sequential.proofs.Going.{began}
 use Rattle.cm_sequential.proofs.state.NetworkState.begin.Goals as goal
 
 pub returns : goal.returns
-returns c = record { on = λ fits. record { step = search (rules, c.begin.ensures.slaves, fits.unlisted); fits = search (rules, c.begin.ensures.counted, c.begin.ensures.slaves, fits.unlisted) } }
+returns c = began _ c.args.self.now _ c.args.id c.begin.ensures.counted c.begin.ensures.slaves

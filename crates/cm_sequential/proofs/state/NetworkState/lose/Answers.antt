@@ -20,4 +20,4 @@ returns c =
     (c.clear_all.ensures.slaves i small) (c.clear.ensures.slaves i small) (c.obey.ensures.slaves i small))
     (sym (phase_same s.phase))
     (c.own_after_loss-self.ensures ∙ sym (own_given net s.phase (cond (is_stop_all o) (Some state.Stopped) None) s.own))
-    refl
+    refl (λ i. refl)

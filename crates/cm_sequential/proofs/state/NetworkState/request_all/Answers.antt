@@ -16,4 +16,4 @@ returns c = λ value asks.
     goes net s _ c.obey.new.self (call.Request 128 value) reply.Done (to_every c.args.command) refl refl
     (λ counted. c.obey.ensures.counted net (c.clear_all.ensures.counted counted))
     (λ i small u. all_asked net value c.args.command i _ _ _ _ small asked.resets u c.is_reset.ensures (c.clear_all.ensures.slaves i small) (c.obey.ensures.slaves i small))
-    (sym (phase_same s.phase)) (c.own_obeying-self.ensures ∙ own_asked net s.phase value c.args.command s.own asked.own) refl
+    (sym (phase_same s.phase)) (c.own_obeying-self.ensures ∙ own_asked net s.phase value c.args.command s.own asked.own) refl (λ i. refl)
