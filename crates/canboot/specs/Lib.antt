@@ -1,3 +1,4 @@
 pub mod Run
+pub mod Causes
 pub mod Program
 pub use Rattle.canboot_check.specs.Check

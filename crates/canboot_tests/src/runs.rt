@@ -30,7 +30,7 @@ const ALL_BOOTED: &[u8] = b"phase ready\nown operational\nentries 254\nopen 0\nf
 const NOT_MASTER: &[u8] = b"canboot: start refused: 1 NotMaster\n";
 
 /// How often 126 slaves are booted by 16 workers.
-const RUNS: u32 = 200;
+const RUNS: u32 = 50;
 
 /// One worker, one attempt, slave 2 silent.
 fn one_silent() -> Options

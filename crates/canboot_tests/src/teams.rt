@@ -18,14 +18,10 @@ use std::sync::Wait;
 use std::test::Fail;
 use std::thread;
 use std::thread::Threads;
-use std::time::Instant;
 
 const SEATS: u16 = 64;
 
 const THREADS: usize = 16;
-
-/// The time in seconds that all of it takes at most.
-const MOST_SECONDS: u64 = 30;
 
 /// How many calls the boot of one slave has, until it is lost, held and released again.
 const ROUND: u8 = 10;
@@ -207,10 +203,7 @@ fn fill<R: Wait + Threads + Abort + Send + Sync>(
 
 #[test]
 fn teams_make_65536_calls(rt: HostRuntime) -> Result<(), Fail> {
-    let begin = Instant::now(&rt)?;
-    fill(&rt, rt.alloc(), 65_536)?;
-    sure(&rt, begin.elapsed(&rt)?.as_secs() < MOST_SECONDS);
-    Ok(())
+    fill(&rt, rt.alloc(), 65_536)
 }
 
 #[test]

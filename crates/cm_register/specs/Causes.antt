@@ -1,7 +1,8 @@
 -- When a call gets into no history (own).
-use Rattle.std.specs.Prelude.{◌≡◌, ◌≢◌, ◌<◌, ℕ, length, reverse}
+use Rattle.std.specs.Prelude.{◌≡◌, ◌≢◌, ◌<◌, ◌≤◌, ℕ, length, reverse}
 use Rattle.cm_nmt.specs.Listing.{Listing}
 use Rattle.cm_history.specs.Answering.{answer_of}
+use Rattle.cm_history.specs.Legal.{AreOfSeats, IsLegal}
 use Rattle.cm_history.specs.OrderFrames.{frames_of}
 use Rattle.cm_history.specs.declared.call.Call.{Call}
 use Rattle.cm_seat.specs.declared.fault.CallFault.{CallFault}
@@ -34,3 +35,12 @@ IsCause net limit book seat call fault.OutOfMemory = Unit {0}
 IsCause net limit book seat call fault.SeatStale = IsStale book seat
 IsCause net limit book seat call fault.JournalFull = (IsStale book seat → ⊥) × IsFull limit book
 IsCause net limit book seat call fault.WireFull = (IsStale book seat → ⊥) × (IsFull limit book → ⊥) × LacksRoom net book call
+
+-- where each fault of a register's call comes: the book under its lock had a legal history within the limit, each entry of one
+-- of this many seats, and there the fault's cause. So WireFull comes only of a call that is answered with frames
+pub record IsCallCause (net : Listing) (seats limit : ℕ) (seat : SeatView) (call : Call) (f : CallFault) : Type 0 where
+  pub book : BookView
+  pub legal : IsLegal net (reverse book.history)
+  pub few : length book.history ≤ limit
+  pub seated : AreOfSeats seats book.history
+  pub cause : IsCause net limit book seat call f

@@ -1,6 +1,6 @@
 //! One thread for each worker.
-ghost use Rattle.std.specs.Prelude.{◌≡◌, vec_capacity, vec_len, IfErr, IfOk, IsTrue};
-ghost use Rattle.cm_run.specs.Jobs.{AllDone, AllDoneOrStopped, IsDoneIfRun};
+ghost use Rattle.std.specs.Prelude.{◌≡◌, vec_capacity, vec_len, IfErr, IfOk, IsFalse, IsTrue};
+ghost use Rattle.cm_run.specs.Jobs.{AllDone, AllDoneOrStopped, IsDoneIfRun, SomeStopped};
 
 use crate::jobs::{Job, Plan};
 use crate::working::work;
@@ -116,6 +116,7 @@ fn run_first<
     ensures capacity { vec_capacity jobs.new ≡ vec_capacity jobs.old }
     ensures each { AllDoneOrStopped plan jobs.old.items jobs.new.items }
     ensures all { IsTrue result → AllDone plan jobs.old.items jobs.new.items }
+    ensures some { IsFalse result → SomeStopped jobs.old.items jobs.new.items }
 {
     let Some(job) = jobs.pop() else {
         return true;
@@ -129,9 +130,15 @@ fn run_first<
             was_run && others
         }
         Err(back) => {
-            let Back { job, was_run: _ } = back;
+            let Back { job, was_run } = back;
+            if !was_run {
+                jobs.push_reserved(job);
+                return false;
+            }
+            // This never comes, though no clause says so: a job whose thread is refused isn't run.
+            let others = run_first(scope, rt, register, plan, refused, jobs);
             jobs.push_reserved(job);
-            false
+            others
         }
     }
 }
@@ -147,6 +154,7 @@ pub(crate) fn run_jobs<
     ensures done { IfOk result (λ v. AllDone plan jobs.items v.items) }
     ensures stopped_len { IfErr result (λ v. vec_len v ≡ vec_len jobs) }
     ensures stopped { IfErr result (λ v. AllDoneOrStopped plan jobs.items v.items) }
+    ensures some { IfErr result (λ v. SomeStopped jobs.items v.items) }
 {
     let refused = AtomicUsize::new(plan.workers);
     let refused = &refused;
@@ -158,6 +166,7 @@ pub(crate) fn run_jobs<
             ensures done { IfOk result (λ v. AllDone plan jobs.items v.items) }
             ensures stopped_len { IfErr result (λ v. vec_len v ≡ vec_len jobs) }
             ensures stopped { IfErr result (λ v. AllDoneOrStopped plan jobs.items v.items) }
+            ensures some { IfErr result (λ v. SomeStopped jobs.items v.items) }
         {
             let mut jobs = jobs;
             if run_first(scope, rt, register, plan, refused, &mut jobs) {

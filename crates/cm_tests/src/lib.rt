@@ -5,6 +5,8 @@
 #[cfg(test)]
 mod boots;
 #[cfg(test)]
+mod devices;
+#[cfg(test)]
 mod manager;
 #[cfg(test)]
 mod netlist;

@@ -3,8 +3,7 @@
 ghost use Rattle.cm_register.specs.Naming.{Names};
 
 use crate::support::{
-    close, entry, frame, is_made, is_refused, lacks_seats, network, open, sees, stop_the_slave,
-    sure,
+    close, entry, frame, is_made, is_refused, lacks_seats, network, open, sees, sure,
 };
 use cm_history::{Call, Orders, Reply};
 use cm_register::{CallFault, Opened, RunName, SeatList};
@@ -107,7 +106,8 @@ fn a_seat_that_was_dropped_is_missing(rt: HostRuntime) -> Result<(), Fail> {
     drops_a_seat::<Brand, _>(&rt, opened)
 }
 
-/// A seat calls and reads as before where another was dropped, and the register doesn't close.
+/// A register and a seat that are handed back go on where another seat was dropped, and the register
+/// doesn't close.
 fn drops_a_seat<K: RunName, R: Wait + Abort>(rt: &R, opened: Opened<SimWire>) -> Result<(), Fail>
     requires { Names K.RunName opened }
 {
@@ -120,8 +120,9 @@ fn drops_a_seat<K: RunName, R: Wait + Abort>(rt: &R, opened: Opened<SimWire>) ->
         return Err(Fail::from("seats"));
     };
     sees(rt, seat, 5, 0, 0);
-    stop_the_slave(rt, &register, seat);
-    sees(rt, seat, 5, 2, 4);
+    let read = register.call(rt, seat, Call::Read(1));
+    is_made(rt, read, 1, Reply::Refused(3));
+    sees(rt, seat, 5, 1, 0);
     lacks_seats(rt, register, seats, 1)?;
     Ok(())
 }

@@ -1,4 +1,4 @@
-//! A read while a call is made: a wire holds a frame, and so the lock, until the read has returned.
+//! Reads while a call is made: a wire holds a frame, and so the lock, until sixteen seats have read.
 
 ghost use Rattle.cm_register.specs.Naming.{Names};
 
@@ -9,7 +9,7 @@ use cm_simulated::SimWire;
 use std::marker::Brand;
 use std::process::Abort;
 use std::sync::Wait;
-use std::sync::atomic::{AtomicBool, Ordering};
+use std::sync::atomic::{AtomicUsize, Ordering};
 use std::test::Fail;
 use std::thread;
 use std::thread::Threads;
@@ -17,28 +17,29 @@ use std::thread::Threads;
 /// How many turns the frame is held at most.
 const TURNS: u32 = 1_000_000;
 
-/// What the two threads tell each other.
+/// How many seats read; one more calls.
+const READERS: usize = 16;
+
+/// What the threads tell each other: how many frames are held, and how many seats have read.
 #[derive(Drop)]
-struct Signs {
-    /// The frame is held.
-    is_held: AtomicBool,
-    /// The read has returned.
-    has_read: AtomicBool,
+struct Counts {
+    held: AtomicUsize,
+    read: AtomicUsize,
 }
 
-/// A wire on which the second frame is held until a read has returned.
+/// A wire on which the second frame is held until all have read.
 #[derive(Drop)]
 struct HoldingWire<'a> {
     wire: SimWire,
-    signs: &'a Signs,
-    /// Whether the read returned while the frame was held.
-    was_read: bool,
+    counts: &'a Counts,
+    /// Whether all had read while the frame was held.
+    were_read: bool,
 }
 
-/// Whether the sign comes in time.
-fn comes(sign: &AtomicBool) -> bool {
+/// Whether the count comes to this many in time.
+fn reaches(count: &AtomicUsize, least: usize) -> bool {
     for _ in 0..TURNS {
-        if sign.load(Ordering::SeqCst) {
+        if count.load(Ordering::SeqCst) >= least {
             return true;
         }
         thread::yield_now();
@@ -61,8 +62,8 @@ impl<'a> Wire for HoldingWire<'a> {
 
     fn send(&mut self, frame: Frame) {
         if self.wire.sent().len() == 1 {
-            self.signs.is_held.store(true, Ordering::SeqCst);
-            self.was_read = comes(&self.signs.has_read);
+            self.counts.held.fetch_add(1, Ordering::SeqCst);
+            self.were_read = reaches(&self.counts.read, READERS);
         }
         let wire = &mut self.wire;
         wire.send(frame);
@@ -70,58 +71,58 @@ impl<'a> Wire for HoldingWire<'a> {
 }
 
 /// Reads once the frame is held: what is seen is the network before the second call or after it.
-fn read_while_held<K: RunName>(rt: &impl Abort, seat: &mut Seat<K>, signs: &Signs) {
-    sure(rt, comes(&signs.is_held));
+fn read_while_held<K: RunName>(rt: &impl Abort, seat: &mut Seat<K>, counts: &Counts) {
+    sure(rt, reaches(&counts.held, 1));
     let seen = seat.read(5);
-    signs.has_read.store(true, Ordering::SeqCst);
+    counts.read.fetch_add(1, Ordering::SeqCst);
     let (before, after) = (Seen { count: 1, state: 0 }, Seen { count: 2, state: 4 });
     sure(rt, seen == Ok(before) || seen == Ok(after));
 }
 
+/// Seat 1 calls, and each other seat reads, all at once.
 fn reads_beside_a_held_frame<K: RunName + Send + Sync, R: Wait + Threads + Abort + Send + Sync>(
     rt: &R,
     opened: Opened<HoldingWire>,
-    signs: &Signs,
+    counts: &Counts,
 ) -> Result<(), Fail>
     requires { Names K.RunName opened }
 {
     let Ok((register, mut seats)) = opened.named::<K>() else {
         return Err(Fail::from("named"));
     };
-    let Some(mut second) = seats.pop() else {
-        return Err(Fail::from("seats"));
-    };
-    let Some(mut first) = seats.pop() else {
-        return Err(Fail::from("seats"));
-    };
-    let shared = &register;
-    thread::join(
+    sure(rt, seats.len() == READERS + 1);
+    thread::for_each_mut(
         rt,
-        || stop_the_slave(rt, shared, &mut first),
-        || read_while_held(rt, &mut second, signs),
+        seats.as_mut_slice(),
+        READERS + 1,
+        &|place, seat| {
+            if place == 0 {
+                stop_the_slave(rt, &register, seat);
+            } else {
+                read_while_held(rt, seat, counts);
+            }
+        },
     );
-    seats.push(first)?;
-    seats.push(second)?;
     let closed = close(register, seats)?;
-    sure(rt, closed.wire.was_read);
+    sure(rt, closed.wire.were_read);
     sure(rt, closed.wire.wire.sent().len() == 2);
     Ok(())
 }
 
 #[test]
-fn a_read_returns_while_a_frame_is_held(rt: HostRuntime) -> Result<(), Fail> {
+fn reads_return_while_a_frame_is_held(rt: HostRuntime) -> Result<(), Fail> {
     let net = network(&rt, rt.alloc(), 1, &[(5, 0x05)]);
-    let signs = Signs {
-        is_held: AtomicBool::new(false),
-        has_read: AtomicBool::new(false),
+    let counts = Counts {
+        held: AtomicUsize::new(0),
+        read: AtomicUsize::new(0),
     };
     let wire = HoldingWire {
         wire: SimWire::new(rt.alloc(), 10)?,
-        signs: &signs,
-        was_read: false,
+        counts: &counts,
+        were_read: false,
     };
-    let Ok(opened) = Register::open(rt.alloc(), &net, 2, 12, wire) else {
+    let Ok(opened) = Register::open(rt.alloc(), &net, READERS as u16 + 1, 12, wire) else {
         return Err(Fail::from("open"));
     };
-    reads_beside_a_held_frame::<Brand, _>(&rt, opened, &signs)
+    reads_beside_a_held_frame::<Brand, _>(&rt, opened, &counts)
 }

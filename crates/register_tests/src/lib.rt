@@ -10,9 +10,9 @@ mod first_use;
 #[cfg(test)]
 mod holding;
 #[cfg(test)]
-mod memory;
-#[cfg(test)]
 mod one_book;
+#[cfg(test)]
+mod one_seat;
 #[cfg(test)]
 mod opening;
 #[cfg(test)]

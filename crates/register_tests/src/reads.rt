@@ -11,8 +11,9 @@ use std::process::Abort;
 use std::sync::Wait;
 use std::test::Fail;
 
-/// How many calls are made: each of the ten kinds, and behind each a Read of every node.
-const CALLS: u32 = 10 * 128;
+/// How many calls are made: each of the ten kinds, behind each a Read of every node, and three that name no
+/// node.
+const CALLS: u32 = 10 * 128 + 3;
 
 /// Reads every node, and asks the same by a call.
 fn reads_as_calls<K: RunName, R: Wait + Abort>(
@@ -28,6 +29,21 @@ fn reads_as_calls<K: RunName, R: Wait + Abort>(
             return sure(rt, false);
         };
         sure(rt, read.reply == Reply::State(seen.state));
+    }
+}
+
+/// Asserts that calls whose target is no node-ID, nor all nodes, are made, and refused for it.
+fn refuses_targets<K: RunName, R: Wait + Abort>(
+    rt: &R,
+    register: &Register<SimWire, K>,
+    seat: &mut Seat<K>,
+) {
+    for call in [Call::Request(0, 5), Call::Request(129, 5), Call::Read(0)] {
+        let made = register.call(rt, seat, call);
+        sure(
+            rt,
+            made.is_ok_and(|receipt| receipt.reply == Reply::Refused(10)),
+        );
     }
 }
 
@@ -61,6 +77,7 @@ fn reads_after_each<K: RunName, R: Wait + Abort>(
         sure(rt, made.is_ok_and(|receipt| receipt.reply.is_granted()));
         reads_as_calls(rt, &register, &mut seat);
     }
+    refuses_targets(rt, &register, &mut seat);
     sure(rt, seat.read(5).is_ok_and(|seen| seen.state == 4));
     Ok(())
 }

@@ -3,15 +3,17 @@
 #![tactic(auto)]
 
 #[cfg(test)]
+mod beside;
+#[cfg(test)]
 mod boots;
 #[cfg(test)]
-mod holding;
-#[cfg(test)]
-mod memory;
+mod operator;
 #[cfg(test)]
 mod reading;
 #[cfg(test)]
 mod rounds;
+#[cfg(test)]
+mod side_by_side;
 #[cfg(test)]
 mod support;
 #[cfg(test)]

@@ -2,52 +2,65 @@
 
 ghost use Rattle.cm_register.specs.Naming.{Names};
 
-use crate::support::{agreeing, close, is_made, network, open, sure};
-use cm_history::{Call, Reply};
+use crate::support::{HeldBus, close_with, held, network, open, reaches, started, sure};
 use cm_register::{Opened, Register, RunName, Seat, Seen};
 use cm_run::{Booted, boot_all};
-use cm_simulated::{SimBus, SimWire};
+use cm_simulated::SimWire;
 use std::alloc::Global;
 use std::marker::Brand;
 use std::process::Abort;
 use std::sync::Wait;
+use std::sync::atomic::{AtomicUsize, Ordering};
 use std::test::Fail;
 use std::thread;
 use std::thread::Threads;
 
-/// How many reads are made beside the boot.
-const READS: u8 = 100;
+/// How many reads are made beside the boot, and behind how many of them a slave answers.
+const READS: usize = 100;
 
-/// Reads nodes 1 and 2 in turn: the count is of the start at least and never falls, and a node is
-/// booted, or nothing is known of it.
-fn reads_in_turn<K: RunName>(rt: &impl Abort, seat: &mut Seat<K>) -> Result<(), Fail> {
-    let mut least = 1;
+const HELD_FOR: usize = 50;
+
+/// Reads nodes 1 and 2 in turn, once both were asked: the count is of the start and two begins, never
+/// falls, and stays as long as no slave answers; a node is booted then, or nothing is known of it.
+fn reads_in_turn<K: RunName>(
+    rt: &impl Abort,
+    seat: &mut Seat<K>,
+    asked: &AtomicUsize,
+    reads: &AtomicUsize,
+) -> Result<(), Fail> {
+    sure(rt, reaches(asked, 2));
+    let mut least = 3;
     for turn in 0..READS {
-        let Ok(seen) = seat.read(turn % 2 + 1) else {
+        let Ok(seen) = seat.read(turn as u8 % 2 + 1) else {
             return Err(Fail::from("read"));
         };
         sure(rt, seen.count >= least);
         sure(rt, seen.state == 0 || seen.state == 5);
+        sure(rt, turn >= HELD_FOR || (seen.count == 3 && seen.state == 0));
         least = seen.count;
+        reads.fetch_add(1, Ordering::SeqCst);
         thread::yield_now();
     }
     Ok(())
 }
 
-/// Boots the slaves in another thread, while a seat reads.
-fn boots_beside<K: RunName + Send + Sync, R: Wait + Threads + Abort + Send + Sync>(
+/// Boots the slaves in another thread, while a seat reads; no slave answers before half of the reads.
+fn boots_beside<'a, K: RunName + Send + Sync, R: Wait + Threads + Abort + Send + Sync>(
     rt: &R,
     alloc: Global,
     register: &Register<SimWire, K>,
     seats: Vec<Seat<K>>,
-    buses: Vec<SimBus>,
     reader: &mut Seat<K>,
-) -> Result<Booted<SimBus, K>, Fail> {
+    asked: &'a AtomicUsize,
+    reads: &'a AtomicUsize,
+) -> Result<Booted<HeldBus<'a>, K>, Fail> {
+    let workers = seats.len();
+    let buses = held(alloc, register.network(), workers, asked, reads, HELD_FOR)?;
     thread::scope(thread::scope_env(), rt, |scope| {
         let Ok(boot) = scope.spawn(move || boot_all(rt, alloc, register, seats, buses, 2)) else {
             return Err(Fail::from("thread"));
         };
-        reads_in_turn(rt, reader)?;
+        reads_in_turn(rt, reader, asked, reads)?;
         let Ok(booted) = boot.join(rt) else {
             return Err(Fail::from("boot_all"));
         };
@@ -64,24 +77,16 @@ fn reads_beside_a_boot<K: RunName + Send + Sync, R: Wait + Threads + Abort + Sen
 ) -> Result<(), Fail>
     requires { Names K.RunName opened }
 {
-    let Ok((register, mut seats)) = opened.named::<K>() else {
-        return Err(Fail::from("named"));
-    };
-    let Some(mut reader) = seats.pop() else {
-        return Err(Fail::from("seats"));
-    };
-    let start = register.call(rt, &mut reader, Call::StartNetwork);
-    is_made(rt, start, 1, Reply::Started);
-    let buses = agreeing(alloc, register.network(), seats.len())?;
-    let booted = boots_beside(rt, alloc, &register, seats, buses, &mut reader)?;
+    let (register, seats, mut reader) = started::<K, _>(rt, opened)?;
+    let asked = AtomicUsize::new(0);
+    let reads = AtomicUsize::new(0);
+    let booted = boots_beside(rt, alloc, &register, seats, &mut reader, &asked, &reads)?;
     for number in 1..3 {
         let seen = reader.read(number).ok();
         sure(rt, seen == Some(Seen { count: 5, state: 5 }));
     }
     sure(rt, reader.list().len() == 1);
-    let mut seats = booted.seats;
-    seats.push(reader)?;
-    let closed = close(register, seats)?;
+    let closed = close_with(register, booted.seats, reader)?;
     sure(rt, closed.history.len() == 5);
     Ok(())
 }

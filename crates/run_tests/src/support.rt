@@ -1,14 +1,25 @@
 //! What the tests of several topics call.
 
+ghost use Rattle.std.specs.Prelude.{⊤};
+ghost use Rattle.cm_register.specs.Naming.{Names};
+
 use arrayvec::ArrayVec;
-use cm_history::Reply;
+use cm_boot::{Answer, Bus, Question};
+use cm_history::{Call, Reply};
 use cm_netlist::{Network, SlaveEntry};
-use cm_nmt::{Assignment, NodeId, Startup, Terms};
+use cm_nmt::{Assignment, Frame, NodeId, Startup, Terms};
 use cm_register::{CallFault, Closed, Opened, Receipt, Register, RunName, Seat};
+use cm_run::{Last, Outcome};
 use cm_simulated::{SimBus, SimSlave, SimWire};
 use std::alloc::{AllocError, Global};
 use std::process::Abort;
+use std::sync::Wait;
+use std::sync::atomic::{AtomicUsize, Ordering};
 use std::test::Fail;
+use std::thread;
+
+/// How many turns are waited at most.
+const TURNS: u32 = 1_000_000;
 
 // Each comparison is asserted here, since an assertion of its own in each place is long to prove.
 pub(crate) fn sure(rt: &impl Abort, is_so: bool) {
@@ -17,6 +28,11 @@ pub(crate) fn sure(rt: &impl Abort, is_so: bool) {
 
 pub(crate) fn node(rt: &impl Abort, number: u8) -> NodeId {
     NodeId::new(number).expect(rt, "a node-ID")
+}
+
+/// The frame of these two bytes.
+pub(crate) fn frame(rt: &impl Abort, bytes: [u8; 2]) -> Frame {
+    Frame::read(&bytes).expect(rt, "a frame")
 }
 
 /// A slave of this assignment, whose other fields are 0.
@@ -61,6 +77,24 @@ pub(crate) fn open<'n>(
     Ok(opened)
 }
 
+/// A register whose last seat, the operator's, has started the network: with the workers' seats and that one.
+pub(crate) fn started<'n, K: RunName, R: Wait + Abort>(
+    rt: &R,
+    opened: Opened<'n, SimWire>,
+) -> Result<(Register<'n, SimWire, K>, Vec<Seat<K>>, Seat<K>), Fail>
+    requires { Names K.RunName opened }
+{
+    let Ok((register, mut seats)) = opened.named::<K>() else {
+        return Err(Fail::from("named"));
+    };
+    let Some(mut operator) = seats.pop() else {
+        return Err(Fail::from("seats"));
+    };
+    let start = register.call(rt, &mut operator, Call::StartNetwork);
+    is_made(rt, start, 1, Reply::Started);
+    Ok((register, seats, operator))
+}
+
 /// What a register leaves that closes with these seats.
 pub(crate) fn close<K: RunName>(
     register: Register<SimWire, K>,
@@ -70,6 +104,25 @@ pub(crate) fn close<K: RunName>(
         return Err(Fail::from("close"));
     };
     Ok(closed)
+}
+
+/// What it leaves with the workers' seats and the operator's.
+pub(crate) fn close_with<K: RunName>(
+    register: Register<SimWire, K>,
+    mut seats: Vec<Seat<K>>,
+    operator: Seat<K>,
+) -> Result<Closed<SimWire>, Fail> {
+    seats.push(operator)?;
+    close(register, seats)
+}
+
+/// What this many attempts at a slave came to.
+pub(crate) fn outcome(rt: &impl Abort, number: u8, attempts: u8, last: Last) -> Outcome {
+    Outcome {
+        id: node(rt, number),
+        attempts,
+        last,
+    }
 }
 
 /// A bus for each worker, with its slaves, which agree with the list.
@@ -102,4 +155,58 @@ pub(crate) fn is_made(
         Ok(receipt) => sure(rt, receipt == Receipt { position, reply }),
         Err(fault) => panic!(rt; "{fault}"),
     }
+}
+
+/// Whether the count comes to this many in time.
+pub(crate) fn reaches(count: &AtomicUsize, least: usize) -> bool {
+    for _ in 0..TURNS {
+        if count.load(Ordering::SeqCst) >= least {
+            return true;
+        }
+        thread::yield_now();
+    }
+    false
+}
+
+/// A bus that counts its questions, and holds each answer until another count has come to this many;
+/// it is silent where that isn't so in time.
+#[derive(Drop)]
+pub(crate) struct HeldBus<'a> {
+    slaves: SimBus,
+    asked: &'a AtomicUsize,
+    awaited: &'a AtomicUsize,
+    least: usize,
+}
+
+impl<'a> Bus for HeldBus<'a> {
+    ghost step = { λ _ _ _ _ _. ⊤ };
+
+    fn ask(&mut self, id: NodeId, question: Question) -> Answer {
+        self.asked.fetch_add(1, Ordering::SeqCst);
+        if !reaches(self.awaited, self.least) {
+            return Answer::Silent;
+        }
+        self.slaves.ask(id, question)
+    }
+}
+
+/// A bus for each worker, with its slaves, which agree with the list and whose answers are held.
+pub(crate) fn held<'a>(
+    alloc: Global,
+    net: &Network,
+    workers: usize,
+    asked: &'a AtomicUsize,
+    awaited: &'a AtomicUsize,
+    least: usize,
+) -> Result<Vec<HeldBus<'a>>, AllocError> {
+    let mut buses = Vec::new(alloc);
+    for slaves in agreeing(alloc, net, workers)? {
+        buses.push(HeldBus {
+            slaves,
+            asked,
+            awaited,
+            least,
+        })?;
+    }
+    Ok(buses)
 }

@@ -1,0 +1,62 @@
+//! One seat that fills a history longer than one of 65,536 entries, and reads twice in all that time.
+
+ghost use Rattle.cm_register.specs.Naming.{Names};
+
+use crate::support::{close, is_made, is_refused, network, open, sees, sure};
+use cm_history::{Call, Reply};
+use cm_register::{CallFault, Opened, Register, RunName, Seat};
+use cm_simulated::SimWire;
+use std::marker::Brand;
+use std::process::Abort;
+use std::sync::Wait;
+use std::test::Fail;
+
+/// How many calls are made before the first read, and how many before the second.
+const MANY: u32 = 65_536;
+
+const LIMIT: u32 = 70_000;
+
+/// Makes calls at the places from the first to the last, and reads once then.
+fn calls_up_to<K: RunName, R: Wait + Abort>(
+    rt: &R,
+    register: &Register<SimWire, K>,
+    seat: &mut Seat<K>,
+    first: u32,
+    last: u32,
+) {
+    for position in first..=last {
+        let read = register.call(rt, seat, Call::Read(1));
+        is_made(rt, read, position, Reply::Refused(3));
+    }
+    sees(rt, seat, 1, last, 127);
+}
+
+/// Fills the history and closes the register.
+fn fills<K: RunName, R: Wait + Abort>(rt: &R, opened: Opened<SimWire>) -> Result<(), Fail>
+    requires { Names K.RunName opened }
+{
+    let Ok((register, mut seats)) = opened.named::<K>() else {
+        return Err(Fail::from("named"));
+    };
+    let [seat] = seats.as_mut_slice() else {
+        return Err(Fail::from("seats"));
+    };
+    calls_up_to(rt, &register, seat, 1, MANY);
+    calls_up_to(rt, &register, seat, MANY + 1, LIMIT);
+    let more = register.call(rt, seat, Call::Read(1));
+    is_refused(rt, more, CallFault::JournalFull);
+    let closed = close(register, seats)?;
+    sure(rt, closed.history.len() == LIMIT as usize);
+    let [list] = closed.lists.as_slice() else {
+        return Err(Fail::from("lists"));
+    };
+    sure(rt, list.made.len() == LIMIT as usize);
+    Ok(())
+}
+
+#[test]
+fn one_seat_fills_a_history(rt: HostRuntime) -> Result<(), Fail> {
+    let net = network(&rt, rt.alloc(), 1, &[]);
+    let opened = open(rt.alloc(), &net, 1, LIMIT, 0)?;
+    fills::<Brand, _>(&rt, opened)
+}
