@@ -11,9 +11,9 @@ use cm_simulated::SimWire;
 use std::marker::Brand;
 use std::sync::Wait;
 
-/// How many calls are made: for so many a seat has taken memory where its list has grown from 4 places by
-/// doubling, so that one more wants memory, and the history is full too.
-const CALLS: u32 = 32;
+/// How many calls are made: a seat takes memory for 4, 16 and 64 calls, so that one more wants memory, and
+/// the history is full too.
+const CALLS: u32 = 64;
 
 /// A wire with room for a frame.
 fn wire<R: Print + AllocGlobal>(rt: &R) -> Option<SimWire> {

@@ -166,7 +166,8 @@ impl<K: RunName> Seat<K> {
         Ok(Seen { count, state })
     }
 
-    /// Memory for one call more, where the list has none left: a larger list, still empty.
+    /// Memory for one call more, where the list has none left: a larger list, still empty, with four times
+    /// the places, since all calls so far move there.
     pub fn room_for_call(&self) -> Result<Option<Vec<Made>>, AllocError>
         ensures { IfOk result (λ room. MatchOption room
             (length self.now.list < self.now.capacity)
@@ -176,7 +177,7 @@ impl<K: RunName> Seat<K> {
         if count < self.list.capacity() {
             return Ok(None);
         }
-        let Some(more) = count.checked_mul(2) else {
+        let Some(more) = count.checked_mul(4) else {
             return Err(AllocError);
         };
         Ok(Some(Vec::with_capacity(*self.list.allocator(), more.max(4))?))
