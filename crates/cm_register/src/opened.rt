@@ -173,7 +173,8 @@ impl<'n, W: Wire> Opened<'n, W> {
         ensures fault { IfErr result IsNameCause }
     {
         let net = self.net;
+        let made = self.seats;
         let (book, seats) = self.book::<K>()?;
-        Ok((Register::around(net, book), seats))
+        Ok((Register::around(net, made, book), seats))
     }
 }
