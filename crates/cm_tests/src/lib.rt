@@ -7,6 +7,8 @@ mod boots;
 #[cfg(test)]
 mod devices;
 #[cfg(test)]
+mod frames;
+#[cfg(test)]
 mod manager;
 #[cfg(test)]
 mod netlist;

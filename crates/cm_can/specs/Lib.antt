@@ -1,0 +1,4 @@
+pub mod Frames
+pub mod Sdo
+pub mod Control
+pub mod Questions
