@@ -10,6 +10,7 @@ mod control;
 mod frame;
 mod node;
 mod sdo;
+mod text;
 
 pub use control::{ErrorControl, error_control, guard_request, nmt_frame};
 pub use frame::{CanFrame, CanId, Kind};

@@ -1,0 +1,43 @@
+-- How frames stand in lines of text: those of can-utils (`candump -L`, `canplayer`), and those of a serial adapter (SLCAN).
+use Rattle.std.specs.Prelude.{◌≡◌, ◌≤◌, ◌+◌, ◌/◌, ◌%◌, ◌⊎◌, ◌≢◌, ℕ, List, [], ◌∷◌, ◌++◌, All}
+use Rattle.cm_text.specs.Hex.{glyph}
+use Rattle.cm_can.specs.declared.frame.CanFrame.{CanFrame}
+use Rattle.cm_can.specs.declared.frame.Kind.TheVariants.{Data, Remote}
+use Rattle.cm_can.specs.Frames.{data_of}
+
+-- the three digits of an identifier of 11 bits
+abbrev pub id_digits : ℕ → List ℕ
+id_digits n = glyph (n / 256) ∷ glyph (n / 16 % 16) ∷ glyph (n % 16) ∷ []
+
+-- the digits of bytes, two each
+abbrev pub byte_digits : List ℕ → List ℕ
+byte_digits [] = []
+byte_digits (b ∷ bs) = glyph (b / 16) ∷ glyph (b % 16) ∷ byte_digits bs
+
+-- a data frame as can-utils has it: identifier, `#`, bytes
+abbrev pub IsDataText : List ℕ → CanFrame → Type 0
+IsDataText text f = (f.kind ≡ Data) × (text ≡ id_digits f.id.number ++ 35 ∷ byte_digits (data_of f))
+
+-- a remote frame: identifier, `#R`, and the number of bytes that it asks for, which may be left out
+abbrev pub IsRemoteText : List ℕ → CanFrame → Type 0
+IsRemoteText text f =
+    (f.kind ≡ Remote)
+    × ((text ≡ id_digits f.id.number ++ 35 ∷ 82 ∷ []) ⊎ ((count : ℕ) × (count ≤ 8) × (text ≡ id_digits f.id.number ++ 35 ∷ 82 ∷ (48 + count) ∷ [])))
+
+-- the text of a frame
+abbrev pub IsFrameText : List ℕ → CanFrame → Type 0
+IsFrameText text f = IsDataText text f ⊎ IsRemoteText text f
+
+-- no space (32) is among these bytes
+abbrev pub HasNoSpace : List ℕ → Type 0
+HasNoSpace text = All (λ b. b ≢ 32) text
+
+-- a line of `candump -L`: a time in parentheses, an interface, and the frame, with one space between two of them
+pub record IsLogLine (line : List ℕ) (f : CanFrame) : Type 0 where
+  pub time : List ℕ
+  pub interface : List ℕ
+  pub text : List ℕ
+  pub parts : line ≡ (40 ∷ time ++ 41 ∷ []) ++ 32 ∷ (interface ++ 32 ∷ text)
+  pub when_is : HasNoSpace time
+  pub where_is : HasNoSpace interface
+  pub frame : IsFrameText text f
