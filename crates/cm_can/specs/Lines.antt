@@ -18,11 +18,13 @@ byte_digits (b ∷ bs) = glyph (b / 16) ∷ glyph (b % 16) ∷ byte_digits bs
 abbrev pub IsDataText : List ℕ → CanFrame → Type 0
 IsDataText text f = (f.kind ≡ Data) × (text ≡ id_digits f.id.number ++ 35 ∷ byte_digits (data_of f))
 
--- a remote frame: identifier, `#R`, and the number of bytes that it asks for, which may be left out
+-- what stands behind the `#` of a remote frame: `R`, and the number of bytes that it asks for, which may be left out
+abbrev pub IsRemoteTail : List ℕ → Type 0
+IsRemoteTail tail = (tail ≡ 82 ∷ []) ⊎ ((count : ℕ) × (count ≤ 8) × (tail ≡ 82 ∷ (48 + count) ∷ []))
+
+-- a remote frame: identifier, `#`, and that
 abbrev pub IsRemoteText : List ℕ → CanFrame → Type 0
-IsRemoteText text f =
-    (f.kind ≡ Remote)
-    × ((text ≡ id_digits f.id.number ++ 35 ∷ 82 ∷ []) ⊎ ((count : ℕ) × (count ≤ 8) × (text ≡ id_digits f.id.number ++ 35 ∷ 82 ∷ (48 + count) ∷ [])))
+IsRemoteText text f = (f.kind ≡ Remote) × ((tail : List ℕ) × IsRemoteTail tail × (text ≡ id_digits f.id.number ++ 35 ∷ tail))
 
 -- the text of a frame
 abbrev pub IsFrameText : List ℕ → CanFrame → Type 0

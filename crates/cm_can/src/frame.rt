@@ -55,6 +55,21 @@ impl CanFrame {
         }
     }
 
+    /// A data frame with these bytes.
+    pub fn with(id: CanId, carried: &[u8]) -> CanFrame
+        requires { length carried.now ≤ 8 }
+        ensures { IsData result id.number carried.now }
+    {
+        let mut bytes = [0; 8];
+        bytes[..carried.len()].copy_from_slice(carried);
+        CanFrame {
+            id,
+            kind: Kind::Data,
+            len: carried.len() as u8,
+            bytes,
+        }
+    }
+
     /// A remote frame.
     pub fn remote(id: CanId) -> CanFrame
         ensures { IsRemote result id.number }

@@ -8,11 +8,13 @@
 
 mod control;
 mod frame;
+mod lines;
 mod node;
 mod sdo;
 mod text;
 
 pub use control::{ErrorControl, error_control, guard_request, nmt_frame};
 pub use frame::{CanFrame, CanId, Kind};
+pub use lines::read_frame;
 pub use node::{answer_of, request_of};
 pub use sdo::{NO_SEGMENTS, TIMED_OUT, abort_frame, downloaded_by, is_segmented, sdo_request, uploaded_by};

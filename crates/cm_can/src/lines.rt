@@ -1,0 +1,67 @@
+//! Frames in lines of can-utils: `candump -L` writes one for each frame that is heard, `canplayer` sends one for
+//! each that it reads.
+
+ghost use Rattle.std.specs.Prelude.{◌≡◌, ◌≢◌, ◌<◌, ◌≤◌, ◌++◌, ◌∷◌, All, IfNone, IfSome, IsFalse, IsTrue, length};
+ghost use Rattle.cm_can.specs.Frames.{IsData, data_of};
+ghost use Rattle.cm_can.specs.Lines.{IsFrameText, IsRemoteTail, byte_digits};
+
+use crate::frame::{CanFrame, CanId};
+use crate::text::{read_bytes, read_id};
+
+/// The data frame whose bytes a text spells; `None` exactly where it spells no bytes, or more than eight.
+fn data_frame(id: CanId, text: &[u8]) -> Option<CanFrame>
+    ensures some { IfSome result
+        (λ f. (bytes : _) × IsData f id.number bytes × (text.now ≡ byte_digits bytes)) }
+    ensures none { IfNone result ((bytes : _) → length bytes ≤ 8 → All (λ b. b < 256) bytes
+        → text.now ≢ byte_digits bytes) }
+{
+    let Some(bytes) = read_bytes(text) else {
+        return None;
+    };
+    Some(CanFrame::with(id, bytes.as_slice()))
+}
+
+/// Whether this is what stands behind the `#` of a remote frame.
+fn is_remote(tail: &[u8]) -> bool
+    ensures yes { IsTrue result → IsRemoteTail tail.now }
+    ensures no { IsFalse result → IsRemoteTail tail.now → ⊥ }
+{
+    let [letter, count @ ..] = tail else {
+        return false;
+    };
+    if *letter != b'R' {
+        return false;
+    }
+    match count {
+        [] => true,
+        [count] => {
+            if *count < b'0' || *count > b'8' {
+                return false;
+            }
+            true
+        }
+        _ => false,
+    }
+}
+
+/// Reads a frame as can-utils writes it: three digits, `#`, and the bytes, or `R`. `None` exactly where the text
+/// is that of no frame with an identifier of 11 bits; a wider one, a frame of CAN FD and an error frame are none.
+pub fn read_frame(text: &[u8]) -> Option<CanFrame>
+    ensures some { IfSome result (IsFrameText text.now) }
+    ensures none { IfNone result ((f : CanFrame) → All (λ b. b < 256) (data_of f)
+        → IsFrameText text.now f → ⊥) }
+{
+    let [a, b, c, b'#', rest @ ..] = text else {
+        return None;
+    };
+    let Some(id) = read_id(*a, *b, *c) else {
+        return None;
+    };
+    if is_remote(rest) {
+        return Some(CanFrame::remote(id));
+    }
+    let Some(frame) = data_frame(id, rest) else {
+        return None;
+    };
+    Some(frame)
+}
