@@ -1,5 +1,5 @@
 -- How frames stand in lines of text: those of can-utils (`candump -L`, `canplayer`), and those of a serial adapter (SLCAN).
-use Rattle.std.specs.Prelude.{◌≡◌, ◌≤◌, ◌+◌, ◌/◌, ◌%◌, ◌⊎◌, ◌≢◌, ℕ, List, [], ◌∷◌, ◌++◌, All}
+use Rattle.std.specs.Prelude.{◌≡◌, ◌≤◌, ◌+◌, ◌-◌, ◌/◌, ◌%◌, ◌⊎◌, ◌≢◌, ℕ, List, [], ◌∷◌, ◌++◌, All, length, slice_index}
 use Rattle.cm_text.specs.Hex.{glyph}
 use Rattle.cm_can.specs.declared.frame.CanFrame.{CanFrame}
 use Rattle.cm_can.specs.declared.frame.Kind.TheVariants.{Data, Remote}
@@ -34,12 +34,18 @@ IsFrameText text f = IsDataText text f ⊎ IsRemoteText text f
 abbrev pub HasNoSpace : List ℕ → Type 0
 HasNoSpace text = All (λ b. b ≢ 32) text
 
+-- a time in parentheses
+pub record IsTime (text : List ℕ) : Type 0 where
+  pub two : 2 ≤ length text
+  pub opens : slice_index text 0 ≡ 40
+  pub closes : slice_index text (length text - 1) ≡ 41
+
 -- a line of `candump -L`: a time in parentheses, an interface, and the frame, with one space between two of them
 pub record IsLogLine (line : List ℕ) (f : CanFrame) : Type 0 where
   pub time : List ℕ
   pub interface : List ℕ
   pub text : List ℕ
-  pub parts : line ≡ (40 ∷ time ++ 41 ∷ []) ++ 32 ∷ (interface ++ 32 ∷ text)
-  pub when_is : HasNoSpace time
-  pub where_is : HasNoSpace interface
+  pub parts : line ≡ time ++ 32 ∷ (interface ++ 32 ∷ text)
+  pub unspaced : HasNoSpace time × HasNoSpace interface
+  pub timed : IsTime time
   pub frame : IsFrameText text f

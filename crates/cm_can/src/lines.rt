@@ -1,9 +1,9 @@
 //! Frames in lines of can-utils: `candump -L` writes one for each frame that is heard, `canplayer` sends one for
 //! each that it reads.
 
-ghost use Rattle.std.specs.Prelude.{◌≡◌, ◌≢◌, ◌<◌, ◌≤◌, ◌++◌, ◌∷◌, All, IfNone, IfSome, IsFalse, IsTrue, length};
+ghost use Rattle.std.specs.Prelude.{◌≡◌, ◌≢◌, ◌↔◌, ◌<◌, ◌≤◌, ◌++◌, ◌∷◌, All, IfNone, IfSome, IsFalse, IsTrue, length};
 ghost use Rattle.cm_can.specs.Frames.{IsData, data_of};
-ghost use Rattle.cm_can.specs.Lines.{IsFrameText, IsRemoteTail, byte_digits};
+ghost use Rattle.cm_can.specs.Lines.{HasNoSpace, IsFrameText, IsLogLine, IsRemoteTail, IsTime, byte_digits};
 
 use crate::frame::{CanFrame, CanId};
 use crate::text::{read_bytes, read_id};
@@ -61,6 +61,44 @@ pub fn read_frame(text: &[u8]) -> Option<CanFrame>
         return Some(CanFrame::remote(id));
     }
     let Some(frame) = data_frame(id, rest) else {
+        return None;
+    };
+    Some(frame)
+}
+
+/// The bytes before the first space, and those behind it.
+fn cut(text: &[u8]) -> Option<(&[u8], &[u8])>
+    ensures some { IfSome result (λ p. HasNoSpace p.0.now × (text.now ≡ p.0.now ++ 32 ∷ p.1.now)) }
+    ensures none { IfNone result (HasNoSpace text.now) }
+{
+    let place = text.iter().position(|byte| *byte == b' ')?;
+    Some((&text[..place], &text[place + 1..]))
+}
+
+/// Whether this is a time in parentheses.
+fn is_time(text: &[u8]) -> bool
+    ensures { IsTrue result ↔ IsTime text.now }
+{
+    text.len() >= 2 && text[0] == b'(' && text[text.len() - 1] == b')'
+}
+
+/// Reads a line of `candump -L`, which ends before its line feed: a time in parentheses, an interface, and a frame.
+/// `None` exactly where it is no such line, or one of a frame that [`read_frame`] doesn't read.
+pub fn read_log_line(line: &[u8]) -> Option<CanFrame>
+    ensures some { IfSome result (IsLogLine line.now) }
+    ensures none { IfNone result ((f : CanFrame) → All (λ b. b < 256) (data_of f)
+        → IsLogLine line.now f → ⊥) }
+{
+    let Some((time, rest)) = cut(line) else {
+        return None;
+    };
+    let Some((_, text)) = cut(rest) else {
+        return None;
+    };
+    if !is_time(time) {
+        return None;
+    }
+    let Some(frame) = read_frame(text) else {
         return None;
     };
     Some(frame)
