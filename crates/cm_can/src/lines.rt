@@ -5,8 +5,9 @@ ghost use Rattle.std.specs.Prelude.{◌≡◌, ◌≢◌, ◌↔◌, ◌<◌, �
 ghost use Rattle.cm_can.specs.Frames.{IsData, data_of};
 ghost use Rattle.cm_can.specs.Lines.{HasNoSpace, IsFrameText, IsLogLine, IsRemoteTail, IsTime, byte_digits};
 
-use crate::frame::{CanFrame, CanId};
-use crate::text::{read_bytes, read_id};
+use crate::frame::{CanFrame, CanId, Kind};
+use crate::text::{id_text, push_bytes, read_bytes, read_id};
+use arrayvec::ArrayVec;
 
 /// The data frame whose bytes a text spells; `None` exactly where it spells no bytes, or more than eight.
 fn data_frame(id: CanId, text: &[u8]) -> Option<CanFrame>
@@ -102,4 +103,21 @@ pub fn read_log_line(line: &[u8]) -> Option<CanFrame>
         return None;
     };
     Some(frame)
+}
+
+/// The text of a frame, as can-utils reads it and writes it.
+pub fn frame_text(frame: &CanFrame) -> ArrayVec<u8, 32>
+    ensures { IsFrameText result.items frame.now }
+{
+    let mut text = ArrayVec::new();
+    let [a, b, c] = id_text(frame.id);
+    text.push(a);
+    text.push(b);
+    text.push(c);
+    text.push(b'#');
+    match frame.kind {
+        Kind::Data => push_bytes(&mut text, frame.data()),
+        Kind::Remote => text.push(b'R'),
+    }
+    text
 }

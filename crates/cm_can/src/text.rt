@@ -1,9 +1,49 @@
-ghost use Rattle.std.specs.Prelude.{◌≡◌, ◌≢◌, ◌<◌, ◌≤◌, ◌+◌, ℕ, List, [], ◌∷◌, All, IfNone, IfSome, MatchOption, length};
+ghost use Rattle.std.specs.Prelude.{◌≡◌, ◌≢◌, ◌<◌, ◌≤◌, ◌+◌, ◌*◌, ◌++◌, ℕ, List, [], ◌∷◌, All, IfNone, IfSome, MatchOption, length};
+ghost use Rattle.arrayvec.specs.ArrayVec.{array_vec_len};
 ghost use Rattle.cm_text.specs.Hex.{glyph};
 ghost use Rattle.cm_can.specs.Lines.{byte_digits, id_digits};
 
 use crate::frame::CanId;
 use arrayvec::ArrayVec;
+
+/// The digit that is worth this much.
+fn digit(worth: u8) -> u8
+    requires { worth < 16 }
+    ensures { result ≡ glyph worth }
+{
+    if worth < 10 {
+        b'0' + worth
+    } else {
+        b'A' + (worth - 10)
+    }
+}
+
+/// The three digits of an identifier.
+pub(crate) fn id_text(id: CanId) -> [u8; 3]
+    ensures { result ≡ id_digits id.number }
+{
+    let number = id.number;
+    [
+        digit((number / 256) as u8),
+        digit((number / 16 % 16) as u8),
+        digit((number % 16) as u8),
+    ]
+}
+
+/// Puts the digits of bytes behind a text.
+pub(crate) fn push_bytes(text: &mut ArrayVec<u8, 32>, bytes: &[u8])
+    requires { array_vec_len text.old + 2 * length bytes.now ≤ 32 }
+    ensures { text.new.items ≡ text.old.items ++ byte_digits bytes.now }
+{
+    match bytes {
+        [] => {}
+        [first, rest @ ..] => {
+            text.push(digit(*first / 16));
+            text.push(digit(*first % 16));
+            push_bytes(text, rest);
+        }
+    }
+}
 
 /// What a digit is worth, `0` to `9` and `A` to `F`; `None` exactly where the byte is none.
 fn worth(byte: u8) -> Option<u8>
