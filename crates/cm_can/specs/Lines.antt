@@ -1,5 +1,5 @@
 -- How frames stand in lines of text: those of can-utils (`candump -L`, `canplayer`), and those of a serial adapter (SLCAN).
-use Rattle.std.specs.Prelude.{◌≡◌, ◌≤◌, ◌+◌, ◌-◌, ◌/◌, ◌%◌, ◌⊎◌, ◌≢◌, ℕ, List, [], ◌∷◌, ◌++◌, All, length, slice_index}
+use Rattle.std.specs.Prelude.{◌≡◌, ◌<◌, ◌≤◌, ◌+◌, ◌-◌, ◌/◌, ◌%◌, ◌⊎◌, ◌≢◌, ℕ, List, [], ◌∷◌, ◌++◌, All, length, slice_index}
 use Rattle.cm_text.specs.Hex.{glyph}
 use Rattle.cm_can.specs.declared.frame.CanFrame.{CanFrame}
 use Rattle.cm_can.specs.declared.frame.Kind.TheVariants.{Data, Remote}
@@ -29,6 +29,16 @@ IsRemoteText text f = (f.kind ≡ Remote) × ((tail : List ℕ) × IsRemoteTail 
 -- the text of a frame
 abbrev pub IsFrameText : List ℕ → CanFrame → Type 0
 IsFrameText text f = IsDataText text f ⊎ IsRemoteText text f
+
+-- bytes are less than 256
+abbrev pub AreBytes : List ℕ → Type 0
+AreBytes bytes = All (λ b. b < 256) bytes
+
+-- the frames are of one kind, have one identifier, and carry the same bytes
+pub record IsSameFrame (f g : CanFrame) : Type 0 where
+  pub kind : f.kind ≡ g.kind
+  pub id : f.id.number ≡ g.id.number
+  pub carried : f.kind ≡ Data → data_of f ≡ data_of g
 
 -- no space (32) is among these bytes
 abbrev pub HasNoSpace : List ℕ → Type 0

@@ -1,9 +1,9 @@
 //! Frames in lines of can-utils: `candump -L` writes one for each frame that is heard, `canplayer` sends one for
 //! each that it reads.
 
-ghost use Rattle.std.specs.Prelude.{◌≡◌, ◌≢◌, ◌↔◌, ◌<◌, ◌≤◌, ◌++◌, ◌∷◌, All, IfNone, IfSome, IsFalse, IsTrue, length};
+ghost use Rattle.std.specs.Prelude.{◌≡◌, ◌≢◌, ◌↔◌, ◌<◌, ◌≤◌, ◌++◌, ◌∷◌, ℕ, List, All, IfNone, IfSome, IsFalse, IsTrue, length};
 ghost use Rattle.cm_can.specs.Frames.{IsData, data_of};
-ghost use Rattle.cm_can.specs.Lines.{HasNoSpace, IsFrameText, IsLogLine, IsRemoteTail, IsTime, byte_digits};
+ghost use Rattle.cm_can.specs.Lines.{AreBytes, HasNoSpace, IsFrameText, IsLogLine, IsRemoteTail, IsSameFrame, IsTime, byte_digits};
 
 use crate::frame::{CanFrame, CanId, Kind};
 use crate::text::{id_text, push_bytes, read_bytes, read_id};
@@ -49,7 +49,7 @@ fn is_remote(tail: &[u8]) -> bool
 /// is that of no frame with an identifier of 11 bits; a wider one, a frame of CAN FD and an error frame are none.
 pub fn read_frame(text: &[u8]) -> Option<CanFrame>
     ensures some { IfSome result (IsFrameText text.now) }
-    ensures none { IfNone result ((f : CanFrame) → All (λ b. b < 256) (data_of f)
+    ensures none { IfNone result ((f : CanFrame) → AreBytes (data_of f)
         → IsFrameText text.now f → ⊥) }
 {
     let [a, b, c, b'#', rest @ ..] = text else {
@@ -87,7 +87,7 @@ fn is_time(text: &[u8]) -> bool
 /// `None` exactly where it is no such line, or one of a frame that [`read_frame`] doesn't read.
 pub fn read_log_line(line: &[u8]) -> Option<CanFrame>
     ensures some { IfSome result (IsLogLine line.now) }
-    ensures none { IfNone result ((f : CanFrame) → All (λ b. b < 256) (data_of f)
+    ensures none { IfNone result ((f : CanFrame) → AreBytes (data_of f)
         → IsLogLine line.now f → ⊥) }
 {
     let Some((time, rest)) = cut(line) else {
@@ -120,4 +120,11 @@ pub fn frame_text(frame: &CanFrame) -> ArrayVec<u8, 32>
         Kind::Remote => text.push(b'R'),
     }
     text
+}
+
+/// Two frames of one text are the same: so a frame that was written is read back as it was.
+pub fn one_frame()
+    ensures { (text : List ℕ) (f g : CanFrame) → AreBytes (data_of f) → AreBytes (data_of g)
+        → IsFrameText text f → IsFrameText text g → IsSameFrame f g }
+{
 }
