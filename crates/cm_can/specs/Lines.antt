@@ -59,3 +59,15 @@ pub record IsLogLine (line : List ℕ) (f : CanFrame) : Type 0 where
   pub unspaced : HasNoSpace time × HasNoSpace interface
   pub timed : IsTime time
   pub frame : IsFrameText text f
+
+-- a data frame as a serial adapter has it (SLCAN): `t`, identifier, the number of bytes, the bytes
+abbrev pub IsAdapterData : List ℕ → CanFrame → Type 0
+IsAdapterData text f = (f.kind ≡ Data) × (text ≡ 116 ∷ id_digits f.id.number ++ (48 + length (data_of f)) ∷ byte_digits (data_of f))
+
+-- a remote frame: `r`, identifier, the number of bytes that it asks for
+abbrev pub IsAdapterRemote : List ℕ → CanFrame → Type 0
+IsAdapterRemote text f = (f.kind ≡ Remote) × ((count : ℕ) × (count ≤ 8) × (text ≡ 114 ∷ id_digits f.id.number ++ (48 + count) ∷ []))
+
+-- the text of a frame there
+abbrev pub IsAdapterText : List ℕ → CanFrame → Type 0
+IsAdapterText text f = IsAdapterData text f ⊎ IsAdapterRemote text f

@@ -6,6 +6,7 @@
 //! bits; nothing here reads or sends one.
 #![tactic(auto)]
 
+mod adapter;
 mod control;
 mod frame;
 mod lines;
@@ -13,6 +14,7 @@ mod node;
 mod sdo;
 mod text;
 
+pub use adapter::{adapter_text, read_adapter_line};
 pub use control::{ErrorControl, error_control, guard_request, nmt_frame};
 pub use frame::{CanFrame, CanId, Kind};
 pub use lines::{frame_text, one_frame, read_frame, read_log_line};

@@ -90,12 +90,12 @@ fn upload_says(command: u8, word: u32) -> Option<Answer>
     }
 }
 
-/// What it says of a download, if anything.
-fn download_says(command: u8, word: u32) -> Option<Answer>
-    ensures { result ≡ download_answer command word }
+/// What it says of a download, if anything; the data of an abort is its code.
+fn download_says(command: u8, code: u32) -> Option<Answer>
+    ensures { result ≡ download_answer command code }
 {
     match command {
-        0x80 => Some(Answer::Abort(word)),
+        0x80 => Some(Answer::Abort(code)),
         0x60 => Some(Answer::Acked),
         _ => None,
     }
