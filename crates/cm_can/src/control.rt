@@ -23,11 +23,9 @@ pub fn nmt_frame(frame: Frame) -> CanFrame
 pub fn guard_request(node: NodeId) -> CanFrame
     ensures { IsRemote result (1792 + node) }
 {
-    CanFrame::remote(
-        CanId {
-            number: 0x700 + u16::from(node.get()),
-        },
-    )
+    CanFrame::remote(CanId {
+        number: 0x700 + u16::from(node.get()),
+    })
 }
 
 /// An error control message: whose it is, and its byte, which [`cm_nmt::Signal::read`] reads.

@@ -19,4 +19,6 @@ pub use control::{ErrorControl, error_control, guard_request, nmt_frame};
 pub use frame::{CanFrame, CanId, Kind};
 pub use lines::{frame_text, one_frame, read_frame, read_log_line};
 pub use node::{answer_of, request_of};
-pub use sdo::{NO_SEGMENTS, TIMED_OUT, abort_frame, downloaded_by, is_segmented, sdo_request, uploaded_by};
+pub use sdo::{
+    NO_SEGMENTS, TIMED_OUT, abort_frame, downloaded_by, is_segmented, sdo_request, uploaded_by,
+};

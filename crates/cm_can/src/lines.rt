@@ -126,5 +126,4 @@ pub fn frame_text(frame: &CanFrame) -> ArrayVec<u8, 32>
 pub fn one_frame()
     ensures { (text : List ℕ) (f g : CanFrame) → AreBytes (data_of f) → AreBytes (data_of g)
         → IsFrameText text f → IsFrameText text g → IsSameFrame f g }
-{
-}
+{}

@@ -5,7 +5,7 @@ ghost use Rattle.cm_can.specs.Sdo.{download_command};
 
 use crate::control::{error_control, guard_request};
 use crate::frame::CanFrame;
-use crate::sdo::{downloaded_by, sdo_request, uploaded_by, upload_request};
+use crate::sdo::{downloaded_by, sdo_request, upload_request, uploaded_by};
 use cm_boot::{Answer, Question};
 use cm_nmt::{NodeId, Signal};
 
@@ -27,9 +27,13 @@ pub fn request_of(node: NodeId, question: &Question) -> Option<CanFrame>
 {
     match question {
         Question::Read(index, sub) => Some(upload_request(node, *index, *sub)),
-        Question::Write(write) => Some(
-            sdo_request(node, command_of(write.size), write.index, write.sub, write.value),
-        ),
+        Question::Write(write) => Some(sdo_request(
+            node,
+            command_of(write.size),
+            write.index,
+            write.sub,
+            write.value,
+        )),
         Question::StateByGuard => Some(guard_request(node)),
         Question::StateByBeat | Question::Beat => None,
     }

@@ -44,13 +44,7 @@ fn asks(rt: &impl Abort, question: Question, data: [u8; 8]) {
 }
 
 /// Asserts what a data frame answers to a question that node 2 was asked.
-fn answers(
-    rt: &impl Abort,
-    question: Question,
-    id: u16,
-    data: &[u8],
-    answer: Option<Answer>,
-) {
+fn answers(rt: &impl Abort, question: Question, id: u16, data: &[u8], answer: Option<Answer>) {
     let heard = frame(rt, id, data);
     sure(rt, answer_of(node(rt, 2), &question, &heard) == answer);
 }
@@ -58,7 +52,11 @@ fn answers(
 #[test]
 fn a_question_is_asked_in_a_frame(rt: HostRuntime) {
     asks(&rt, TYPE, [0x40, 0, 0x10, 0, 0, 0, 0, 0]);
-    asks(&rt, Question::Read(0x1018, 4), [0x40, 0x18, 0x10, 4, 0, 0, 0, 0]);
+    asks(
+        &rt,
+        Question::Read(0x1018, 4),
+        [0x40, 0x18, 0x10, 4, 0, 0, 0, 0],
+    );
     let heartbeat = Question::Write(HEARTBEAT);
     asks(&rt, heartbeat, [0x2B, 0x17, 0x10, 0, 100, 0, 0, 0]);
     for (size, command, value, [a, b, c, d]) in [
@@ -71,7 +69,11 @@ fn a_question_is_asked_in_a_frame(rt: HostRuntime) {
             size,
             value,
         };
-        asks(&rt, Question::Write(write), [command, 0x60, 0x60, 1, a, b, c, d]);
+        asks(
+            &rt,
+            Question::Write(write),
+            [command, 0x60, 0x60, 1, a, b, c, d],
+        );
     }
     let two = node(&rt, 2);
     let guard = request_of(two, &Question::StateByGuard);
@@ -146,7 +148,11 @@ fn a_download_is_answered_in_a_frame(rt: HostRuntime) {
 #[test]
 fn a_state_is_told_in_a_frame(rt: HostRuntime) {
     let state = |state| Some(Answer::State(state));
-    for question in [Question::Beat, Question::StateByBeat, Question::StateByGuard] {
+    for question in [
+        Question::Beat,
+        Question::StateByBeat,
+        Question::StateByGuard,
+    ] {
         for (byte, answer) in [
             (4, state(NmtState::Stopped)),
             (5, state(NmtState::Operational)),
@@ -167,7 +173,10 @@ fn a_state_is_told_in_a_frame(rt: HostRuntime) {
         node: node(&rt, 127),
         byte: 0,
     };
-    sure(&rt, error_control(&frame(&rt, 0x77F, &[0])) == Some(boot_up));
+    sure(
+        &rt,
+        error_control(&frame(&rt, 0x77F, &[0])) == Some(boot_up),
+    );
     sure(&rt, error_control(&frame(&rt, 0x700, &[0])) == None);
     sure(&rt, error_control(&frame(&rt, 0x780, &[0])) == None);
     sure(&rt, error_control(&guard_request(node(&rt, 2))) == None);

@@ -5,6 +5,8 @@
 #[cfg(test)]
 mod boots;
 #[cfg(test)]
+mod can_lines;
+#[cfg(test)]
 mod devices;
 #[cfg(test)]
 mod frames;
