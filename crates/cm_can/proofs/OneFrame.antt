@@ -1,5 +1,5 @@
 -- Two frames of one text carry the same.
-use Rattle.std.proofs.Common.{◌≡◌, ◌<◌, ◌/◌, ◌%◌, ◌+◌, ◌*◌, ℕ, suc, List, [], ◌∷◌, ◌++◌, All, length, refl, sym, ap, arith}
+use Rattle.std.proofs.Common.{◌≡◌, ◌<◌, ◌/◌, ◌%◌, ℕ, suc, List, [], ◌∷◌, All, refl, arith}
 use Rattle.cm_text.specs.Hex.{glyph}
 use Rattle.cm_can.specs.Lines.{byte_digits, id_digits}
 

@@ -1,5 +1,5 @@
 -- Two frames of one text are the same.
-use Rattle.std.proofs.Common.{◌≡◌, ◌<◌, ◌/◌, ℕ, List, [], ◌∷◌, ◌++◌, length, sym, ◌∙◌, arith}
+use Rattle.std.proofs.Common.{◌≡◌, ◌<◌, ◌/◌, ℕ, List, [], ◌∷◌, ◌++◌, sym, ◌∙◌, arith}
 use Rattle.cm_text.specs.Hex.{glyph}
 use mathlib.Core.Logic.{inl, inr}
 use Rattle.cm_can.specs.declared.frame.CanFrame.{CanFrame}

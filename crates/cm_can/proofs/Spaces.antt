@@ -1,5 +1,5 @@
 -- A line is cut at its first space in one way.
-use Rattle.std.proofs.Common.{◌≡◌, ◌≢◌, ◌<◌, ℕ, suc, List, [], ◌∷◌, ◌++◌, All, length, refl, sym, ◌∙◌, arith}
+use Rattle.std.proofs.Common.{◌≡◌, ℕ, suc, List, [], ◌∷◌, ◌++◌, refl, arith}
 use Rattle.cm_can.specs.Lines.{HasNoSpace}
 
 -- bytes with a space among them have one

@@ -1,8 +1,6 @@
 -- NMT messages and error control (CiA 301): identifier 000h, and 700h + node-ID.
-use Rattle.std.specs.Prelude.{◌≡◌, ◌+◌, ◌%◌, ◌<◌, ℕ, [], ◌∷◌, Option, Some, None}
+use Rattle.std.specs.Prelude.{◌+◌, ℕ, [], ◌∷◌}
 use Rattle.cm_nmt.specs.NodeId.{IsNodeId}
-use Rattle.cm_nmt.specs.declared.signal.Signal.{Signal}
-use Rattle.cm_nmt.specs.Codes.{signal_of}
 use Rattle.cm_can.specs.declared.frame.CanFrame.{CanFrame}
 use Rattle.cm_can.specs.Frames.{IsData}
 

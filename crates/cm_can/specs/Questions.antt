@@ -1,5 +1,5 @@
 -- Which frame asks a question of a boot, and which frame answers it (CiA 301; CiA 302-2, boot slave).
-use Rattle.std.specs.Prelude.{◌≡◌, ◌==◌, ◌+◌, ◌<◌, ◌^◌, ℕ, Option, Some, None, if◌then◌else◌, option_map}
+use Rattle.std.specs.Prelude.{◌≡◌, ◌==◌, ◌+◌, ℕ, Option, Some, None, if◌then◌else◌, option_map}
 use Rattle.cm_nmt.specs.declared.signal.Signal.{Signal}
 use Rattle.cm_nmt.specs.declared.signal.Signal.TheVariants as signal
 use Rattle.cm_nmt.specs.Codes.{signal_of}

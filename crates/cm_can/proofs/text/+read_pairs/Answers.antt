@@ -1,4 +1,3 @@
-use Rattle.std.proofs.Common.{arith}
 use Rattle.cm_can.proofs.Digits.{no_first, no_rest}
 use Rattle.cm_can.proofs.text.+read_pairs.Goals as goal
 
