@@ -5,7 +5,11 @@
 #[cfg(test)]
 mod boots;
 #[cfg(test)]
+mod can_lines;
+#[cfg(test)]
 mod devices;
+#[cfg(test)]
+mod frames;
 #[cfg(test)]
 mod manager;
 #[cfg(test)]

@@ -1,0 +1,4 @@
+use Rattle.cm_can.proofs.sdo.uploaded_by.Goals as goal
+
+pub returns-in-None-clause-answers : goal.returns-in-None-clause-answers
+returns-in-None-clause-answers c = λ command word said. absurd (c.in-None.ensures.none command word said)
