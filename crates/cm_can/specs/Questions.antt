@@ -44,12 +44,13 @@ download_answer command word =
     else if command == 96 then Some answer.Acked
     else None
 
+-- the answer that tells a signal: its state; boot-up tells none (CiA 301)
 abbrev pub answer_of_signal : Option Signal → Option Answer
 answer_of_signal None = None
 answer_of_signal (Some signal.BootUp) = None
 answer_of_signal (Some (signal.State s)) = Some (answer.State s)
 
--- what an error control message says of a state: boot-up is no state (CiA 301)
+-- what an error control message with this byte tells, bit 7 masked (own)
 abbrev pub state_answer : ℕ → Option Answer
 state_answer byte = answer_of_signal (signal_of byte)
 

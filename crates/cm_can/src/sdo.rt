@@ -1,4 +1,4 @@
-ghost use Rattle.std.specs.Prelude.{◌≡◌, ◌+◌, ℕ, IfNone, IfSome, IsSome};
+ghost use Rattle.std.specs.Prelude.{◌≡◌, ◌+◌, ℕ, IfNone, IfSome, IsFalse, IsSome, IsTrue};
 ghost use Rattle.cm_can.specs.Sdo.{IsFromClient, IsFromServer, uploaded};
 ghost use Rattle.cm_can.specs.Questions.{download_answer, upload_answer};
 
@@ -131,7 +131,10 @@ pub fn downloaded_by(node: NodeId, index: u16, sub: u8, frame: &CanFrame) -> Opt
 
 /// Whether a frame of the node's server begins a segmented upload of this object, which the client aborts
 /// with [`NO_SEGMENTS`].
-pub fn is_segmented(node: NodeId, index: u16, sub: u8, frame: &CanFrame) -> bool {
+pub fn is_segmented(node: NodeId, index: u16, sub: u8, frame: &CanFrame) -> bool
+    ensures yes { IsTrue result → (word : ℕ) × IsFromServer node 65 index sub word frame.now }
+    ensures no { IsFalse result → (word : ℕ) → IsFromServer node 65 index sub word frame.now → ⊥ }
+{
     match from_server(node, index, sub, frame) {
         Some((command, _)) => command == 0x41,
         None => false,
