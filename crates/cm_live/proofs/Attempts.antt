@@ -1,0 +1,91 @@
+-- What the attempts at a slave leave in the log of a live bus.
+use Rattle.std.proofs.Common.{◌≡◌, ◌≤◌, ◌+◌, ◌*◌, ℕ, List, [], ◌∷◌, ◌++◌, length, refl, sym, ap, subst, ◌∙◌, append_assoc, arith, length-append}
+use Rattle.std.specs.Prelude.{All, slice_index_or}
+use Rattle.std.proofs.lemmas.List.{append-nil}
+use Rattle.std.proofs.lemmas.List.Elements.{All-nil, All-cons, All-append, All-more}
+use Rattle.cm_netlist.specs.Network.{Network, entry}
+use Rattle.cm_nmt.specs.declared.answers.Answers.{Answers}
+use Rattle.cm_boot.specs.Talk.{asked}
+use Rattle.cm_boot.specs.declared.question.Question.{Question}
+use Rattle.cm_boot.specs.declared.question.Answer.{Answer}
+use Rattle.cm_history.specs.declared.call.Call.{Call}
+use Rattle.cm_history.specs.declared.call.Call.TheVariants as call
+use Rattle.cm_seat.specs.SeatCalls.{made}
+use Rattle.cm_seat.specs.declared.made.Made.{Made}
+use Rattle.cm_run.specs.declared.outcome.Attempt.{Attempt}
+use Rattle.cm_run.specs.declared.outcome.Attempt.TheVariants as attempt
+use Rattle.cm_run.specs.declared.outcome.Outcome.{Outcome}
+use Rattle.cm_run.specs.Rounds.{Boots, Fail, Gives, HasRound, calls_in}
+use Rattle.cm_live.specs.Talk.{IsAsked}
+use Rattle.cm_live.specs.Hearing.{AreHeard, HasHeardCalls, IsHeardCall}
+use Rattle.cm_live.specs.declared.event.Event.{Event}
+use Rattle.cm_live.proofs.Talking.{has_talked, heard_before}
+
+module _ (net : Network) (i : ℕ) where
+  abbrev Step : List Event → ℕ → Question → Answer → List Event → Type 0
+  Step b n q x c = IsAsked n q x b c
+
+  abbrev Heard : List Event → Made → Type 0
+  Heard log m = IsHeardCall net i m.call log
+
+  abbrev AllHeard : List Made → List Event → Type 0
+  AllHeard list log = All (Heard log) list
+
+  call_before : (c : Call) (log more : List Event) → IsHeardCall net i c log → IsHeardCall net i c (log ++ more)
+  call_before (call.Report j n a) log more h = heard_before i (asked (entry net i) a) log more h
+  call_before _ log more h = tt
+
+  all_before : (list : List Made) (log more : List Event) → AllHeard list log → AllHeard list (log ++ more)
+  all_before list log more h = λ k d small. call_before (slice_index_or list k d).call log more (h k d small)
+
+  -- the log grew by at most so many events, and the answers of these calls stand in it
+  record HasGrown (most : ℕ) (list : List Made) (old new : List Event) : Type 0 where
+    more : List Event
+    grown : new ≡ old ++ more
+    short : length more ≤ most
+    heard : AllHeard list new
+
+  boot_heard : (old : List Event) (a : Answers) (new : List Event) → Boots Step net i old a new → length old + 2747 ≤ 27470
+      → (more : List Event) × (new ≡ old ++ more) × (length more ≤ 2747) × AreHeard i (asked (entry net i) a) new
+  boot_heard old a new b room =
+      let t = has_talked i (asked (entry net i) a) old new b.talk (omega (arith, room, b.few)) in
+      (t.more, t.grown, omega (arith, t.short, b.few), t.heard)
+
+  attempt_heard : (old : List Event) (t : Attempt) (new : List Event) → Gives Step net i old t new → length old + 2747 ≤ 27470 → HasGrown 2747 (calls_in i t) old new
+  attempt_heard old (attempt.NotBegun f) new g room = record { more = []; grown = sym g ∙ sym (append-nil old); short = omega arith; heard = All-nil (Heard new) }
+  attempt_heard old (attempt.Refused b r) new g room = record { more = []; grown = sym g.1 ∙ sym (append-nil old); short = omega arith; heard = All-cons (Heard new) (made b.position (call.Begin i) b.reply) [] (tt {0}) (All-nil (Heard new)) }
+  attempt_heard old (attempt.NotReported b n a f) new g room =
+      let h = boot_heard old a new g.1 room in
+      record { more = h.0; grown = h.1; short = h.2; heard = All-cons (Heard new) (made b.position (call.Begin i) b.reply) [] (tt {0}) (All-nil (Heard new)) }
+  attempt_heard old (attempt.Ended b n a r l) new g room =
+      let h = boot_heard old a new g.1 room in
+      record { more = h.0; grown = h.1; short = h.2; heard = All-cons (Heard new) (made b.position (call.Begin i) b.reply) (made r.position (call.Report i n a) r.reply ∷ []) (tt {0}) (All-cons (Heard new) (made r.position (call.Report i n a) r.reply) [] h.3 (All-nil (Heard new))) }
+
+  attempts_heard : (old : List Event) (ts : List Attempt) (list : List Made) (new : List Event) → Fail Step net i old ts list new → length old + 2747 * length ts ≤ 27470
+      → HasGrown (2747 * length ts) list old new
+  attempts_heard old [] list new f room = record {
+    more = [];
+    grown = sym f.1 ∙ sym (append-nil old);
+    short = omega arith;
+    heard = subst (λ (l : List Made). AllHeard l new) (sym f.0) (All-nil (Heard new));
+  }
+  attempts_heard old (t ∷ ts) list new f room =
+      let h = attempt_heard old t f.1 f.2 (omega (arith, room)) in
+      let r = attempts_heard f.1 ts f.0 new f.4 (omega (arith, room, h.short, ap length h.grown, length-append old h.more)) in
+      record {
+        more = h.more ++ r.more;
+        grown = r.grown ∙ (ap (λ (l : List Event). l ++ r.more) h.grown ∙ append_assoc old h.more r.more);
+        short = omega (arith, h.short, r.short, length-append h.more r.more);
+        heard = subst (λ (l : List Made). AllHeard l new) (sym f.5) (All-append (Heard new) (calls_in i t) f.0 (subst (λ (log : List Event). AllHeard (calls_in i t) log) (sym r.grown) (all_before (calls_in i t) f.1 r.more h.heard)) r.heard);
+      }
+
+  -- of a round of 10 attempts at most, which began with an empty log
+  pub round_heard : (m : ℕ) (o : Outcome) (old new : List Made) (log : List Event) → m ≤ 10 → HasRound Step net i m o old new [] log → HasHeardCalls net i old new log
+  round_heard m o old new log few r =
+      let f = attempts_heard [] r.round.failed r.round.before r.round.between r.round.fails (omega (arith, few, r.round.attempts, r.round.most)) in
+      let g = attempt_heard r.round.between r.round.final log r.round.gives (omega (arith, few, r.round.attempts, r.round.most, f.short, ap length f.grown)) in
+      record {
+        added = r.added;
+        grown = r.grown;
+        heard = subst (λ (l : List Made). AllHeard l log) (sym r.round.calls) (All-append (Heard log) r.round.before (calls_in i r.round.final) (subst (λ (l : List Event). AllHeard r.round.before l) (sym g.grown) (all_before r.round.before r.round.between g.more f.heard)) g.heard);
+      }

@@ -1,0 +1,4 @@
+pub mod Talking
+pub mod Attempts
+pub mod Waiting
+pub mod Identity

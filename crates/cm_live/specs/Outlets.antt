@@ -1,0 +1,31 @@
+-- In what lines frames are written (own; can-utils, SLCAN).
+use Rattle.std.specs.Prelude.{◌≡◌, ℕ, List, [], ◌∷◌, ◌++◌, Option, codes}
+use Rattle.std.specs.Io.KnownBytes.{Appends}
+use Rattle.cm_nmt.specs.declared.frame.Frame.{Frame}
+use Rattle.cm_nmt.specs.Frames.{frame_bytes}
+use Rattle.cm_can.specs.declared.frame.CanFrame.{CanFrame}
+use Rattle.cm_can.specs.Frames.{IsData}
+use Rattle.cm_can.specs.Lines.{IsAdapterText, IsFrameText}
+use Rattle.cm_live.specs.declared.outlet.Format.{Format}
+use Rattle.cm_live.specs.declared.outlet.Format.TheVariants.{CanUtils, Adapter}
+
+-- a line that `canplayer` reads: a time, which it doesn't heed, an interface, and the text of a frame
+abbrev pub log_line : List ℕ → List ℕ
+log_line text = codes "(0000000000.000000) can0 " ++ text ++ 10 ∷ []
+
+-- a line of a serial adapter, which ends with a carriage return
+abbrev pub adapter_line : List ℕ → List ℕ
+adapter_line text = text ++ 13 ∷ []
+
+-- the line of a frame
+abbrev pub IsLine : Format → CanFrame → List ℕ → Type 0
+IsLine CanUtils f line = (text : List ℕ) × IsFrameText text f × (line ≡ log_line text)
+IsLine Adapter f line = (text : List ℕ) × IsAdapterText text f × (line ≡ adapter_line text)
+
+-- just the line of the frame was written
+abbrev pub Writes : Format → CanFrame → Option (List ℕ) → Option (List ℕ) → Type 0
+Writes format f old new = (line : List ℕ) × IsLine format f line × Appends old new line
+
+-- just the line of the message that is the NMT frame was written (CiA 301: identifier 000h and its two bytes)
+abbrev pub WritesMessage : Format → Frame → Option (List ℕ) → Option (List ℕ) → Type 0
+WritesMessage format frame old new = (f : CanFrame) × IsData f 0 (frame_bytes frame) × Writes format f old new

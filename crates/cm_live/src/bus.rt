@@ -1,0 +1,244 @@
+//! The bus of one worker.
+ghost use Rattle.std.specs.Prelude.{◌≡◌, ◌+◌, ◌<◌, ◌≤◌, ◌++◌, ◌∷◌, [], IfOk, IfSome, None, vec_capacity, vec_len};
+ghost use Rattle.cm_live.specs.Talk.{HasAsked, HasPut, HasWaited, IsAbortOf, IsAsking, IsClosing, answer_in};
+
+use crate::event::Event;
+use crate::port::Port;
+use cm_boot::{Answer, Bus, Question};
+use cm_can::{CanFrame, NO_SEGMENTS, TIMED_OUT, abort_frame, answer_of, is_segmented, request_of};
+use cm_netlist::Network;
+use cm_nmt::NodeId;
+use std::alloc::{AllocError, Global};
+use std::marker::Model;
+
+/// How many frames that don't answer a question are passed over at most; with more of them it isn't answered.
+const MOST_PASSED: u8 = 64;
+
+/// How many events there are at most for one question: its request, the frames that are passed over, the end of
+/// the waiting, and an abort.
+const MOST_OF_ONE: usize = 67;
+
+/// How many events a log has at most: those of 10 attempts at a slave, of 41 questions each.
+const MOST_EVENTS: usize = 27_470;
+
+/// A CAN bus on which slaves are asked, over a port. Its log has what went over the port for each question since
+/// the log was emptied; a log that is full is emptied for the next question, and no round of a worker fills one.
+/// Contracts see the log.
+#[derive(Drop)]
+pub struct LiveBus<'n, P: Port> {
+    network: &'n Network,
+    answer_ms: u32,
+    port: P,
+    log: Vec<Event>,
+}
+
+impl<'n, P: Port> Model for LiveBus<'n, P> {
+    ghost use Rattle.std.specs.Prelude.{◌≤◌, List, vec_capacity};
+    ghost use Rattle.cm_live.specs.declared.event.Event.{Event as AnEvent};
+
+    ghost Value = { List AnEvent };
+
+    ghost view = { λ b. b.log.items };
+
+    ghost invariant = { λ b. 27470 ≤ vec_capacity b.log };
+}
+
+/// The abort with which the transfer of a question ends: where no answer came in time, and where a segmented
+/// upload was begun.
+fn abort_of(id: NodeId, question: &Question, last: Option<&CanFrame>) -> Option<CanFrame>
+    ensures { IfSome result (λ f. IsAbortOf id question.now f) }
+{
+    match (question, last) {
+        (Question::Read(index, sub), None) => Some(abort_frame(id, *index, *sub, TIMED_OUT)),
+        (Question::Read(index, sub), Some(frame)) => {
+            if is_segmented(id, *index, *sub, frame) {
+                Some(abort_frame(id, *index, *sub, NO_SEGMENTS))
+            } else {
+                None
+            }
+        }
+        (Question::Write(write), None) => {
+            Some(abort_frame(id, write.index, write.sub, TIMED_OUT))
+        }
+        _ => None,
+    }
+}
+
+/// A frame that answers a question, with its answer.
+#[derive(Clone, Copy, Debug, PartialEq, Eq)]
+struct Reply {
+    frame: CanFrame,
+    answer: Answer,
+}
+
+/// The time is over.
+fn expire(log: &mut Vec<Event>) -> Option<Reply>
+    requires room { vec_len log.old < vec_capacity log.old }
+    ensures none { result ≡ None }
+    ensures log { log.new.items ≡ log.old.items ++ Event.Expired ∷ [] }
+    ensures capacity { vec_capacity log.new ≡ vec_capacity log.old }
+{
+    log.push_reserved(Event::Expired);
+    None
+}
+
+/// Waits for the first frame that answers the question. `None` once the time is over, or where too many others
+/// came.
+fn wait_for<P: Port>(
+    port: &mut P,
+    log: &mut Vec<Event>,
+    id: NodeId,
+    question: &Question,
+) -> Option<Reply>
+    requires room { vec_len log.old + 65 ≤ vec_capacity log.old }
+    ensures waited { HasWaited id question.now result log.old.items log.new.items }
+    ensures capacity { vec_capacity log.new ≡ vec_capacity log.old }
+{
+    for passed in 0..MOST_PASSED {
+        let Some(frame) = port.hear() else {
+            return expire(log);
+        };
+        log.push_reserved(Event::Heard(frame));
+        if let Some(answer) = answer_of(id, question, &frame) {
+            return Some(Reply { frame, answer });
+        }
+    }
+    expire(log)
+}
+
+/// Sends a frame, and puts that into the log.
+fn send<P: Port>(port: &mut P, log: &mut Vec<Event>, frame: CanFrame)
+    requires room { vec_len log.old < vec_capacity log.old }
+    ensures log { log.new.items ≡ log.old.items ++ Event.Sent frame ∷ [] }
+    ensures capacity { vec_capacity log.new ≡ vec_capacity log.old }
+{
+    port.send(&frame);
+    log.push_reserved(Event::Sent(frame));
+}
+
+/// Sends the request of a question, if it has one.
+fn send_request<P: Port>(port: &mut P, log: &mut Vec<Event>, id: NodeId, question: &Question)
+    requires room { vec_len log.old < vec_capacity log.old }
+    ensures asking { HasPut (IsAsking id question.now) log.old.items log.new.items }
+    ensures capacity { vec_capacity log.new ≡ vec_capacity log.old }
+{
+    match request_of(id, question) {
+        Some(request) => send(port, log, request),
+        None => {}
+    }
+}
+
+/// Ends the transfer of a question, where it is to be ended.
+fn close_transfer<P: Port>(
+    port: &mut P,
+    log: &mut Vec<Event>,
+    id: NodeId,
+    question: &Question,
+    reply: &Option<Reply>,
+)
+    requires room { vec_len log.old < vec_capacity log.old }
+    ensures closing { HasPut (IsClosing id question.now) log.old.items log.new.items }
+    ensures capacity { vec_capacity log.new ≡ vec_capacity log.old }
+{
+    let last = match reply {
+        Some(reply) => Some(&reply.frame),
+        None => None,
+    };
+    match abort_of(id, question, last) {
+        Some(abort) => send(port, log, abort),
+        None => {}
+    }
+}
+
+/// The answer to a question: silence where no reply came.
+fn answer_in(reply: Option<Reply>) -> Answer
+    ensures { result ≡ answer_in reply }
+{
+    match reply {
+        Some(reply) => reply.answer,
+        None => Answer::Silent,
+    }
+}
+
+/// Asks a question: sends its request, waits for the answer, and ends the transfer where it is to be ended.
+fn ask_by<P: Port>(port: &mut P, log: &mut Vec<Event>, id: NodeId, question: &Question) -> Answer
+    requires room { vec_len log.old + 67 ≤ vec_capacity log.old }
+    ensures asked { HasAsked id question.now result log.old.items log.new.items }
+    ensures capacity { vec_capacity log.new ≡ vec_capacity log.old }
+{
+    send_request(port, log, id, question);
+    let reply = wait_for(port, log, id, question);
+    close_transfer(port, log, id, question, &reply);
+    answer_in(reply)
+}
+
+/// Makes room for what goes over the bus for one question: a log that has none is emptied.
+fn make_room(log: &mut Vec<Event>)
+    requires { 27470 ≤ vec_capacity log.old }
+    ensures room { vec_len log.new + 67 ≤ vec_capacity log.new }
+    ensures kept { vec_len log.old + 67 ≤ 27470 → log.new.items ≡ log.old.items }
+    ensures anew { 27470 < vec_len log.old + 67 → log.new.items ≡ [] }
+    ensures capacity { vec_capacity log.new ≡ vec_capacity log.old }
+{
+    if log.len() > MOST_EVENTS - MOST_OF_ONE {
+        log.clear();
+    }
+}
+
+impl<'n, P: Port> LiveBus<'n, P> {
+    /// A bus over this port, with an empty log. An SDO answer and the answer to a guard request are waited for so
+    /// many ms, a heartbeat for its time in the network list. Refused where memory for the log is.
+    pub fn new(
+        alloc: Global,
+        network: &'n Network,
+        answer_ms: u32,
+        port: P,
+    ) -> Result<LiveBus<'n, P>, AllocError>
+        ensures { IfOk result (λ b. b ≡ []) }
+    {
+        let log = Vec::with_capacity(alloc, MOST_EVENTS)?;
+        Ok(LiveBus {
+            network,
+            answer_ms,
+            port,
+            log,
+        })
+    }
+
+    /// Empties the log.
+    pub fn forget(&mut self)
+        ensures { self.new ≡ [] }
+    {
+        self.log.clear();
+    }
+
+    /// What went over the port, the first event first.
+    pub fn log(&self) -> &[Event]
+        ensures { result.now ≡ self.now }
+    {
+        self.log.as_slice()
+    }
+
+    /// How long the answer to a question is waited for, in ms.
+    fn wait_of(&self, id: NodeId, question: &Question) -> u32 {
+        match (question, self.network.entry(id)) {
+            (Question::StateByBeat | Question::Beat, Some(entry)) if entry.heartbeat_ms > 0 => {
+                u32::from(entry.heartbeat_ms)
+            }
+            _ => self.answer_ms,
+        }
+    }
+}
+
+impl<'n, P: Port> Bus for LiveBus<'n, P> {
+    ghost use Rattle.cm_live.specs.Talk.{IsAsked};
+
+    ghost step = { λ b id q x c. IsAsked id q x b c };
+
+    fn ask(&mut self, id: NodeId, question: Question) -> Answer {
+        make_room(&mut self.log);
+        let wait = self.wait_of(id, &question);
+        self.port.listen(id, &question, wait);
+        ask_by(&mut self.port, &mut self.log, id, &question)
+    }
+}

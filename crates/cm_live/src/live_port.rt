@@ -1,0 +1,58 @@
+use crate::listening::Listening;
+use crate::outlet::Outlet;
+use crate::port::Port;
+use cm_boot::Question;
+use cm_can::CanFrame;
+use cm_nmt::NodeId;
+use crossbeam_channel::Receiver;
+use std::io::Write;
+use std::sync::atomic::{AtomicBool, Ordering};
+use std::sync::{Arc, Wait};
+use std::time::{Clock, Duration, Instant};
+
+/// How many frames may wait for a worker at most: no more come.
+const ENDLESS: u64 = u64::MAX;
+
+/// The port of one worker: its frames are written through an outlet, and those for it come from the reader of the
+/// bus.
+#[derive(Drop)]
+pub struct LivePort<R: Wait + Clock + Drop, W: Write + Drop> {
+    pub rt: R,
+    /// Counted from 0.
+    pub worker: usize,
+    pub heard: Receiver<CanFrame>,
+    pub listening: Arc<Listening>,
+    pub outlet: Outlet<W>,
+    /// Set once a write has failed.
+    pub broken: Arc<AtomicBool>,
+    /// Until when an answer is waited for.
+    pub deadline: Option<Instant>,
+}
+
+impl<R: Wait + Clock + Drop, W: Write + Drop> Port for LivePort<R, W> {
+    fn listen(&mut self, node: NodeId, question: &Question, wait_ms: u32) {
+        self.listening.listen(self.worker, node, question);
+        for _forgotten in 0..ENDLESS {
+            if self.heard.try_recv(&self.rt).is_err() {
+                break;
+            }
+        }
+        let wait = Duration::from_millis(u64::from(wait_ms));
+        self.deadline = match Instant::now(&self.rt) {
+            Ok(now) => now.checked_add(wait),
+            Err(_) => None,
+        };
+    }
+
+    fn send(&mut self, frame: &CanFrame) {
+        self.outlet.send(frame);
+        if self.outlet.has_failed() {
+            self.broken.store(true, Ordering::SeqCst);
+        }
+    }
+
+    fn hear(&mut self) -> Option<CanFrame> {
+        let deadline = self.deadline?;
+        self.heard.recv_deadline(&self.rt, deadline).ok()
+    }
+}
