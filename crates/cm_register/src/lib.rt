@@ -16,7 +16,7 @@ mod fault;
 mod opened;
 mod register;
 
-pub use book::Book;
+pub use book::{Book, SoFar};
 pub use closing::{BookFault, CloseKind, Closed};
 pub use cm_nmt::Wire;
 pub use cm_seat::{
