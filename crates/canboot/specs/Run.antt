@@ -16,19 +16,19 @@ AppendsIfThere None None bytes = Unit {0}
 AppendsIfThere _ _ bytes = ⊥
 
 -- the input was read to its end and is the network list of this journal, which is of version 2, whose entries are legal,
--- and which has a seat for each of this many workers and one more, and a limit of 4,096 entries
-pub record IsRun (workers : ℕ) (input input' : Option (List ℕ)) (j : JournalView) : Type 0 where
+-- and which has a seat for each of this many workers and one more, and this limit
+pub record IsRun (workers limit : ℕ) (input input' : Option (List ℕ)) (j : JournalView) : Type 0 where
   pub list : IsList input input' j.network
   pub version : j.version ≡ Two
   pub journal : IsJournal j
   pub seats : j.seats ≡ workers + 1
-  pub limit : j.limit ≡ 4096
+  pub most : j.limit ≡ limit
 
 -- the input was read to its end and is a network list; of the legal history of a journal of it just the report was
 -- written, and to the journal's output, if there is one, just the text of that journal
-pub record Runs (workers : ℕ) (input input' output output' : Option (List ℕ)) (journal journal' : Option (Option (List ℕ))) : Type 0 where
+pub record Runs (workers limit : ℕ) (input input' output output' : Option (List ℕ)) (journal journal' : Option (Option (List ℕ))) : Type 0 where
   pub of : JournalView
-  pub run : IsRun workers input input' of
+  pub run : IsRun workers limit input input' of
   pub reported : Appends output output' (report_text of.network of.entries)
   pub recorded : AppendsIfThere journal journal' (text of)
 
@@ -45,6 +45,6 @@ pub record RefusesRun (input input' output output' : Option (List ℕ)) (journal
   pub unwritten : journal' ≡ journal
 
 -- nothing was written, or the report of such a history was to be written
-abbrev pub FailsToRun : ℕ → Option (List ℕ) → Option (List ℕ) → Option (List ℕ) → Option (List ℕ) → Option (Option (List ℕ)) → Option (Option (List ℕ)) → Type 0
-FailsToRun workers input input' output output' journal journal' =
-    ((output' ≡ output) × (journal' ≡ journal)) ⊎ ((j : JournalView) × IsRun workers input input' j)
+abbrev pub FailsToRun : ℕ → ℕ → Option (List ℕ) → Option (List ℕ) → Option (List ℕ) → Option (List ℕ) → Option (Option (List ℕ)) → Option (Option (List ℕ)) → Type 0
+FailsToRun workers limit input input' output output' journal journal' =
+    ((output' ≡ output) × (journal' ≡ journal)) ⊎ ((j : JournalView) × IsRun workers limit input input' j)

@@ -2,14 +2,21 @@
 //! and `canboot check`, `canboot run` and `canboot replay` over any reader and writer. The program is `canboot_main`.
 #![tactic(auto)]
 
+mod bus_files;
+mod live;
+mod opening;
 mod program;
+mod progress;
 mod running;
 mod simulation;
+mod typing;
+mod watching;
 
 pub use canboot_check::{
     DONE, FAILED, LONGEST_JOURNAL, LONGEST_LIST, MISUSED, REFUSED, check_text, replay_text,
 };
 pub use canboot_words::{Action, NoAction, read_words};
+pub use live::{LONGEST_LIVE, LiveEnds, LiveOptions, live_text};
 pub use program::{run, run_words};
 pub use running::run_text;
 pub use simulation::{LONGEST_RUN, Options};

@@ -1,6 +1,8 @@
 ghost use Rattle.std.specs.Prelude.{◌≡◌, ◌≤◌, ◌⊎◌};
 ghost use Rattle.canboot.specs.Program.{EndsWithout};
 
+use crate::bus_files::{format_of, live_file};
+use crate::live::LiveOptions;
 use crate::running::run_text;
 use crate::simulation::Options;
 use canboot_check::{
@@ -8,26 +10,52 @@ use canboot_check::{
 };
 use canboot_words::{Action, NoAction, read_words};
 use std::alloc::Global;
-use std::io::{self, BufWriter, Read, Write};
+use std::fs::File;
+use std::io::{self, BufWriter, Read, StdinLock, Write};
 use std::process::ExitCode;
 use std::rt::{Env, Files};
 use std::sync::Wait;
 use std::thread::Threads;
+use std::time::Clock;
 use std::{env, fs};
 
 /// Runs canboot on the words of its command line and its standard input and output, with `err` for
 /// what goes to standard error, and gives its exit status.
-pub fn run<R: Env + Files + Print + Input + AllocGlobal + Wait + Threads + Send + Sync, E: Write>(
-    rt: &R,
-    err: &mut E,
-) -> ExitCode {
+pub fn run<
+    R: Env
+        + Files<File = File>
+        + Print
+        + Input<Reader = StdinLock<'static>>
+        + Clock
+        + AllocGlobal
+        + Wait
+        + Threads
+        + Clone
+        + Send
+        + Sync
+        + Drop
+        + 'static,
+    E: Write,
+>(rt: &R, err: &mut E) -> ExitCode {
     ExitCode::from(run_here(rt, err))
 }
 
-fn run_here<R: Env + Files + Print + Input + AllocGlobal + Wait + Threads + Send + Sync, E: Write>(
-    rt: &R,
-    err: &mut E,
-) -> u8 {
+fn run_here<
+    R: Env
+        + Files<File = File>
+        + Print
+        + Input<Reader = StdinLock<'static>>
+        + Clock
+        + AllocGlobal
+        + Wait
+        + Threads
+        + Clone
+        + Send
+        + Sync
+        + Drop
+        + 'static,
+    E: Write,
+>(rt: &R, err: &mut E) -> u8 {
     let args = match env::args(rt) {
         Ok(args) => args,
         Err(error) => return read_fault(err, error.kind()),
@@ -42,10 +70,20 @@ fn run_here<R: Env + Files + Print + Input + AllocGlobal + Wait + Threads + Send
 }
 
 /// Runs canboot on these words, of which the first is the program's name, with these streams, and
-/// gives its exit status: that of [`check_file`], [`run_text`] or [`replay_text`], 0 for help and the
+/// gives its exit status: that of [`check_file`], [`run_text`], [`live_text`](crate::live_text) or [`replay_text`], 0 for help and the
 /// version, 2 for wrong words, 3 for a file that can't be opened or made.
 pub fn run_words<
-    R: Files + AllocGlobal + Wait + Threads + Send + Sync,
+    R: Files<File = File>
+        + Input<Reader = StdinLock<'static>>
+        + Clock
+        + AllocGlobal
+        + Wait
+        + Threads
+        + Clone
+        + Send
+        + Sync
+        + Drop
+        + 'static,
     I: Read,
     W: Write,
     E: Write,
@@ -67,6 +105,28 @@ pub fn run_words<
                 silent,
             };
             run_file(rt, network, options, journal, out, err)
+        }
+        Ok(
+            Action::Live {
+                network,
+                bus,
+                workers,
+                attempts,
+                answer_ms,
+                settle_ms,
+                seconds,
+                journal,
+            },
+        ) => {
+            let options = LiveOptions {
+                workers,
+                attempts,
+                answer_ms,
+                settle_ms,
+                seconds: seconds.unwrap_or(0),
+                format: format_of(&bus),
+            };
+            live_file(rt, network, &bus, options, journal, out, err)
         }
         Ok(Action::Replay) => replay_text(rt.alloc(), input, out, err),
         Err(none) => say(&none, out, err),
@@ -118,7 +178,7 @@ fn run_file<R: Files + AllocGlobal + Wait + Threads + Send + Sync, W: Write, E: 
 }
 
 /// Makes the file of this path, if there is one.
-fn make<R: Files + AllocGlobal>(
+pub(crate) fn make<R: Files + AllocGlobal>(
     rt: &R,
     path: Option<&str>,
 ) -> io::Result<Option<BufWriter<R::File>>> {
@@ -132,7 +192,7 @@ fn make<R: Files + AllocGlobal>(
 }
 
 /// The fault of a file that can't be made.
-fn write_fault<E: Write>(err: &mut E, kind: io::ErrorKind) -> u8
+pub(crate) fn write_fault<E: Write>(err: &mut E, kind: io::ErrorKind) -> u8
     ensures { result ≡ 3 }
 {
     match kind {

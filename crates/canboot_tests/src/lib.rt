@@ -3,6 +3,8 @@
 #![tactic(auto)]
 
 #[cfg(test)]
+mod live;
+#[cfg(test)]
 mod runs;
 #[cfg(test)]
 mod small_program;

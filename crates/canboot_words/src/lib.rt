@@ -2,5 +2,7 @@
 #![tactic(auto)]
 
 mod command_line;
+mod help;
+mod live;
 
-pub use command_line::{Action, NoAction, read_words};
+pub use command_line::{Action, BusPaths, NoAction, read_words};

@@ -16,6 +16,7 @@ fn called(call: &Call, receipt: &Receipt) -> Happening {
 }
 
 /// A shared manager whose calls are told to the one that watches the network, each once it was made.
+#[derive(Drop)]
 pub struct Announcing<'r, M> {
     manager: &'r M,
     happenings: Sender<Happening>,

@@ -7,6 +7,8 @@ mod beside;
 #[cfg(test)]
 mod boots;
 #[cfg(test)]
+mod live_bus;
+#[cfg(test)]
 mod operator;
 #[cfg(test)]
 mod reading;

@@ -1,0 +1,28 @@
+use Rattle.std.proofs.Common.{ℕ, ◌+◌, ap, inr, refl}
+use Rattle.std.specs.Prelude.{Err}
+use Rattle.cm_format.specs.Text.{journal_of}
+use Rattle.cm_format.specs.declared.version.Version.TheVariants.{Two}
+use Rattle.canboot_check.proofs.OutputStatus.{done_written}
+use Rattle.canboot.proofs.live.live_text.Goals as goal
+
+pub returns-in-Ok-live-clause-done : goal.returns-in-Ok-live-clause-done
+returns-in-Ok-live-clause-done g c = λ e. record {
+  of = journal_of Two c.in-Ok.network (c.from-seats.result + 1) 1048576 c.as_slice-entries.result.now;
+  run = record { list = c.in-Ok.ensures.list; version = refl; journal = c.is_journal.ensures; seats = ap (λ (n : ℕ). n + 1) c.from-seats.ensures; most = refl };
+  reported = done_written c.put_run-written.result _ c.output_status-status.result c.put_run-written.ensures.report c.output_status-status.ensures (c.ending_status.ensures.done e);
+  recorded = done_written c.put_run-written.result _ c.output_status-status.result c.put_run-written.ensures.journal c.output_status-status.ensures (c.ending_status.ensures.done e);
+}
+
+pub returns-in-Ok-live-clause-failed : goal.returns-in-Ok-live-clause-failed
+returns-in-Ok-live-clause-failed g c = λ e.
+    inr (
+      journal_of Two c.in-Ok.network (c.from-seats.result + 1) 1048576 c.as_slice-entries.result.now,
+      record { list = c.in-Ok.ensures.list; version = refl; journal = c.is_journal.ensures; seats = ap (λ (n : ℕ). n + 1) c.from-seats.ensures; most = refl },
+    )
+
+pub returns-clause-refused : goal.returns-clause-refused
+returns-clause-refused g c = λ e. record {
+  cause = inr (c.in-Ok.network, c.in-Ok.ensures.list, c.in-Err-live.ensures.refused (ap Err (c.no_history_line.ensures.refused e)));
+  kept = refl;
+  unwritten = refl;
+}

@@ -1,0 +1,126 @@
+//! The files of a live run.
+
+ghost use Rattle.std.specs.Prelude.{◌≤◌};
+
+use crate::live::{LiveEnds, LiveOptions, live_text};
+use crate::program::{make, write_fault};
+use canboot_check::read_fault;
+use canboot_words::BusPaths;
+use cm_live::Format;
+use std::alloc::Global;
+use std::fs::{self, File, OpenOptions};
+use std::io::{self, BufWriter, StdinLock, Write};
+use std::rt::Files;
+use std::sync::Wait;
+use std::thread::Threads;
+use std::time::Clock;
+
+/// In what lines the frames of a bus come and go.
+pub(crate) fn format_of(bus: &BusPaths<'_>) -> Format {
+    match bus {
+        BusPaths::CanUtils { .. } => Format::CanUtils,
+        BusPaths::Adapter { .. } => Format::Adapter,
+    }
+}
+
+/// Opens a bus: where frames are read, and where they are written.
+fn open_bus<R: Files<File = File>>(rt: &R, bus: &BusPaths<'_>) -> io::Result<(File, File)> {
+    match bus {
+        BusPaths::CanUtils { receive, send } => {
+            let received = fs::open(rt, *receive)?;
+            let sent = OpenOptions::new().write(true).open(rt, *send)?;
+            Ok((received, sent))
+        }
+        BusPaths::Adapter { device } => {
+            let sent = OpenOptions::new().read(true).write(true).open(rt, *device)?;
+            let received = sent.try_clone()?;
+            Ok((received, sent))
+        }
+    }
+}
+
+/// Opens the channel of a serial adapter, whose bit rate was set before. What it answers is no frame.
+fn open_channel(sent: &mut File, format: Format) {
+    if format == Format::Adapter {
+        let _ = sent.write_all(b"O\r");
+    }
+}
+
+/// Closes the channel of a serial adapter.
+fn close_channel(sent: &mut File, format: Format) {
+    if format == Format::Adapter {
+        let _ = sent.write_all(b"C\r");
+    }
+}
+
+/// Writers to one file, this many.
+fn writers_to(alloc: Global, file: &File, count: u8) -> io::Result<Vec<BufWriter<File>>> {
+    let mut writers = Vec::new(alloc);
+    for _writer in 0..count {
+        writers.push(BufWriter::new(alloc, file.try_clone()?)?)?;
+    }
+    Ok(writers)
+}
+
+/// `canboot live`, over the files of these paths. The list is opened first, then the bus; then the journal's file is made,
+/// if there is one, before the list is read.
+pub(crate) fn live_file<
+    R: Files<File = File>
+        + Input<Reader = StdinLock<'static>>
+        + Clock
+        + AllocGlobal
+        + Wait
+        + Threads
+        + Clone
+        + Send
+        + Sync
+        + Drop
+        + 'static,
+    O: Write,
+    E: Write,
+>(
+    rt: &R,
+    path: &str,
+    bus: &BusPaths<'_>,
+    options: LiveOptions,
+    journal: Option<&str>,
+    out: &mut O,
+    err: &mut E,
+) -> u8
+    requires workers { (1 ≤ options.workers) × (options.workers ≤ 16) }
+{
+    let mut list = match fs::open(rt, path) {
+        Ok(file) => file,
+        Err(error) => return read_fault(err, error.kind()),
+    };
+    let (received, mut sent) = match open_bus(rt, bus) {
+        Ok(files) => files,
+        Err(error) => return read_fault(err, error.kind()),
+    };
+    let written = match writers_to(rt.alloc(), &sent, options.workers + 1) {
+        Ok(writers) => writers,
+        Err(error) => return write_fault(err, error.kind()),
+    };
+    let mut journal = match make(rt, journal) {
+        Ok(file) => file,
+        Err(error) => return write_fault(err, error.kind()),
+    };
+    let ends = LiveEnds {
+        received,
+        typed: rt.reader(),
+        written,
+    };
+    open_channel(&mut sent, options.format);
+    let status = live_text(
+        rt,
+        rt.alloc(),
+        &mut list,
+        options,
+        ends,
+        out,
+        err,
+        &mut journal,
+    );
+    close_channel(&mut sent, options.format);
+    status
+}

@@ -1,0 +1,301 @@
+//! Live runs over a bus in memory: what is written is answered by devices, and what an operator types comes once all
+//! slaves were started.
+
+use crate::runs::full_list;
+use crate::streams::{READ_FAILED, WRITE_FAILED};
+use canboot::{LiveEnds, LiveOptions, live_text, replay_text};
+use cm_can::{CanFrame, Kind, read_log_line};
+use cm_live::Format;
+use crossbeam_channel::{Receiver, Sender};
+use std::alloc::{AllocError, Global};
+use std::io::{self, ErrorKind, Read, Write};
+use std::process::Abort;
+use std::sync::Wait;
+use std::test::Fail;
+use std::thread::Threads;
+use std::time::Clock;
+
+/// What the devices tell: a text of frames, or that a node was started.
+#[derive(Drop)]
+enum Heard {
+    Text(Vec<u8>),
+    End,
+}
+
+/// A writer behind which devices of all nodes listen: each request is answered at once, by a device that agrees with
+/// the list, and each reset of all by boot-up messages. After so many writes it fails.
+#[derive(Drop)]
+struct Devices<R: Wait + Drop> {
+    rt: R,
+    alloc: Global,
+    line: Vec<u8>,
+    answers: Sender<Heard>,
+    starts: Sender<u8>,
+    left: u32,
+}
+
+/// The answer to a request of node n: an upload gives 00020192h.
+fn answer_to(alloc: Global, frame: &CanFrame) -> Result<Vec<u8>, AllocError> {
+    let mut text: Vec<u8> = Vec::new(alloc);
+    let [command, low, high, sub, _, _, _, _] = frame.bytes;
+    let node = frame.id.number.wrapping_sub(0x600);
+    let from = node.wrapping_add(0x580);
+    if frame.kind == Kind::Data && node > 0 && node < 128 && command == 0x40 {
+        writeln!(
+            text,
+            "(0.000000) can0 {from:03X}#43{low:02X}{high:02X}{sub:02X}92010200"
+        )?;
+    }
+    Ok(text)
+}
+
+/// The boot-up messages of all nodes but the manager's.
+fn boot_ups(alloc: Global) -> Result<Vec<u8>, AllocError> {
+    let mut text: Vec<u8> = Vec::new(alloc);
+    for node in 1..127u16 {
+        let id = 0x700 + node;
+        writeln!(text, "(0.000000) can0 {id:03X}#00")?;
+    }
+    Ok(text)
+}
+
+impl<R: Wait + Drop> Devices<R> {
+    /// Takes a frame that was sent.
+    fn take(&mut self, frame: &CanFrame) -> Result<(), AllocError> {
+        if frame.id.number != 0 {
+            let text = answer_to(self.alloc, frame)?;
+            let _ = self.answers.send(&self.rt, Heard::Text(text));
+            return Ok(());
+        }
+        match frame.bytes[0] {
+            0x82 => {
+                let text = boot_ups(self.alloc)?;
+                let _ = self.answers.send(&self.rt, Heard::Text(text));
+            }
+            0x01 => {
+                let _ = self.starts.send(&self.rt, frame.bytes[1]);
+            }
+            _ => {}
+        }
+        Ok(())
+    }
+}
+
+impl<R: Wait + Drop> Write for Devices<R> {
+    fn write(&mut self, buf: &[u8]) -> io::Result<usize> {
+        if self.left == 0 {
+            let _ = self.answers.send(&self.rt, Heard::End);
+            return Err(io::Error::from(ErrorKind::BrokenPipe));
+        }
+        self.line.extend_from_slice(buf)?;
+        if let Some((last, text)) = self.line.as_slice().split_last() {
+            if *last == b'\n' {
+                self.left = self.left.saturating_sub(1);
+                if let Some(frame) = read_log_line(text) {
+                    self.take(&frame)?;
+                }
+                self.line.clear();
+            }
+        }
+        Ok(buf.len())
+    }
+
+    fn flush(&mut self) -> io::Result<()> {
+        Ok(())
+    }
+}
+
+/// A reader of what the devices answer.
+#[derive(Drop)]
+struct Answered<R: Wait + Drop> {
+    rt: R,
+    answers: Receiver<Heard>,
+    text: Vec<u8>,
+    at: usize,
+}
+
+impl<R: Wait + Drop> Read for Answered<R> {
+    fn read(&mut self, buf: &mut [u8]) -> io::Result<usize> {
+        for _text in 0..u64::MAX {
+            if self.at < self.text.len() {
+                break;
+            }
+            match self.answers.recv(&self.rt) {
+                Ok(Heard::Text(text)) => {
+                    self.text = text;
+                    self.at = 0;
+                }
+                Ok(Heard::End) | Err(_) => return Ok(0),
+            }
+        }
+        let mut count = 0usize;
+        for place in buf.iter_mut() {
+            let Some(byte) = self.text.get(self.at) else {
+                break;
+            };
+            *place = *byte;
+            self.at = self.at.saturating_add(1);
+            count = count.saturating_add(1);
+        }
+        Ok(count)
+    }
+}
+
+/// What an operator types once so many slaves were started.
+#[derive(Drop)]
+struct Typing<R: Wait + Drop> {
+    rt: R,
+    starts: Receiver<u8>,
+    wanted: u32,
+    text: &'static [u8],
+}
+
+impl<R: Wait + Drop> Read for Typing<R> {
+    fn read(&mut self, buf: &mut [u8]) -> io::Result<usize> {
+        for _start in 0..self.wanted {
+            let _ = self.starts.recv(&self.rt);
+        }
+        self.wanted = 0;
+        let mut count = 0usize;
+        for place in buf.iter_mut() {
+            let Some((first, rest)) = self.text.split_first() else {
+                break;
+            };
+            *place = *first;
+            self.text = rest;
+            count = count.saturating_add(1);
+        }
+        Ok(count)
+    }
+}
+
+/// The writers of a bus, one for each of four workers and one more, what is heard of it, and who types.
+struct Bus<R: Wait + Drop> {
+    ends: LiveEnds<Answered<R>, Typing<R>, Devices<R>>,
+}
+
+fn bus_of<R: Wait + Clone + Drop>(
+    rt: &R,
+    alloc: Global,
+    wanted: u32,
+    text: &'static [u8],
+    left: u32,
+) -> Result<Bus<R>, Fail> {
+    let (answers, heard) = crossbeam_channel::unbounded(alloc)?;
+    let (starts, started) = crossbeam_channel::unbounded(alloc)?;
+    let mut written = Vec::new(alloc);
+    for _writer in 0..5u8 {
+        written.push(
+            Devices {
+                rt: rt.clone()?,
+                alloc,
+                line: Vec::new(alloc),
+                answers: answers.clone()?,
+                starts: starts.clone()?,
+                left,
+            },
+        )?;
+    }
+    let received = Answered {
+        rt: rt.clone()?,
+        answers: heard,
+        text: Vec::new(alloc),
+        at: 0,
+    };
+    let typed = Typing {
+        rt: rt.clone()?,
+        starts: started,
+        wanted,
+        text,
+    };
+    let ends = LiveEnds {
+        received,
+        typed,
+        written,
+    };
+    Ok(Bus { ends })
+}
+
+/// Four workers.
+fn four_workers() -> LiveOptions
+    ensures { result.workers ≡ 4 }
+{
+    LiveOptions {
+        workers: 4,
+        attempts: 2,
+        answer_ms: 2000,
+        settle_ms: 60_000,
+        seconds: 0,
+        format: Format::CanUtils,
+    }
+}
+
+/// What a run printed.
+#[derive(Drop)]
+struct Printed {
+    status: u8,
+    out: Vec<u8>,
+    err: Vec<u8>,
+}
+
+/// Boots 126 slaves over a bus in memory, and asserts that the journal is one whose report is the one that was written.
+fn lives<R: Wait + Threads + Clock + Clone + Abort + Send + Sync + Drop + 'static>(
+    rt: &R,
+    alloc: Global,
+    bus: Bus<R>,
+) -> Result<Printed, Fail> {
+    let list = full_list(alloc)?;
+    let mut input = list.as_slice();
+    let mut out: Vec<u8> = Vec::new(alloc);
+    let mut err: Vec<u8> = Vec::new(alloc);
+    let mut journal: Option<Vec<u8>> = Some(Vec::new(alloc));
+    let options = four_workers();
+    let Bus { ends } = bus;
+    let status = live_text(
+        rt,
+        alloc,
+        &mut input,
+        options,
+        ends,
+        &mut out,
+        &mut err,
+        &mut journal,
+    );
+    let Some(journal) = journal else {
+        return Err(Fail::from("no journal"));
+    };
+    let mut entries = journal.as_slice();
+    let mut report: Vec<u8> = Vec::new(alloc);
+    let mut fault: Vec<u8> = Vec::new(alloc);
+    let replayed = replay_text(alloc, &mut entries, &mut report, &mut fault);
+    assert_eq!(rt; replayed, 0);
+    assert_eq!(rt; report.as_slice(), out.as_slice());
+    Ok(Printed { status, out, err })
+}
+
+/// Whether a text has this part.
+fn has(text: &[u8], part: &[u8]) -> bool {
+    text.windows(part.len().max(1)).any(|window| window == part)
+}
+
+#[test]
+fn a_network_is_booted_on_a_bus(rt: HostRuntime) -> Result<(), Fail> {
+    let bus = bus_of(&rt, rt.alloc(), 126, b"read 5\nnonsense\nquit\n", 100_000)?;
+    let printed = lives(&rt, rt.alloc(), bus)?;
+    assert_eq!(&rt; printed.status, 0);
+    assert!(&rt; printed.out.as_slice().starts_with(b"phase ready\nown operational\n"));
+    assert!(&rt; has(printed.out.as_slice(), b"\nopen 0\nframe 82 00\n"));
+    assert!(&rt; has(printed.err.as_slice(), b"node 126: status Ok, started\n"));
+    assert!(&rt; has(printed.err.as_slice(), b"bad line: no such word"));
+    Ok(())
+}
+
+#[test]
+fn a_bus_that_can_not_be_written_ends_the_run(rt: HostRuntime) -> Result<(), Fail> {
+    let bus = bus_of(&rt, rt.alloc(), 1_000, b"quit\n", 3)?;
+    let printed = lives(&rt, rt.alloc(), bus)?;
+    assert_eq!(&rt; printed.status, 3);
+    let err = printed.err.as_slice();
+    assert!(&rt; err.ends_with(WRITE_FAILED) || err.ends_with(READ_FAILED));
+    Ok(())
+}

@@ -1,0 +1,276 @@
+//! What help says.
+
+pub(crate) const ABOUT: &str = "The NMT master of a CANopen network (CiA 301, CiA 302-2)";
+
+pub(crate) const ABOUT_REPLAY: &str =
+    "Reads a journal on standard input and prints its status report";
+
+pub(crate) const HELP_REPLAY: &str =
+    "Reads a journal (version 1 or 2, a text of ASCII lines, at most 268,435,456 bytes) on standard \
+input to its end, makes sure that it is a legal history, and prints the status report of that \
+history on standard output: the phase, the manager's own NMT state, the number of entries and of \
+mandatory slaves that aren't booted, each NMT frame sent, and a line for each listed slave, which \
+ends with 'held' where an operator holds it.
+
+A journal has these lines, with one space between two fields:
+
+  canboot journal 2                              or canboot journal 1
+  network own ID startup 1F80h boottime 1F89h seats N limit N
+  slave ID assign 1F81h type 1F84h vendor 1F85h product 1F86h revision 1F87h serial 1F88h \
+heartbeat MS date 1F26h time 1F27h writes N      for each slave, in rising node-ID
+  write INDEX SUB SIZE VALUE                     N times, behind their slave
+  entry SEAT CALL = REPLY / ORDERS               for each call, the oldest first
+  end N                                          with the number of entries
+
+CALL is start, begin ID, report ID SESSION ANSWERS, signal ID BYTE, lost ID, request TARGET VALUE, \
+read TARGET, elapsed MS, and in version 2 also hold ID and release ID, with which an operator takes \
+a slave out of booting and gives it back. The limit of the network's line is 1 to 1,048,576, in \
+version 1 to 65,536. MS of elapsed is the time in ms since the network was started, and not \
+since the last such call. The objects but boottime, the answers' values and the bytes are in \
+hexadecimal, all other numbers in decimal; docs/FORMATS.md has every range, the answers, replies and \
+orders.
+
+Exit statuses:
+  0  the report is printed
+  1  the journal is refused; the fault line on standard error names its first line with a fault:
+     bad header, bad line, bad network, unknown seat, over limit, wrong reply
+  2  the command line is wrong
+  3  a failed read (an input that is too long among them), a failed write, or want of memory
+
+Nothing is printed on standard output where the journal is refused or can't be read.
+
+Example: canboot replay < examples/one-slave.journal";
+
+pub(crate) const ABOUT_CHECK: &str =
+    "Reads a network list in TOML and prints how many slaves it lists";
+
+pub(crate) const HELP_CHECK: &str =
+    "Reads the network list NET (TOML, UTF-8, at most 1,048,576 bytes) to its end and prints on \
+standard output 'ok slaves S mandatory M kept K': how many slaves it lists, how many of them are \
+mandatory (1F81h bit 3), and how many are kept alive (1F81h bit 4). No CAN network is needed.
+
+Keys of the list, each with its range, and 'needed' or the value where it isn't given:
+
+  own          the manager's own node-ID, 1 to 127; needed
+  startup      1F80h, NMT startup, 0 to 4,294,967,295; needed
+  boot_time    1F89h, boot time of the mandatory slaves in ms, 0 to 4,294,967,295; 0, no limit
+  slave        an array of tables, one for each slave, in any order; no slave
+
+Bits of startup, 1F80h; others are carried:
+
+  0  this device is the NMT master; without it every call is refused
+  1  0: each slave is started by itself, once it is booted; 1: all at once, when every mandatory \
+slave is booted
+  2  0: the manager becomes operational by itself, when every mandatory slave is booted; 1: the \
+application decides
+  3  0: the manager starts slaves; 1: it doesn't
+  4  when a mandatory slave that is booted is lost (an error control event), all nodes are reset; \
+with neither bit 4 nor bit 6, that slave alone
+  6  all nodes are stopped then, in place of any reset
+
+Keys of each slave:
+
+  id           its node-ID, 1 to 127, neither own nor another slave's; needed
+  assignment   1F81h, slave assignment, 0 to 4,294,967,295, with bit 0 set; needed
+  device_type  1F84h, expected device type, 0 to 4,294,967,295; 0, not compared
+  vendor       1F85h, expected vendor-ID, 0 to 4,294,967,295; 0, not compared
+  product      1F86h, expected product code, 0 to 4,294,967,295; 0, not compared
+  revision     1F87h, expected revision number, 0 to 4,294,967,295; 0, not compared
+  serial       1F88h, expected serial number, 0 to 4,294,967,295; 0, not compared
+  heartbeat    1016h, time in which a heartbeat has to come in ms, 0 to 65,535; 0, node guarding
+  date         1F26h, expected configuration date in days since 1 January 1984, 0 to \
+4,294,967,295; 0, always configured
+  time         1F27h, expected configuration time in ms since midnight, 0 to 4,294,967,295; \
+0, always configured
+  writes       in the place of 1F22h, the writes that configure the slave in their order, an array \
+of at most 32 arrays [index, sub-index, size, value]: index 0 to 65,535, sub-index 0 to 255, size \
+1, 2 or 4 bytes, value 0 to 4,294,967,295 that fits the size; none
+
+Bits of assignment, 1F81h; others are carried:
+
+  0  the node is a slave of the list; needed
+  2  it is booted: its identity is read, it is configured and started; without this bit it isn't \
+asked anything, and only its heartbeat is waited for, if it has a heartbeat time
+  3  it is mandatory: the network isn't ready before it is booted
+  4  it is kept alive: the start of the network doesn't reset it, and where its boot finds it \
+operational it isn't configured
+  5  its software version is to be verified, which this master can't do: where bit 2 is set, its \
+boot fails with status G once its identity was read and agrees, unless bit 4 is set and it is found \
+operational
+
+Where faults apply, standard error names the first of these that applies anywhere in the list:
+
+  not TOML         the bytes aren't UTF-8, or they aren't TOML
+  unknown key      the list or a slave has a key that isn't one of these
+  missing key      the list or a slave lacks a needed key
+  wrong kind       a value is of another kind than above
+  out of range     an integer is outside its range
+  double slave     two slaves have one id
+  own id listed    a slave's id is own
+  bit 0 clear      an assignment has bit 0 clear
+  too many writes  a slave has more than 32 writes
+  value too wide   a write of size 1 has a value above 255, or one of size 2 above 65,535
+
+Exit statuses:
+  0  the list has no fault, and the line is printed
+  1  the list has a fault
+  2  the command line is wrong
+  3  a file that can't be opened, a failed read (an input that is too long among them), a failed \
+write, or want of memory
+
+Nothing is printed on standard output where the list has a fault or can't be read.
+
+Example, a list of one slave, of which 'ok slaves 1 mandatory 1 kept 0' is printed:
+
+  own = 1
+  startup = 1
+
+  [[slave]]
+  id = 2
+  assignment = 13
+  device_type = 0x00020192";
+
+pub(crate) const ABOUT_RUN: &str =
+    "Boots a network of simulated slaves, prints its status report, and writes its journal";
+
+pub(crate) const HELP_RUN: &str =
+    "Reads the network list NET ('canboot check --help' says what it holds), boots a network of \
+simulated slaves, and prints the status report of what happened on standard output, as 'canboot \
+replay' prints it. Each slave agrees with the list: it has each object as the list expects it, \
+acknowledges each write, and is heard in pre-operational. The report has a line for each listed \
+slave, which ends with the status of its last boot that came to an end. No CAN network is needed.
+
+A seat is one who makes calls of the manager. Seat 1 is an operator, who starts the network, and \
+says at the end that 0 ms went by. A worker is a thread with a seat of its own, 2 to N + 1, and a \
+bus of its own. The slaves are counted from 0 in rising node-ID, and slave K belongs to worker K \
+modulo N: that worker boots it, one after another with its other slaves.
+
+An attempt at a slave is three things: the begin of its boot, the questions of the boot, and the \
+report of the answers. Another attempt follows only after status B, where the slave gave no value \
+of object 1000h, or where the session of the attempt was dropped before its report.
+
+A silent slave gives no answer. With bit 2 of its assignment each attempt at it comes to status B, \
+also with bit 5, and so it isn't booted; if it is mandatory, the network doesn't become ready. \
+Without bit 2 it is asked no question: its silence shows only where its heartbeat is waited for, as \
+status K, and else it is booted. An ID that isn't listed has no effect.
+
+Any failed boot but one with status B, of a mandatory slave, halts the network: its phase is \
+'halted', and slaves whose boot hasn't begun by then aren't booted. So it is with a mandatory slave \
+that has bits 2 and 5 of its assignment, whose boot fails with status G.
+
+FILE is made once NET is open, and before NET is read; what FILE had before is lost. So with the \
+path of NET for FILE the list is lost, and after a list that is refused, or a start that is refused, \
+an empty FILE stays. 'canboot replay < FILE' accepts the journal, and prints the same report.
+
+With one worker the output and the journal of a list are always the same. With several workers the \
+order of the entries may differ from run to run, and with it the numbers of the sessions and what \
+depends on the order.
+
+Exit statuses:
+  0  the report is printed, and the journal is written, if one is asked for; also where the boot of \
+a slave failed, or the network didn't become ready, as the report says
+  1  the list has a fault ('canboot check --help' names them), or the start is refused, since bit 0 \
+of startup is clear ('start refused: 1 NotMaster'); nothing is printed
+  2  the command line is wrong
+  3  NET can't be opened or read, or is too long; FILE can't be made; a failed write; want of \
+memory; or 'no worker', where a thread couldn't be made
+
+Nothing is printed on standard output where no report is due; standard error has one line that says \
+why.
+
+Examples:
+  canboot run examples/lists/one-slave.toml
+  canboot run examples/lists/one-slave.toml --silent 2 --attempts 3 --journal silent.journal";
+
+pub(crate) const ABOUT_LIVE: &str =
+    "Boots a network on a CAN bus, watches it, prints its status report, and writes its journal";
+
+/// The two ways to say where the bus is.
+pub(crate) const USAGE_LIVE: &str = "canboot live [OPTIONS] <NET> --receive <FILE> --send <FILE>
+       canboot live [OPTIONS] <NET> --slcan <DEVICE>";
+
+pub(crate) const HELP_LIVE: &str =
+    "Reads the network list NET ('canboot check --help' says what it holds), boots its slaves on \
+a CAN bus, watches them until the run ends, and prints the status report of what happened on \
+standard output, as 'canboot replay' prints it. These are real devices: the start of the network \
+resets each slave that isn't kept alive, and a slave that is booted is started where startup says \
+so.
+
+canboot opens no CAN interface, and starts no other program. Frames come and go as lines of \
+can-utils, or over a serial adapter. Those with identifiers of 29 bits, those of CAN FD and error \
+frames are passed over.
+
+With can-utils, --receive is the path from which the lines of 'candump -L can0' are read, and \
+--send the path to which lines for 'canplayer -t can0=can0' are written; a shell such as bash \
+makes both paths, as in the first example. The interface in the lines that are written is always \
+can0. So for another interface it is 'candump -L vcan0' and 'canplayer -t vcan0=can0', which \
+sends on vcan0 what the lines have for can0.
+
+A serial adapter speaks SLCAN; --slcan is its device, which is read and written. canboot sends no \
+settings itself: before it runs, the device is made raw, the adapter's bit rate is set, and the \
+adapter is opened, with the settings that slcand sends too, here S6 for 500 kbit/s and O:
+
+  stty -F /dev/ttyACM0 raw -echo
+  printf 'S6\\rO\\r' > /dev/ttyACM0
+
+First the network is started, and for --settle MS boot-up messages are waited for. Then N workers \
+boot all slaves, and try each slave at most as often as --attempts says; another attempt follows \
+only after status B, or where the session of the last one was dropped before its report. An SDO \
+answer and a guard answer are waited for --answer MS, a heartbeat for the slave's heartbeat time.
+
+Then the slaves are watched:
+
+  A booted slave with a heartbeat time whose heartbeat doesn't come in that time is lost. What \
+follows is said by bits 4 and 6 of startup.
+  A slave that sends its boot-up message is booted again.
+  A heartbeat with another state than the last one is a signal. One with the same state is no \
+call, so the journal of a long run stays short.
+  Where boot_time has gone by and a mandatory slave isn't booted, the network is halted.
+
+Meanwhile an operator types calls on standard input, one in a line, as a journal spells them, and \
+three words more:
+
+  request 5 4  writes 4 to 1F82h of slave 5: 4 stop, 5 start, 6 reset node, 7 reset \
+communication, 127 enter pre-operational; 128 in the place of 5 is all nodes
+  read 5       reads it: 0 unknown, 1 missing, 4 stopped, 5 operational, 127 pre-operational
+  hold 5       takes slave 5 out of booting
+  release 5    gives it back
+  lost 5       says that slave 5 is lost
+  status       shows the report so far
+  help         shows these words
+  quit         ends the run
+
+A request 5 to one slave starts it, whatever its boot came to. Each call is answered on standard \
+error with its place in the history and its reply, as '17 done' or '18 refused 12: a mandatory \
+slave isn't booted'. Of any other line it is said what is wrong with it, and nothing happens.
+
+Progress goes to standard error as well, a line for each change, such as 'node 5: begun 1', 'node \
+5: status Ok, started' and 'network ready'. It says in words what a status means and which value \
+differed, as in 'node 7: status M (product code 00000457, expected 00000456)'.
+
+The run ends with 'quit'; at the end of the operator's input, or --for SECONDS behind it; or \
+where no more frames can be received or sent. Then the workers finish, the report is printed on \
+standard output, and the journal is written to FILE, if --journal names one; what FILE had before \
+is lost. 'canboot replay < FILE' accepts the journal, and prints the same report.
+
+Exit statuses:
+  0  the report is printed, and the journal is written, if one is asked for; also where the boot \
+of a slave failed, or the network didn't become ready, as the report says
+  1  the list has a fault ('canboot check --help' names them), or the start is refused, since bit \
+0 of startup is clear ('start refused: 1 NotMaster'); nothing is printed on standard output
+  2  the command line is wrong
+  3  a file or a device can't be opened or made; a failed read; a failed write; want of memory; \
+or 'no worker', where a thread couldn't be made. A bus that ends is a failed read, and one that \
+can't be written a failed write: the report and the journal of what was done are written all the \
+same
+
+Examples, of which the last has no operator, and ends by itself after 10 seconds:
+  canboot live NET --receive <(candump -L can0) --send >(canplayer -t can0=can0)
+  canboot live NET --slcan /dev/ttyACM0 --workers 8 --journal day.journal
+  canboot live NET --receive <(candump -L can0) --send >(canplayer -t can0=can0) --for 10 < \
+/dev/null";
+
+pub(crate) const AFTER: &str =
+    "'canboot check --help' says what a network list holds, 'canboot replay --help' what a journal \
+holds, 'canboot run --help' what is simulated, 'canboot live --help' how a CAN bus is reached and \
+what an operator types, and each what the exit statuses mean.";

@@ -1,0 +1,223 @@
+//! A bus whose frames are written down before: which frame is taken as the answer of a question, what is sent, and
+//! what stands in the log; lines that are cut, and heartbeats that are news.
+
+use crate::support::{node, sure};
+use cm_boot::{Answer, Bus, Question};
+use cm_can::{CanFrame, read_frame};
+use cm_live::{Event, Heartbeats, LineCutter, LiveBus, Port};
+use cm_netlist::Network;
+use cm_nmt::{NmtState, NodeId, Startup, Write};
+use std::alloc::Global;
+use std::process::Abort;
+use std::test::Fail;
+
+/// A port that hears these frames, in order, once a question is asked.
+#[derive(Drop)]
+struct Written {
+    frames: Vec<CanFrame>,
+    next: usize,
+}
+
+impl Port for Written {
+    fn listen(&mut self, _node: NodeId, _question: &Question, _wait_ms: u32) {}
+
+    fn send(&mut self, _frame: &CanFrame) {}
+
+    fn hear(&mut self) -> Option<CanFrame> {
+        let frame = self.frames.get(self.next).copied();
+        self.next = self.next.saturating_add(1);
+        frame
+    }
+}
+
+fn frame_of(rt: &impl Abort, text: &str) -> CanFrame {
+    read_frame(text.as_bytes()).expect(rt, "a frame")
+}
+
+/// Asks node 2 the question over a bus that hears these frames: it gets this answer, and the log ends with this
+/// event behind so many others.
+fn is_answered<R: Abort>(
+    rt: &R,
+    alloc: Global,
+    question: Question,
+    heard: &[&str],
+    answer: Answer,
+    before: usize,
+    last: Event,
+) -> Result<(), Fail> {
+    let mut frames = Vec::new(alloc);
+    for text in heard {
+        frames.push(frame_of(rt, text))?;
+    }
+    let network = Network::new(alloc, node(rt, 1), Startup(1), 0);
+    let port = Written { frames, next: 0 };
+    let mut bus = LiveBus::new(alloc, &network, 300, port)?;
+    let given = bus.ask(node(rt, 2), question);
+    sure(rt, given == answer);
+    sure(rt, bus.log().len() == before.saturating_add(1));
+    sure(rt, bus.log().last().copied() == Some(last));
+    Ok(())
+}
+
+#[test]
+fn the_first_frame_that_answers_is_taken(rt: HostRuntime) -> Result<(), Fail> {
+    let value = "582#4318100123010000";
+    // another node's, of another index, of another sub-index, of another command, the client's own, a remote frame
+    let others = [
+        "583#4318100123040000",
+        "582#4300100092010200",
+        "582#4318100299040000",
+        "582#6018100100000000",
+        "602#4018100100000000",
+        "582#R",
+        value,
+        "582#4318100177770000",
+    ];
+    is_answered(
+        &rt,
+        rt.alloc(),
+        Question::Read(0x1018, 1),
+        &others,
+        Answer::Value(0x123),
+        7,
+        Event::Heard(frame_of(&rt, value)),
+    )
+}
+
+#[test]
+fn a_question_without_an_answer_is_aborted(rt: HostRuntime) -> Result<(), Fail> {
+    is_answered(
+        &rt,
+        rt.alloc(),
+        Question::Read(0x1000, 0),
+        &["582#4318100123010000"],
+        Answer::Silent,
+        3,
+        Event::Sent(frame_of(&rt, "602#8000100000000405")),
+    )?;
+    let write = Write::new(0x6200, 1, 2, 0x1234);
+    is_answered(
+        &rt,
+        rt.alloc(),
+        Question::Write(write),
+        &[],
+        Answer::Silent,
+        2,
+        Event::Sent(frame_of(&rt, "602#8000620100000405")),
+    )
+}
+
+#[test]
+fn a_segmented_upload_is_aborted(rt: HostRuntime) -> Result<(), Fail> {
+    is_answered(
+        &rt,
+        rt.alloc(),
+        Question::Read(0x1018, 1),
+        &["582#4118100110000000"],
+        Answer::Abort(0x0504_0001),
+        2,
+        Event::Sent(frame_of(&rt, "602#8018100101000405")),
+    )
+}
+
+#[test]
+fn a_heartbeat_is_waited_for(rt: HostRuntime) -> Result<(), Fail> {
+    let beat = "702#05";
+    // nothing is sent; a boot-up message tells no state
+    is_answered(
+        &rt,
+        rt.alloc(),
+        Question::Beat,
+        &["702#00", "703#7F", beat],
+        Answer::State(NmtState::Operational),
+        2,
+        Event::Heard(frame_of(&rt, beat)),
+    )?;
+    is_answered(
+        &rt,
+        rt.alloc(),
+        Question::StateByBeat,
+        &[],
+        Answer::Silent,
+        0,
+        Event::Expired,
+    )
+}
+
+#[test]
+fn so_many_other_frames_are_silence(rt: HostRuntime) -> Result<(), Fail> {
+    let other = "582#4300100092010200";
+    let others = [other; 65];
+    let value = "582#4318100123010000";
+    is_answered(
+        &rt,
+        rt.alloc(),
+        Question::Read(0x1018, 1),
+        &others,
+        Answer::Silent,
+        66,
+        Event::Sent(frame_of(&rt, "602#8018100100000405")),
+    )?;
+    let mut few = [other; 65];
+    few[64] = value;
+    is_answered(
+        &rt,
+        rt.alloc(),
+        Question::Read(0x1018, 1),
+        &few,
+        Answer::Silent,
+        66,
+        Event::Sent(frame_of(&rt, "602#8018100100000405")),
+    )?;
+    few[63] = value;
+    is_answered(
+        &rt,
+        rt.alloc(),
+        Question::Read(0x1018, 1),
+        &few,
+        Answer::Value(0x123),
+        64,
+        Event::Heard(frame_of(&rt, value)),
+    )
+}
+
+/// How many lines the bytes end, of which each is `ok`.
+fn count_lines<R: Abort>(rt: &R, lines: &mut LineCutter, bytes: &[u8]) -> u32 {
+    let mut count = 0u32;
+    for byte in bytes {
+        if lines.take(*byte) {
+            sure(rt, lines.line() == b"ok");
+            count = count.saturating_add(1);
+        }
+    }
+    count
+}
+
+#[test]
+fn a_long_line_is_passed_over(rt: HostRuntime) {
+    let mut lines = LineCutter::new();
+    sure(&rt, count_lines(&rt, &mut lines, b"ok\nok\r\n\n\rok") == 2);
+    sure(&rt, count_lines(&rt, &mut lines, b"\n") == 1);
+    let noise = [b'x'; 1000];
+    for _part in 0..1000u32 {
+        sure(&rt, count_lines(&rt, &mut lines, &noise) == 0);
+    }
+    sure(&rt, count_lines(&rt, &mut lines, b"ok\nok\n") == 1);
+}
+
+#[test]
+fn only_another_state_is_news(rt: HostRuntime) -> Result<(), Fail> {
+    let heartbeats = Heartbeats::new(rt.alloc())?;
+    let two = node(&rt, 2);
+    sure(&rt, heartbeats.last(two).is_none());
+    sure(&rt, heartbeats.hear(two, 0, 0));
+    sure(&rt, heartbeats.last(two) == Some(0));
+    sure(&rt, heartbeats.hear(two, 0, 10));
+    sure(&rt, heartbeats.hear(two, 0x7F, 20));
+    sure(&rt, !heartbeats.hear(two, 0x7F, 30));
+    sure(&rt, !heartbeats.hear(two, 0xFF, 40));
+    sure(&rt, heartbeats.hear(two, 5, 50));
+    sure(&rt, heartbeats.last(two) == Some(50));
+    sure(&rt, heartbeats.last(node(&rt, 3)).is_none());
+    Ok(())
+}
