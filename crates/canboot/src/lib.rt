@@ -4,12 +4,17 @@
 
 mod bus_files;
 mod live;
+mod live_inputs;
+mod live_team;
 mod opening;
+mod operating;
 mod program;
 mod progress;
+mod rounds;
 mod running;
 mod simulation;
 mod typing;
+mod watched;
 mod watching;
 
 pub use canboot_check::{
@@ -18,5 +23,6 @@ pub use canboot_check::{
 pub use canboot_words::{Action, NoAction, read_words};
 pub use live::{LONGEST_LIVE, LiveEnds, LiveOptions, live_text};
 pub use program::{run, run_words};
+pub use rounds::live_round;
 pub use running::run_text;
 pub use simulation::{LONGEST_RUN, Options};

@@ -1,14 +1,11 @@
 //! How a live run watches its network: which calls it makes when what happens, and what it says of it.
 
-use crate::progress::{Judged, Replied, node_of, signal_words};
-use crate::typing::{Command, TYPING, read_line};
+use crate::progress::signal_words;
+use crate::watched::{Watched, slaves_of};
 use cm_history::{Call, Phase, Reply};
-use cm_journal::report_of;
-use cm_live::{Happening, Heartbeats};
-use cm_netlist::Network;
-use cm_nmt::{Answers, NodeId, Status, Wire};
+use cm_live::{Happening, Heartbeats, Tried};
+use cm_nmt::{NodeId, Wire};
 use cm_register::{CallFault, Receipt, Register, RunName, Seat};
-use cm_run::{Last, Outcome};
 use crossbeam_channel::{Receiver, Sender};
 use std::alloc::{AllocError, Global};
 use std::io::Write;
@@ -18,12 +15,6 @@ use std::time::{Clock, Duration, Instant};
 
 /// How long nothing may happen before the time is looked at, in ms.
 const TURN_MS: u64 = 5;
-
-/// The state of an operational node, as object 1F82h reads it.
-const OPERATIONAL: u8 = 5;
-
-/// The target of a request to all nodes.
-const ALL: u8 = 128;
 
 /// How a live run ends.
 #[derive(Clone, Copy, Debug, PartialEq, Eq)]
@@ -38,40 +29,22 @@ pub(crate) enum Ending {
     NotCalled(CallFault),
 }
 
-/// What is known of a listed slave, beside what the manager knows.
-#[derive(Clone, Copy, Debug)]
-struct Watched {
-    id: NodeId,
-    /// In which time its heartbeat has to come, in ms; 0 where it isn't watched.
-    heartbeat_ms: u16,
-    /// Since when it is booted, in ms since the run began.
-    booted_at: Option<u64>,
-    /// When it is to be booted, whether its boot-up message comes or not.
-    due: Option<u64>,
-    /// A worker boots it.
-    is_busy: bool,
-    /// It is to be booted once more behind that.
-    is_again: bool,
-    /// A boot of it has ended.
-    has_ended: bool,
-}
-
 /// What a live run is watched with.
 #[derive(Drop)]
 pub(crate) struct Watcher<'w, 'n, R: Wait + Clock + Drop, K: RunName, W: Wire> {
-    rt: &'w R,
-    register: &'w Register<'n, W, K>,
-    operator: Seat<K>,
+    pub(crate) rt: &'w R,
+    pub(crate) register: &'w Register<'n, W, K>,
+    pub(crate) operator: Seat<K>,
     slaves: Vec<Watched>,
     /// The slaves that each worker is to boot.
     jobs: Vec<Sender<NodeId>>,
     heartbeats: Arc<Heartbeats>,
     broken: Arc<AtomicBool>,
     start: Instant,
-    settle_ms: u64,
+    pub(crate) settle_ms: u64,
     /// How long the run goes on behind the end of what the operator types, in ms.
     rest_ms: u64,
-    ends_at: Option<u64>,
+    pub(crate) ends_at: Option<u64>,
     phase: Phase,
     /// The time for the boot of the mandatory slaves was told to be over.
     is_time_told: bool,
@@ -91,28 +64,6 @@ pub(crate) struct Watching<'w, 'n, R: Wait + Clock + Drop, K: RunName, W: Wire> 
     pub(crate) start: Instant,
     pub(crate) settle_ms: u64,
     pub(crate) rest_ms: u64,
-}
-
-/// What is known of the slaves at first: each is booted once its boot-up message comes, or at the end of the time
-/// for that; one that is kept alive, and so isn't reset, is booted at once.
-fn slaves_of(alloc: Global, network: &Network, settle_ms: u64) -> Result<Vec<Watched>, AllocError> {
-    let mut slaves = Vec::new(alloc);
-    for id in network.listed_ids().as_slice() {
-        let heartbeat_ms = match network.entry(*id) {
-            Some(entry) => entry.heartbeat_ms,
-            None => 0,
-        };
-        slaves.push(Watched {
-            id: *id,
-            heartbeat_ms,
-            booted_at: None,
-            due: Some(if network.kept(*id) { 0 } else { settle_ms }),
-            is_busy: false,
-            is_again: false,
-            has_ended: false,
-        })?;
-    }
-    Ok(slaves)
 }
 
 impl<'w, 'n, R: Wait + Clock + Drop, K: RunName, W: Wire> Watcher<'w, 'n, R, K, W> {
@@ -165,7 +116,7 @@ impl<'w, 'n, R: Wait + Clock + Drop, K: RunName, W: Wire> Watcher<'w, 'n, R, K, 
         }
     }
 
-    fn call(&mut self, call: Call) -> Result<Receipt, Ending> {
+    pub(crate) fn call(&mut self, call: Call) -> Result<Receipt, Ending> {
         match self.register.call(self.rt, &mut self.operator, call) {
             Ok(receipt) => Ok(receipt),
             Err(fault) => Err(Ending::NotCalled(fault)),
@@ -173,12 +124,12 @@ impl<'w, 'n, R: Wait + Clock + Drop, K: RunName, W: Wire> Watcher<'w, 'n, R, K, 
     }
 
     /// The place of a node among the listed ones.
-    fn place_of(&self, id: NodeId) -> Option<usize> {
+    pub(crate) fn place_of(&self, id: NodeId) -> Option<usize> {
         self.slaves.iter().position(|slave| slave.id == id)
     }
 
     /// Lets its worker boot the slave, now or once it has ended what it does with it.
-    fn boot(&mut self, place: usize) {
+    pub(crate) fn boot(&mut self, place: usize) {
         let workers = self.jobs.len();
         let Some(slave) = self.slaves.get_mut(place) else {
             return;
@@ -198,7 +149,7 @@ impl<'w, 'n, R: Wait + Clock + Drop, K: RunName, W: Wire> Watcher<'w, 'n, R, K, 
     }
 
     /// The slave isn't booted any more; it is booted again at this time, or once its boot-up message comes.
-    fn clear(&mut self, place: usize, due: Option<u64>) {
+    pub(crate) fn clear(&mut self, place: usize, due: Option<u64>) {
         if let Some(slave) = self.slaves.get_mut(place) {
             slave.booted_at = None;
             slave.due = due;
@@ -206,7 +157,7 @@ impl<'w, 'n, R: Wait + Clock + Drop, K: RunName, W: Wire> Watcher<'w, 'n, R, K, 
     }
 
     /// All slaves were reset.
-    fn clear_all(&mut self, now: u64) {
+    pub(crate) fn clear_all(&mut self, now: u64) {
         let due = now.saturating_add(self.settle_ms);
         for slave in self.slaves.iter_mut() {
             slave.booted_at = None;
@@ -215,7 +166,12 @@ impl<'w, 'n, R: Wait + Clock + Drop, K: RunName, W: Wire> Watcher<'w, 'n, R, K, 
     }
 
     /// A slave is lost.
-    fn lose<E: Write>(&mut self, err: &mut E, id: NodeId, now: u64) -> Result<Receipt, Ending> {
+    pub(crate) fn lose<E: Write>(
+        &mut self,
+        err: &mut E,
+        id: NodeId,
+        now: u64,
+    ) -> Result<Receipt, Ending> {
         let receipt = self.call(Call::Lost(id))?;
         let number = id.get();
         let _ = writeln!(err, "node {number}: lost");
@@ -252,16 +208,16 @@ impl<'w, 'n, R: Wait + Clock + Drop, K: RunName, W: Wire> Watcher<'w, 'n, R, K, 
         Ok(())
     }
 
-    /// A worker's round has ended.
-    fn end<E: Write>(&mut self, err: &mut E, outcome: &Outcome, now: u64) -> Result<(), Ending> {
-        let Some(place) = self.place_of(outcome.id) else {
+    /// A worker's attempts at a slave have ended.
+    fn end(&mut self, id: NodeId, tried: Tried, now: u64) -> Result<(), Ending> {
+        let Some(place) = self.place_of(id) else {
             return Ok(());
         };
         let is_again = match self.slaves.get_mut(place) {
             Some(slave) => {
                 slave.is_busy = false;
                 slave.has_ended = true;
-                if matches!(outcome.last, Last::Status(Status::Ok | Status::L)) {
+                if tried == Tried::Booted {
                     slave.booted_at = Some(now);
                 }
                 let is_again = slave.is_again;
@@ -270,152 +226,23 @@ impl<'w, 'n, R: Wait + Clock + Drop, K: RunName, W: Wire> Watcher<'w, 'n, R, K, 
             }
             None => false,
         };
-        if let Last::Fault(fault) = outcome.last {
+        if let Tried::NotCalled(fault) = tried {
             return Err(Ending::NotCalled(fault));
         }
         if is_again {
             self.boot(place);
         }
-        self.tell_end(err, now)
+        self.tell_end(now)
     }
 
     /// Once each slave was tried, the manager is told the time: where no slave is mandatory, the network becomes
     /// ready with that.
-    fn tell_end<E: Write>(&mut self, _err: &mut E, now: u64) -> Result<(), Ending> {
+    fn tell_end(&mut self, now: u64) -> Result<(), Ending> {
         if self.is_end_told || !self.slaves.iter().all(|slave| slave.has_ended) {
             return Ok(());
         }
         self.is_end_told = true;
         self.call(Call::Elapsed(now.min(0xFFFF_FFFF) as u32))?;
-        Ok(())
-    }
-
-    /// What a worker's call came to, in words.
-    fn tell_call<E: Write>(&mut self, err: &mut E, call: &Call, reply: Reply) {
-        let Some(id) = node_of(call) else {
-            return;
-        };
-        if let (Call::Report(_, _, answers), Reply::Reported(status)) = (call, reply) {
-            self.tell_boot(err, id, status, answers);
-            return;
-        }
-        let number = id.get();
-        let replied = Replied(reply);
-        let _ = writeln!(err, "node {number}: {replied}");
-    }
-
-    /// What a boot came to, in words.
-    fn tell_boot<E: Write>(&mut self, err: &mut E, id: NodeId, status: Status, answers: &Answers) {
-        let is_started = match self.operator.read(id.get()) {
-            Ok(seen) => seen.state == OPERATIONAL,
-            Err(_) => false,
-        };
-        let judged = Judged {
-            network: self.register.network(),
-            id,
-            status,
-            answers,
-            is_started,
-        };
-        let _ = writeln!(err, "{judged}");
-    }
-
-    /// What a request of the operator does to the slaves, once it was granted.
-    fn take_request(&mut self, target: u8, value: u8, now: u64) {
-        if value != 6 && value != 7 {
-            return;
-        }
-        if target == ALL {
-            self.clear_all(now);
-            return;
-        }
-        if let Some(place) = NodeId::new(target).and_then(|id| self.place_of(id)) {
-            self.clear(place, Some(now.saturating_add(self.settle_ms)));
-        }
-    }
-
-    /// Makes a call that the operator has typed.
-    fn call_typed<E: Write>(
-        &mut self,
-        err: &mut E,
-        call: &Call,
-        now: u64,
-    ) -> Result<Receipt, Ending> {
-        if let Call::Lost(id) = call {
-            return self.lose(err, *id, now);
-        }
-        self.call(*call)
-    }
-
-    /// Makes a call of the operator, says what it was answered, and takes in what it does to the slaves.
-    fn make<E: Write>(&mut self, err: &mut E, call: &Call, now: u64) -> Result<(), Ending> {
-        let receipt = self.call_typed(err, call, now)?;
-        let position = receipt.position;
-        let replied = Replied(receipt.reply);
-        let _ = writeln!(err, "{position} {replied}");
-        if receipt.reply != Reply::Done {
-            return Ok(());
-        }
-        self.take_granted(call, now);
-        Ok(())
-    }
-
-    /// What a call of the operator does to the slaves, once it was granted: one that is held isn't booted any more, and
-    /// one that is released is.
-    fn take_granted(&mut self, call: &Call, now: u64) {
-        match call {
-            Call::Request(target, value) => self.take_request(*target, *value, now),
-            Call::Hold(id) => {
-                if let Some(place) = self.place_of(*id) {
-                    self.clear(place, None);
-                }
-            }
-            Call::Release(id) => {
-                if let Some(place) = self.place_of(*id) {
-                    self.boot(place);
-                }
-            }
-            _ => {}
-        }
-    }
-
-    /// The report of what has happened so far.
-    fn report<E: Write>(&self, alloc: Global, err: &mut E) {
-        match self.register.so_far(self.rt, alloc) {
-            Ok(so_far) => {
-                let _ = report_of(
-                    self.register.network(),
-                    &so_far.manager,
-                    so_far.history.as_slice(),
-                    err,
-                );
-            }
-            Err(_) => {
-                let _ = writeln!(err, "canboot: out of memory");
-            }
-        }
-    }
-
-    /// Does what the operator has typed.
-    fn obey<E: Write>(
-        &mut self,
-        alloc: Global,
-        err: &mut E,
-        line: &str,
-        now: u64,
-    ) -> Result<(), Ending> {
-        match read_line(line) {
-            Ok(Command::Make(call)) => self.make(err, &call, now)?,
-            Ok(Command::Status) => self.report(alloc, err),
-            Ok(Command::Help) => {
-                let _ = writeln!(err, "{TYPING}");
-            }
-            Ok(Command::Quit) => self.ends_at = Some(now),
-            Err(bad) => {
-                let words = bad.words();
-                let _ = writeln!(err, "bad line: {words}");
-            }
-        }
         Ok(())
     }
 
@@ -432,7 +259,7 @@ impl<'w, 'n, R: Wait + Clock + Drop, K: RunName, W: Wire> Watcher<'w, 'n, R, K, 
                 self.tell_call(err, &call, reply);
                 Ok(())
             }
-            Happening::Ended(outcome) => self.end(err, &outcome, now),
+            Happening::Ended(id, tried) => self.end(id, tried, now),
             Happening::Told(id, byte) => self.hear(err, id, byte),
             Happening::Typed(line) => self.obey(alloc, err, line.as_str(), now),
             Happening::NoMoreTyped => {

@@ -15,10 +15,13 @@ use crate::run::{Outcome, run_case};
 use crate::scanner::Scanner;
 use crate::text::ENDLESS;
 use std::alloc::AllocError;
+use std::fs::File;
+use std::io::StdinLock;
 use std::process::ExitCode;
 use std::rt::{Env, Files};
 use std::sync::Wait;
 use std::thread::Threads;
+use std::time::Clock;
 use std::{env, fs, io};
 
 /// How many cases were run, and how many of them differ.
@@ -58,11 +61,20 @@ fn tell(rt: &impl Print, case: &Case<'_>, outcome: &Outcome) -> io::Result<()> {
 }
 
 /// Runs the cases of one file.
-fn run_file<R: Files + Print + AllocGlobal + Wait + Threads + Send + Sync>(
-    rt: &R,
-    path: &str,
-    count: &mut Count,
-) -> io::Result<()> {
+fn run_file<
+    R: Files<File = File>
+        + Input<Reader = StdinLock<'static>>
+        + Clock
+        + Print
+        + AllocGlobal
+        + Wait
+        + Threads
+        + Clone
+        + Send
+        + Sync
+        + Drop
+        + 'static,
+>(rt: &R, path: &str, count: &mut Count) -> io::Result<()> {
     let bytes = fs::read(rt, path)?;
     let mut scanner = Scanner::new(&bytes);
     for _ in 0..ENDLESS {

@@ -3,11 +3,12 @@ use crate::compared::Compared;
 use crate::text::{Part, Text};
 use canboot::run_words;
 use std::alloc::{AllocError, Global};
-use std::fs;
-use std::io::{self, Write};
+use std::fs::{self, File};
+use std::io::{self, StdinLock, Write};
 use std::rt::Files;
 use std::sync::Wait;
 use std::thread::Threads;
+use std::time::Clock;
 
 /// Where the input lies of a command line with `NET` in it.
 const LIST: &str = "list-of-this-case.toml";
@@ -100,10 +101,19 @@ fn is_journal<R: Files + AllocGlobal>(
 }
 
 /// Runs canboot as the case says.
-pub fn run_case<R: Files + AllocGlobal + Wait + Threads + Send + Sync>(
-    rt: &R,
-    case: &Case<'_>,
-) -> io::Result<Outcome> {
+pub fn run_case<
+    R: Files<File = File>
+        + Input<Reader = StdinLock<'static>>
+        + Clock
+        + AllocGlobal
+        + Wait
+        + Threads
+        + Clone
+        + Send
+        + Sync
+        + Drop
+        + 'static,
+>(rt: &R, case: &Case<'_>) -> io::Result<Outcome> {
     let alloc = rt.alloc();
     let (in_file, out_file, err_file, journal_file) = (
         load(rt, &case.input)?,

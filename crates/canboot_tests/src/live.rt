@@ -7,7 +7,7 @@ use canboot::{LiveEnds, LiveOptions, live_text, replay_text};
 use cm_can::{CanFrame, Kind, read_log_line};
 use cm_live::Format;
 use crossbeam_channel::{Receiver, Sender};
-use std::alloc::{AllocError, Global};
+use std::alloc::Global;
 use std::io::{self, ErrorKind, Read, Write};
 use std::process::Abort;
 use std::sync::Wait;
@@ -35,7 +35,7 @@ struct Devices<R: Wait + Drop> {
 }
 
 /// The answer to a request of node n: an upload gives 00020192h.
-fn answer_to(alloc: Global, frame: &CanFrame) -> Result<Vec<u8>, AllocError> {
+fn answer_to(alloc: Global, frame: &CanFrame) -> io::Result<Vec<u8>> {
     let mut text: Vec<u8> = Vec::new(alloc);
     let [command, low, high, sub, _, _, _, _] = frame.bytes;
     let node = frame.id.number.wrapping_sub(0x600);
@@ -50,7 +50,7 @@ fn answer_to(alloc: Global, frame: &CanFrame) -> Result<Vec<u8>, AllocError> {
 }
 
 /// The boot-up messages of all nodes but the manager's.
-fn boot_ups(alloc: Global) -> Result<Vec<u8>, AllocError> {
+fn boot_ups(alloc: Global) -> io::Result<Vec<u8>> {
     let mut text: Vec<u8> = Vec::new(alloc);
     for node in 1..127u16 {
         let id = 0x700 + node;
@@ -61,7 +61,7 @@ fn boot_ups(alloc: Global) -> Result<Vec<u8>, AllocError> {
 
 impl<R: Wait + Drop> Devices<R> {
     /// Takes a frame that was sent.
-    fn take(&mut self, frame: &CanFrame) -> Result<(), AllocError> {
+    fn take(&mut self, frame: &CanFrame) -> io::Result<()> {
         if frame.id.number != 0 {
             let text = answer_to(self.alloc, frame)?;
             let _ = self.answers.send(&self.rt, Heard::Text(text));
@@ -170,6 +170,7 @@ impl<R: Wait + Drop> Read for Typing<R> {
 }
 
 /// The writers of a bus, one for each of four workers and one more, what is heard of it, and who types.
+#[derive(Drop)]
 struct Bus<R: Wait + Drop> {
     ends: LiveEnds<Answered<R>, Typing<R>, Devices<R>>,
 }
@@ -185,16 +186,14 @@ fn bus_of<R: Wait + Clone + Drop>(
     let (starts, started) = crossbeam_channel::unbounded(alloc)?;
     let mut written = Vec::new(alloc);
     for _writer in 0..5u8 {
-        written.push(
-            Devices {
-                rt: rt.clone()?,
-                alloc,
-                line: Vec::new(alloc),
-                answers: answers.clone()?,
-                starts: starts.clone()?,
-                left,
-            },
-        )?;
+        written.push(Devices {
+            rt: rt.clone()?,
+            alloc,
+            line: Vec::new(alloc),
+            answers: answers.clone()?,
+            starts: starts.clone()?,
+            left,
+        })?;
     }
     let received = Answered {
         rt: rt.clone()?,
@@ -283,7 +282,12 @@ fn a_network_is_booted_on_a_bus(rt: HostRuntime) -> Result<(), Fail> {
     let bus = bus_of(&rt, rt.alloc(), 126, b"read 5\nnonsense\nquit\n", 100_000)?;
     let printed = lives(&rt, rt.alloc(), bus)?;
     assert_eq!(&rt; printed.status, 0);
-    assert!(&rt; printed.out.as_slice().starts_with(b"phase ready\nown operational\n"));
+    assert!(&rt;
+        printed
+            .out
+            .as_slice()
+            .starts_with(b"phase ready\nown operational\n")
+    );
     assert!(&rt; has(printed.out.as_slice(), b"\nopen 0\nframe 82 00\n"));
     assert!(&rt; has(printed.err.as_slice(), b"node 126: status Ok, started\n"));
     assert!(&rt; has(printed.err.as_slice(), b"bad line: no such word"));

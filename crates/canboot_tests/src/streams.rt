@@ -2,12 +2,14 @@
 
 use canboot::{LONGEST_JOURNAL, LONGEST_LIST, check_text, replay_text, run_words};
 use std::alloc::{AllocError, Global};
-use std::io::{self, ErrorKind, Read, Write};
+use std::fs::File;
+use std::io::{self, ErrorKind, Read, StdinLock, Write};
 use std::process::Abort;
 use std::rt::Files;
 use std::sync::Wait;
 use std::test::Fail;
 use std::thread::Threads;
+use std::time::Clock;
 
 pub(crate) const JOURNAL: &[u8] =
     b"canboot journal 1\nnetwork own 1 startup 00000001 boottime 0 seats 1 limit 16\nslave 2 assign 0000000D type 00020192 vendor 00000000 product 00000000 revision 00000000 serial 00000000 heartbeat 0 date 00000000 time 00000000 writes 0\nentry 1 start = started / reset-unkept\nentry 1 begin 2 = begun 1 / none\nentry 1 report 2 1 00020192 - - - - - - - 0 - - = status Ok / one 01 02\nend 3\n";
@@ -287,10 +289,19 @@ fn a_failing_error_output_keeps_the_status(rt: HostRuntime) -> Result<(), Fail> 
 }
 
 /// The exit status of a command line on a failing output and a failing error output.
-fn status_of<R: Files + AllocGlobal + Wait + Threads + Send + Sync>(
-    rt: &R,
-    words: &[&str],
-) -> Result<u8, AllocError> {
+fn status_of<
+    R: Files<File = File>
+        + Input<Reader = StdinLock<'static>>
+        + Clock
+        + AllocGlobal
+        + Wait
+        + Threads
+        + Clone
+        + Send
+        + Sync
+        + Drop
+        + 'static,
+>(rt: &R, words: &[&str]) -> Result<u8, AllocError> {
     let mut line: Vec<String> = Vec::new(rt.alloc());
     for word in words {
         line.push(String::from_str(rt.alloc(), word)?)?;

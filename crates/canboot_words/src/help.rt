@@ -206,17 +206,18 @@ makes both paths, as in the first example. The interface in the lines that are w
 can0. So for another interface it is 'candump -L vcan0' and 'canplayer -t vcan0=can0', which \
 sends on vcan0 what the lines have for can0.
 
-A serial adapter speaks SLCAN; --slcan is its device, which is read and written. canboot sends no \
-settings itself: before it runs, the device is made raw, the adapter's bit rate is set, and the \
-adapter is opened, with the settings that slcand sends too, here S6 for 500 kbit/s and O:
+A serial adapter speaks SLCAN; --slcan is its device, which is read and written. canboot opens its \
+channel (O) and closes it at the end (C), and sends no other setting: before it runs, the device is \
+made raw and the bit rate is set, here S6 for 500 kbit/s:
 
   stty -F /dev/ttyACM0 raw -echo
-  printf 'S6\\rO\\r' > /dev/ttyACM0
+  printf 'S6\\r' > /dev/ttyACM0
 
-First the network is started, and for --settle MS boot-up messages are waited for. Then N workers \
-boot all slaves, and try each slave at most as often as --attempts says; another attempt follows \
-only after status B, or where the session of the last one was dropped before its report. An SDO \
-answer and a guard answer are waited for --answer MS, a heartbeat for the slave's heartbeat time.
+First the network is started. A slave is booted once its boot-up message comes, or --settle MS \
+behind the reset without one; one that is kept alive, and so isn't reset, at once. N workers boot \
+the slaves, and try each at most as often as --attempts says; another attempt follows only after \
+status B, or where the session of the last one was dropped before its report. An SDO answer and a \
+guard answer are waited for --answer MS, a heartbeat for the slave's heartbeat time.
 
 Then the slaves are watched:
 

@@ -1,4 +1,3 @@
 pub mod Talking
-pub mod Attempts
 pub mod Waiting
-pub mod Identity
+pub mod HeardIdentity

@@ -52,3 +52,7 @@ pub record HasHeardIdentity (t : Terms) (node : ℕ) (log : List Event) : Type 0
   pub product : IsHeardAs node product_code t.product log
   pub revision : IsHeardAs node revision_number t.revision log
   pub serial : IsHeardAs node serial_number t.serial log
+
+-- where the answers of a boot were heard, and they are those that are expected, the identity was heard
+abbrev pub IsHeardIdentity : Network → ℕ → Terms → Answers → List Event → Type 0
+IsHeardIdentity net node t a log = terms net node ≡ Some t → HasIdentity t a → AreHeard node (asked (entry net node) a) log → HasHeardIdentity t node log

@@ -3,8 +3,7 @@
 //! A [`LiveBus`] asks each question of a boot in a frame, and takes the first frame that answers it, of those that
 //! come behind the request; else the question is answered with silence, when its time is over. What went over the
 //! bus is kept in a log, which contracts see. A [`LiveWire`] sends NMT frames. Both write through an [`Outlet`],
-//! lines of can-utils or of a serial adapter; how frames come in, and what time is, a [`Port`] knows. [`live_round`]
-//! boots one slave so, by the rounds of cm_run.
+//! lines of can-utils or of a serial adapter; how frames come in, and what time is, a [`Port`] knows.
 //!
 //! In a live run threads share the bus: one reads frames and gives each to whom it is for ([`Routes`]); each worker
 //! has a [`LivePort`]; and what happens is told to the one that watches the network ([`Happening`]).
@@ -15,25 +14,25 @@ mod bus;
 mod event;
 mod happening;
 mod heartbeats;
+mod identity;
 mod line_cutter;
 mod listening;
 mod live_port;
 mod outlet;
 mod port;
 mod receiving;
-mod rounds;
 mod wire;
 
 pub use announcing::Announcing;
 pub use bus::LiveBus;
 pub use event::Event;
-pub use happening::Happening;
+pub use happening::{Happening, Tried};
 pub use heartbeats::Heartbeats;
+pub use identity::identity_was_heard;
 pub use line_cutter::LineCutter;
 pub use listening::Listening;
 pub use live_port::LivePort;
 pub use outlet::{Format, Outlet};
 pub use port::Port;
 pub use receiving::Routes;
-pub use rounds::{identity_was_heard, live_round};
 pub use wire::LiveWire;

@@ -186,7 +186,7 @@ fn count_lines<R: Abort>(rt: &R, lines: &mut LineCutter, bytes: &[u8]) -> u32 {
     let mut count = 0u32;
     for byte in bytes {
         if lines.take(*byte) {
-            sure(rt, lines.line() == b"ok");
+            sure(rt, lines.line() == b"ok".as_slice());
             count = count.saturating_add(1);
         }
     }

@@ -2,8 +2,8 @@ use Rattle.std.proofs.Common.{List, [], subst}
 use Rattle.cm_run.specs.Rounds.{HasRound}
 use Rattle.cm_live.specs.Talk.{IsAsked}
 use Rattle.cm_live.specs.declared.event.Event.{Event}
-use Rattle.cm_live.proofs.Attempts.{round_heard}
-use Rattle.cm_live.proofs.rounds.live_round.Goals as goal
+use Rattle.canboot.proofs.Attempts.{round_heard}
+use Rattle.canboot.proofs.rounds.live_round.Goals as goal
 
 pub returns-clause-heard : goal.returns-clause-heard
 returns-clause-heard g c =

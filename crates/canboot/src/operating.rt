@@ -1,0 +1,161 @@
+//! What the watcher of a live run says of its workers' calls, and what it does for its operator.
+
+use crate::progress::{Judged, Replied, node_of};
+use crate::typing::{Command, TYPING, read_line};
+use crate::watching::{Ending, Watcher};
+use cm_history::{Call, Reply};
+use cm_journal::report_of;
+use cm_nmt::{Answers, NmtState, NodeId, Status, Wire};
+use cm_register::{Receipt, RunName};
+use std::alloc::Global;
+use std::io::Write;
+use std::sync::Wait;
+use std::time::Clock;
+
+/// The target of a request to all nodes.
+const ALL: u8 = 128;
+
+impl<'w, 'n, R: Wait + Clock + Drop, K: RunName, W: Wire> Watcher<'w, 'n, R, K, W> {
+    /// What a worker's call came to, in words.
+    pub(crate) fn tell_call<E: Write>(&mut self, err: &mut E, call: &Call, reply: Reply) {
+        let Some(id) = node_of(call) else {
+            return;
+        };
+        if let (Call::Report(_, _, answers), Reply::Reported(status)) = (call, reply) {
+            self.tell_boot(err, id, status, answers);
+            return;
+        }
+        let number = id.get();
+        let replied = Replied(reply);
+        let _ = writeln!(err, "node {number}: {replied}");
+    }
+
+    /// Whether the report of a boot with this status starts the slave, by itself or with all.
+    fn is_started(&self, id: NodeId, status: Status) -> bool {
+        let network = self.register.network();
+        let startup = network.startup();
+        let is_booted = match network.entry(id) {
+            Some(entry) => entry.assignment.is_to_be_booted(),
+            None => false,
+        };
+        if status != Status::Ok || !is_booted || startup.starts_no_slave() {
+            return false;
+        }
+        let manager = self.register.manager(self.rt);
+        if manager.phase().is_halted() {
+            return false;
+        }
+        !startup.starts_all_at_once() || manager.own() == NmtState::Operational
+    }
+
+    /// What a boot came to, in words.
+    fn tell_boot<E: Write>(&self, err: &mut E, id: NodeId, status: Status, answers: &Answers) {
+        let judged = Judged {
+            network: self.register.network(),
+            id,
+            status,
+            answers,
+            is_started: self.is_started(id, status),
+        };
+        let _ = writeln!(err, "{judged}");
+    }
+
+    /// What a request of the operator does to the slaves, once it was granted.
+    fn take_request(&mut self, target: u8, value: u8, now: u64) {
+        if value != 6 && value != 7 {
+            return;
+        }
+        if target == ALL {
+            self.clear_all(now);
+            return;
+        }
+        if let Some(place) = NodeId::new(target).and_then(|id| self.place_of(id)) {
+            self.clear(place, Some(now.saturating_add(self.settle_ms)));
+        }
+    }
+
+    /// Makes a call that the operator has typed.
+    fn call_typed<E: Write>(
+        &mut self,
+        err: &mut E,
+        call: &Call,
+        now: u64,
+    ) -> Result<Receipt, Ending> {
+        if let Call::Lost(id) = call {
+            return self.lose(err, *id, now);
+        }
+        self.call(*call)
+    }
+
+    /// Makes a call of the operator, says what it was answered, and takes in what it does to the slaves.
+    fn make<E: Write>(&mut self, err: &mut E, call: &Call, now: u64) -> Result<(), Ending> {
+        let receipt = self.call_typed(err, call, now)?;
+        let position = receipt.position;
+        let replied = Replied(receipt.reply);
+        let _ = writeln!(err, "{position} {replied}");
+        if receipt.reply != Reply::Done {
+            return Ok(());
+        }
+        self.take_granted(call, now);
+        Ok(())
+    }
+
+    /// What a call of the operator does to the slaves, once it was granted: one that is held isn't booted any more, and
+    /// one that is released is.
+    fn take_granted(&mut self, call: &Call, now: u64) {
+        match call {
+            Call::Request(target, value) => self.take_request(*target, *value, now),
+            Call::Hold(id) => {
+                if let Some(place) = self.place_of(*id) {
+                    self.clear(place, None);
+                }
+            }
+            Call::Release(id) => {
+                if let Some(place) = self.place_of(*id) {
+                    self.boot(place);
+                }
+            }
+            _ => {}
+        }
+    }
+
+    /// The report of what has happened so far.
+    fn report<E: Write>(&self, alloc: Global, err: &mut E) {
+        match self.register.so_far(self.rt, alloc) {
+            Ok(so_far) => {
+                let _ = report_of(
+                    self.register.network(),
+                    &so_far.manager,
+                    so_far.history.as_slice(),
+                    err,
+                );
+            }
+            Err(_) => {
+                let _ = writeln!(err, "canboot: out of memory");
+            }
+        }
+    }
+
+    /// Does what the operator has typed.
+    pub(crate) fn obey<E: Write>(
+        &mut self,
+        alloc: Global,
+        err: &mut E,
+        line: &str,
+        now: u64,
+    ) -> Result<(), Ending> {
+        match read_line(line) {
+            Ok(Command::Make(call)) => self.make(err, &call, now)?,
+            Ok(Command::Status) => self.report(alloc, err),
+            Ok(Command::Help) => {
+                let _ = writeln!(err, "{TYPING}");
+            }
+            Ok(Command::Quit) => self.ends_at = Some(now),
+            Err(bad) => {
+                let words = bad.words();
+                let _ = writeln!(err, "bad line: {words}");
+            }
+        }
+        Ok(())
+    }
+}

@@ -1,0 +1,33 @@
+//! One slave booted over a CAN bus.
+ghost use Rattle.std.specs.Prelude.{◌≡◌, ◌<◌, ◌≤◌, []};
+ghost use Rattle.cm_seat.specs.Reads.{HasMadeCalls};
+ghost use Rattle.cm_run.specs.Rounds.{HasRound};
+ghost use Rattle.cm_live.specs.Hearing.{HasHeardCalls};
+ghost use Rattle.cm_live.specs.Talk.{IsAsked};
+
+use cm_live::{LiveBus, Port};
+use cm_nmt::NodeId;
+use cm_register::{RunName, Seat, SharedManager};
+use cm_run::{Outcome, round};
+use std::sync::Wait;
+
+/// The attempts at one slave over a live bus, `most` at most, up to 10, as [`round`] makes them. The bus's log is
+/// emptied before; afterwards it has what went over the bus, and the answers of each report stand in it.
+pub fn live_round<'n, K: RunName, R: Wait, M: SharedManager<K, R>, P: Port>(
+    rt: &R,
+    register: &M,
+    seat: &mut Seat<K>,
+    bus: &mut LiveBus<'n, P>,
+    id: NodeId,
+    most: u8,
+) -> Outcome
+    requires { (0 < most) × (most ≤ 10) }
+    ensures number { seat.new.number ≡ seat.old.number }
+    ensures calls { HasMadeCalls seat.old seat.new }
+    ensures round { HasRound (λ b i q x c. IsAsked i q x b c) K.net id most result seat.old.list
+        seat.new.list [] bus.new }
+    ensures heard { HasHeardCalls K.net id seat.old.list seat.new.list bus.new }
+{
+    bus.forget();
+    round(rt, register, seat, bus, id, most)
+}

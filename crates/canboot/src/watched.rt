@@ -1,0 +1,49 @@
+//! What a live run knows of its slaves.
+
+use cm_netlist::Network;
+use cm_nmt::NodeId;
+use std::alloc::{AllocError, Global};
+
+/// What is known of a listed slave, beside what the manager knows.
+#[derive(Clone, Copy, Debug)]
+pub(crate) struct Watched {
+    pub(crate) id: NodeId,
+    /// In which time its heartbeat has to come, in ms; 0 where it isn't watched.
+    pub(crate) heartbeat_ms: u16,
+    /// Since when it is booted, in ms since the run began.
+    pub(crate) booted_at: Option<u64>,
+    /// When it is to be booted, whether its boot-up message comes or not.
+    pub(crate) due: Option<u64>,
+    /// A worker boots it.
+    pub(crate) is_busy: bool,
+    /// It is to be booted once more behind that.
+    pub(crate) is_again: bool,
+    /// A boot of it has ended.
+    pub(crate) has_ended: bool,
+}
+
+/// What is known of the slaves at first: each is booted once its boot-up message comes, or at the end of the time
+/// for that; one that is kept alive, and so isn't reset, is booted at once.
+pub(crate) fn slaves_of(
+    alloc: Global,
+    network: &Network,
+    settle_ms: u64,
+) -> Result<Vec<Watched>, AllocError> {
+    let mut slaves = Vec::new(alloc);
+    for id in network.listed_ids().as_slice() {
+        let heartbeat_ms = match network.entry(*id) {
+            Some(entry) => entry.heartbeat_ms,
+            None => 0,
+        };
+        slaves.push(Watched {
+            id: *id,
+            heartbeat_ms,
+            booted_at: None,
+            due: Some(if network.kept(*id) { 0 } else { settle_ms }),
+            is_busy: false,
+            is_again: false,
+            has_ended: false,
+        })?;
+    }
+    Ok(slaves)
+}
