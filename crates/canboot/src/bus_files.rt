@@ -4,6 +4,7 @@ ghost use Rattle.std.specs.Prelude.{◌≤◌};
 
 use crate::live::{LiveEnds, LiveOptions, live_text};
 use crate::program::{make, write_fault};
+use crate::timed::Timed;
 use canboot_check::read_fault;
 use canboot_words::BusPaths;
 use cm_live::Format;
@@ -63,7 +64,7 @@ fn writers_to(alloc: Global, file: &File, count: u8) -> io::Result<Vec<BufWriter
 }
 
 /// `canboot live`, over the files of these paths. The list is opened first, then the bus; then the journal's file is made,
-/// if there is one, before the list is read.
+/// if there is one, before the list is read. Where `err` is a terminal, its lines have the time since the start.
 pub(crate) fn live_file<
     R: Files<File = File>
         + Input<Reader = StdinLock<'static>>
@@ -86,6 +87,7 @@ pub(crate) fn live_file<
     journal: Option<&str>,
     out: &mut O,
     err: &mut E,
+    is_terminal: bool,
 ) -> u8
     requires workers { (1 ≤ options.workers) × (options.workers ≤ 16) }
 {

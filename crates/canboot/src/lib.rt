@@ -13,6 +13,7 @@ mod progress;
 mod rounds;
 mod running;
 mod simulation;
+mod timed;
 mod typing;
 mod watched;
 mod watching;

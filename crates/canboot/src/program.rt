@@ -11,7 +11,7 @@ use canboot_check::{
 use canboot_words::{Action, NoAction, read_words};
 use std::alloc::Global;
 use std::fs::File;
-use std::io::{self, BufWriter, Read, StdinLock, Write};
+use std::io::{self, BufWriter, IsTerminal, Read, StdinLock, Write};
 use std::process::ExitCode;
 use std::rt::{Env, Files};
 use std::sync::Wait;
@@ -35,7 +35,7 @@ pub fn run<
         + Sync
         + Drop
         + 'static,
-    E: Write,
+    E: Write + IsTerminal,
 >(rt: &R, err: &mut E) -> ExitCode {
     ExitCode::from(run_here(rt, err))
 }
@@ -54,7 +54,7 @@ fn run_here<
         + Sync
         + Drop
         + 'static,
-    E: Write,
+    E: Write + IsTerminal,
 >(rt: &R, err: &mut E) -> u8 {
     let args = match env::args(rt) {
         Ok(args) => args,
@@ -66,12 +66,21 @@ fn run_here<
     let Ok(mut out) = BufWriter::new(rt.alloc(), io::writer(rt)) else {
         return fault_line(err, FAILED, "out of memory");
     };
-    run_words(rt, words.as_slice(), &mut rt.reader(), &mut out, err)
+    let is_terminal = err.is_terminal();
+    run_words(
+        rt,
+        words.as_slice(),
+        &mut rt.reader(),
+        &mut out,
+        err,
+        is_terminal,
+    )
 }
 
 /// Runs canboot on these words, of which the first is the program's name, with these streams, and
 /// gives its exit status: that of [`check_file`], [`run_text`], [`live_text`](crate::live_text) or [`replay_text`], 0 for help and the
-/// version, 2 for wrong words, 3 for a file that can't be opened or made.
+/// version, 2 for wrong words, 3 for a file that can't be opened or made. Where `err` is a terminal, a live run
+/// says the time with each line there.
 pub fn run_words<
     R: Files<File = File>
         + Input<Reader = StdinLock<'static>>
@@ -87,7 +96,7 @@ pub fn run_words<
     I: Read,
     W: Write,
     E: Write,
->(rt: &R, words: &[String], input: &mut I, out: &mut W, err: &mut E) -> u8 {
+>(rt: &R, words: &[String], input: &mut I, out: &mut W, err: &mut E, is_terminal: bool) -> u8 {
     match read_words(rt.alloc(), words) {
         Ok(Action::Check { network }) => check_file(rt, network, out, err),
         Ok(
@@ -126,7 +135,7 @@ pub fn run_words<
                 seconds: seconds.unwrap_or(0),
                 format: format_of(&bus),
             };
-            live_file(rt, network, &bus, options, journal, out, err)
+            live_file(rt, network, &bus, options, journal, out, err, is_terminal)
         }
         Ok(Action::Replay) => replay_text(rt.alloc(), input, out, err),
         Err(none) => say(&none, out, err),

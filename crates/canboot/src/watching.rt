@@ -48,7 +48,7 @@ pub(crate) struct Watcher<'w, 'n, R: Wait + Clock + Drop, K: RunName, W: Wire> {
     phase: Phase,
     /// The time for the boot of the mandatory slaves was told to be over.
     is_time_told: bool,
-    /// That all slaves were tried was told.
+    /// The time was told with which the network was ready, or all slaves were tried.
     is_end_told: bool,
 }
 
@@ -238,7 +238,16 @@ impl<'w, 'n, R: Wait + Clock + Drop, K: RunName, W: Wire> Watcher<'w, 'n, R, K, 
     /// Once each slave was tried, the manager is told the time: where no slave is mandatory, the network becomes
     /// ready with that.
     fn tell_end(&mut self, now: u64) -> Result<(), Ending> {
-        if self.is_end_told || !self.slaves.iter().all(|slave| slave.has_ended) {
+        if self.slaves.iter().all(|slave| slave.has_ended) {
+            self.tell_elapsed(now)
+        } else {
+            Ok(())
+        }
+    }
+
+    /// The manager is told the time, once: where the network is ready, or each slave was tried.
+    fn tell_elapsed(&mut self, now: u64) -> Result<(), Ending> {
+        if self.is_end_told {
             return Ok(());
         }
         self.is_end_told = true;
@@ -309,22 +318,21 @@ impl<'w, 'n, R: Wait + Clock + Drop, K: RunName, W: Wire> Watcher<'w, 'n, R, K, 
         Ok(())
     }
 
-    /// Says where the network has become ready, or was halted.
-    fn tell_phase<E: Write>(&mut self, err: &mut E) {
+    /// Says where the network has become ready, or was halted; a network that is ready is told the time.
+    fn tell_phase<E: Write>(&mut self, err: &mut E, now: u64) -> Result<(), Ending> {
         let phase = self.register.manager(self.rt).phase();
         if phase == self.phase {
-            return;
+            return Ok(());
         }
         self.phase = phase;
-        match phase {
-            Phase::Ready => {
-                let _ = writeln!(err, "network ready");
-            }
-            Phase::Halted => {
-                let _ = writeln!(err, "network halted");
-            }
-            _ => {}
+        if phase == Phase::Halted {
+            let _ = writeln!(err, "network halted");
         }
+        if phase != Phase::Ready {
+            return Ok(());
+        }
+        let _ = writeln!(err, "network ready");
+        self.tell_elapsed(now)
     }
 
     /// One turn: takes what happens next, if something does in time, and then looks at the time.
@@ -344,7 +352,7 @@ impl<'w, 'n, R: Wait + Clock + Drop, K: RunName, W: Wire> Watcher<'w, 'n, R, K, 
         let now = self.now();
         self.watch_slaves(err, now)?;
         self.watch_time(now)?;
-        self.tell_phase(err);
+        self.tell_phase(err, now)?;
         match self.ends_at {
             Some(at) if at <= now => Err(Ending::Asked),
             _ => Ok(()),

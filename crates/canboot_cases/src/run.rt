@@ -133,7 +133,7 @@ pub fn run_case<
     let mut err = Compared::new(wanted(alloc, &case.err, &err_parts));
     let journal = Compared::new(wanted(alloc, &case.journal, &journal_parts));
     let words = words_of(alloc, case)?;
-    let status = run_words(rt, words.as_slice(), &mut input, &mut out, &mut err);
+    let status = run_words(rt, words.as_slice(), &mut input, &mut out, &mut err, false);
     Ok(Outcome {
         same_out: out.is_same()?,
         same_err: err.is_same()?,

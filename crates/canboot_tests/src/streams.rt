@@ -315,7 +315,7 @@ fn status_of<
         writes: 0,
         flushes: true,
     };
-    Ok(run_words(rt, line.as_slice(), &mut input, &mut out, &mut err))
+    Ok(run_words(rt, line.as_slice(), &mut input, &mut out, &mut err, false))
 }
 
 #[test]
