@@ -112,6 +112,8 @@ struct Answered<R: Wait + Drop> {
     answers: Receiver<Heard>,
     text: Vec<u8>,
     at: usize,
+    /// How many texts are given before the end.
+    left: u32,
 }
 
 impl<R: Wait + Drop> Read for Answered<R> {
@@ -120,6 +122,10 @@ impl<R: Wait + Drop> Read for Answered<R> {
             if self.at < self.text.len() {
                 break;
             }
+            if self.left == 0 {
+                return Ok(0);
+            }
+            self.left = self.left.saturating_sub(1);
             match self.answers.recv(&self.rt) {
                 Ok(Heard::Text(text)) => {
                     self.text = text;
@@ -180,7 +186,8 @@ fn bus_of<R: Wait + Clone + Drop>(
     alloc: Global,
     wanted: u32,
     text: &'static [u8],
-    left: u32,
+    written_at_most: u32,
+    heard_at_most: u32,
 ) -> Result<Bus<R>, Fail> {
     let (answers, heard) = crossbeam_channel::unbounded(alloc)?;
     let (starts, started) = crossbeam_channel::unbounded(alloc)?;
@@ -192,7 +199,7 @@ fn bus_of<R: Wait + Clone + Drop>(
             line: Vec::new(alloc),
             answers: answers.clone()?,
             starts: starts.clone()?,
-            left,
+            left: written_at_most,
         })?;
     }
     let received = Answered {
@@ -200,6 +207,7 @@ fn bus_of<R: Wait + Clone + Drop>(
         answers: heard,
         text: Vec::new(alloc),
         at: 0,
+        left: heard_at_most,
     };
     let typed = Typing {
         rt: rt.clone()?,
@@ -279,7 +287,14 @@ fn has(text: &[u8], part: &[u8]) -> bool {
 
 #[test]
 fn a_network_is_booted_on_a_bus(rt: HostRuntime) -> Result<(), Fail> {
-    let bus = bus_of(&rt, rt.alloc(), 126, b"read 5\nnonsense\nquit\n", 100_000)?;
+    let bus = bus_of(
+        &rt,
+        rt.alloc(),
+        126,
+        b"read 5\nnonsense\nquit\n",
+        100_000,
+        100_000,
+    )?;
     let printed = lives(&rt, rt.alloc(), bus)?;
     assert_eq!(&rt; printed.status, 0);
     assert!(&rt;
@@ -296,10 +311,21 @@ fn a_network_is_booted_on_a_bus(rt: HostRuntime) -> Result<(), Fail> {
 
 #[test]
 fn a_bus_that_can_not_be_written_ends_the_run(rt: HostRuntime) -> Result<(), Fail> {
-    let bus = bus_of(&rt, rt.alloc(), 1_000, b"quit\n", 3)?;
+    let bus = bus_of(&rt, rt.alloc(), 1_000, b"quit\n", 3, 100_000)?;
     let printed = lives(&rt, rt.alloc(), bus)?;
     assert_eq!(&rt; printed.status, 3);
     let err = printed.err.as_slice();
     assert!(&rt; err.ends_with(WRITE_FAILED) || err.ends_with(READ_FAILED));
+    Ok(())
+}
+
+/// The boot-up messages are heard, and 40 answers.
+#[test]
+fn a_bus_that_ends_in_mid_boot_ends_the_run(rt: HostRuntime) -> Result<(), Fail> {
+    let bus = bus_of(&rt, rt.alloc(), 1_000, b"quit\n", 100_000, 41)?;
+    let printed = lives(&rt, rt.alloc(), bus)?;
+    assert_eq!(&rt; printed.status, 3);
+    assert!(&rt; printed.err.as_slice().ends_with(READ_FAILED));
+    assert!(&rt; printed.out.as_slice().starts_with(b"phase booting\n"));
     Ok(())
 }
