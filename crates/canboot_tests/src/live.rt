@@ -1,6 +1,8 @@
 //! Live runs over a bus in memory: what is written is answered by devices, and what an operator types comes once all
 //! slaves were started.
 
+ghost use Rattle.std.specs.Prelude.{◌≡◌, ◌≤◌, length};
+
 use crate::runs::full_list;
 use crate::streams::{READ_FAILED, WRITE_FAILED};
 use canboot::{LiveEnds, LiveOptions, live_text, replay_text};
@@ -116,14 +118,29 @@ struct Answered<R: Wait + Drop> {
     left: u32,
 }
 
-impl<R: Wait + Drop> Read for Answered<R> {
-    fn read(&mut self, buf: &mut [u8]) -> io::Result<usize> {
+/// Copies as many bytes as there are and fit. The answer is their number.
+fn copy_front(from: &[u8], to: &mut [u8]) -> usize
+    ensures fits { result ≤ length to.old }
+    ensures there { result ≤ length from.now }
+{
+    let count = if from.len() < to.len() {
+        from.len()
+    } else {
+        to.len()
+    };
+    to[..count].copy_from_slice(&from[..count]);
+    count
+}
+
+impl<R: Wait + Drop> Answered<R> {
+    /// Waits for a text, where none is left. The answer is whether there is one.
+    fn wait(&mut self) -> bool {
         for _text in 0..u64::MAX {
             if self.at < self.text.len() {
-                break;
+                return true;
             }
             if self.left == 0 {
-                return Ok(0);
+                return false;
             }
             self.left = self.left.saturating_sub(1);
             match self.answers.recv(&self.rt) {
@@ -131,18 +148,20 @@ impl<R: Wait + Drop> Read for Answered<R> {
                     self.text = text;
                     self.at = 0;
                 }
-                Ok(Heard::End) | Err(_) => return Ok(0),
+                Ok(Heard::End) | Err(_) => return false,
             }
         }
-        let mut count = 0usize;
-        for place in buf.iter_mut() {
-            let Some(byte) = self.text.get(self.at) else {
-                break;
-            };
-            *place = *byte;
-            self.at = self.at.saturating_add(1);
-            count = count.saturating_add(1);
+        false
+    }
+}
+
+impl<R: Wait + Drop> Read for Answered<R> {
+    fn read(&mut self, buf: &mut [u8]) -> io::Result<usize> {
+        if !self.wait() || self.at >= self.text.len() {
+            return Ok(0);
         }
+        let count = copy_front(&self.text.as_slice()[self.at..], buf);
+        self.at = self.at.saturating_add(count);
         Ok(count)
     }
 }
@@ -156,21 +175,21 @@ struct Typing<R: Wait + Drop> {
     text: &'static [u8],
 }
 
-impl<R: Wait + Drop> Read for Typing<R> {
-    fn read(&mut self, buf: &mut [u8]) -> io::Result<usize> {
+impl<R: Wait + Drop> Typing<R> {
+    /// Waits for the starts.
+    fn wait(&mut self) {
         for _start in 0..self.wanted {
             let _ = self.starts.recv(&self.rt);
         }
         self.wanted = 0;
-        let mut count = 0usize;
-        for place in buf.iter_mut() {
-            let Some((first, rest)) = self.text.split_first() else {
-                break;
-            };
-            *place = *first;
-            self.text = rest;
-            count = count.saturating_add(1);
-        }
+    }
+}
+
+impl<R: Wait + Drop> Read for Typing<R> {
+    fn read(&mut self, buf: &mut [u8]) -> io::Result<usize> {
+        self.wait();
+        let count = copy_front(self.text, buf);
+        self.text = &self.text[count..];
         Ok(count)
     }
 }
