@@ -113,6 +113,7 @@ pub(crate) fn live_file<
         written,
     };
     open_channel(&mut sent, options.format);
+    let mut timed = Timed::new(rt, err, is_terminal);
     let status = live_text(
         rt,
         rt.alloc(),
@@ -120,7 +121,7 @@ pub(crate) fn live_file<
         options,
         ends,
         out,
-        err,
+        &mut timed,
         &mut journal,
     );
     close_channel(&mut sent, options.format);
