@@ -1,6 +1,6 @@
 //! One thread for each worker.
 ghost use Rattle.std.specs.Prelude.{◌≡◌, vec_capacity, vec_len, IfErr, IfOk, IsFalse, IsTrue};
-ghost use Rattle.cm_run.specs.Jobs.{AllDone, AllDoneOrStopped, IsDoneIfRun, SomeStopped};
+ghost use Rattle.cm_run.specs.Jobs.{AllDone, AllDoneOrStopped, FirstBack, IsDone, IsDoneIfRun};
 
 use crate::jobs::{Job, Plan};
 use crate::working::work;
@@ -54,6 +54,25 @@ fn run_unless_refused<K: RunName, R: Wait, M: SharedManager<K, R>, B: Bus>(
         job: work(rt, register, plan, worker, job),
         was_run: true,
     }
+}
+
+/// The job that a worker's thread hands back, which was run. That it wasn't never comes, though no clause
+/// says so: it is run here then.
+fn finish<K: RunName, R: Wait, M: SharedManager<K, R>, B: Bus>(
+    rt: &R,
+    register: &M,
+    plan: Plan,
+    worker: usize,
+    back: Back<B, K>,
+) -> Job<B, K>
+    ensures { (job : _) → IsDoneIfRun plan worker job back.was_run back.job
+        → IsDone plan worker job result }
+{
+    let Back { job, was_run } = back;
+    if was_run {
+        return job;
+    }
+    work(rt, register, plan, worker, job)
 }
 
 /// Starts a worker's thread. Where it is refused, the job comes back at once.
@@ -116,7 +135,7 @@ fn run_first<
     ensures capacity { vec_capacity jobs.new ≡ vec_capacity jobs.old }
     ensures each { AllDoneOrStopped plan jobs.old.items jobs.new.items }
     ensures all { IsTrue result → AllDone plan jobs.old.items jobs.new.items }
-    ensures some { IsFalse result → SomeStopped jobs.old.items jobs.new.items }
+    ensures first { IsFalse result → FirstBack jobs.old.items jobs.new.items }
 {
     let Some(job) = jobs.pop() else {
         return true;
@@ -125,9 +144,9 @@ fn run_first<
     match start(scope, rt, register, plan, refused, worker, job) {
         Ok(handle) => {
             let others = run_first(scope, rt, register, plan, refused, jobs);
-            let Back { job, was_run } = handle.join(rt);
+            let job = finish(rt, register, plan, worker, handle.join(rt));
             jobs.push_reserved(job);
-            was_run && others
+            others
         }
         Err(back) => {
             let Back { job, was_run } = back;
@@ -154,7 +173,7 @@ pub(crate) fn run_jobs<
     ensures done { IfOk result (λ v. AllDone plan jobs.items v.items) }
     ensures stopped_len { IfErr result (λ v. vec_len v ≡ vec_len jobs) }
     ensures stopped { IfErr result (λ v. AllDoneOrStopped plan jobs.items v.items) }
-    ensures some { IfErr result (λ v. SomeStopped jobs.items v.items) }
+    ensures first { IfErr result (λ v. FirstBack jobs.items v.items) }
 {
     let refused = AtomicUsize::new(plan.workers);
     let refused = &refused;
@@ -166,7 +185,7 @@ pub(crate) fn run_jobs<
             ensures done { IfOk result (λ v. AllDone plan jobs.items v.items) }
             ensures stopped_len { IfErr result (λ v. vec_len v ≡ vec_len jobs) }
             ensures stopped { IfErr result (λ v. AllDoneOrStopped plan jobs.items v.items) }
-            ensures some { IfErr result (λ v. SomeStopped jobs.items v.items) }
+            ensures first { IfErr result (λ v. FirstBack jobs.items v.items) }
         {
             let mut jobs = jobs;
             if run_first(scope, rt, register, plan, refused, &mut jobs) {

@@ -1,6 +1,6 @@
 ghost use Rattle.std.specs.Prelude.{◌≡◌, ◌≢◌, ◌≤◌, [], All, length, map, vec_capacity, vec_len, IfErr, IfNone, IfOk, IfSome};
 ghost use Rattle.cm_netlist.specs.Network.{listed_ids};
-ghost use Rattle.cm_run.specs.Running.{AllBooted, AllStopped, IsRunCause, MayRun, OneStopped, id_of};
+ghost use Rattle.cm_run.specs.Running.{AllBooted, AllStopped, IsRunCause, MayRun, FirstStopped, id_of};
 
 use crate::fault::RunKind;
 use crate::jobs::{Plan, Room, merge, pair_up, split_up, take_room};
@@ -75,8 +75,8 @@ fn boot_in<
         (λ f. (vec_len f.seats ≡ vec_len seats) × (vec_len f.buses ≡ vec_len buses)) }
     ensures stopped { IfErr result (λ f. f.kind ≡ RunKind.NoWorker
         → AllStopped B.step K.net plan.attempts plan.workers seats.items buses.items f) }
-    ensures one { IfErr result (λ f. f.kind ≡ RunKind.NoWorker
-        → OneStopped B.step K.net plan.workers seats.items buses.items f) }
+    ensures first { IfErr result (λ f. f.kind ≡ RunKind.NoWorker
+        → FirstStopped B.step K.net plan.workers seats.items buses.items f) }
 {
     let Room {
         mut jobs,
@@ -139,8 +139,8 @@ pub fn boot_all<
         (λ f. (vec_len f.seats ≡ vec_len seats) × (vec_len f.buses ≡ vec_len buses)) }
     ensures stopped { IfErr result (λ f. f.kind ≡ RunKind.NoWorker
         → AllStopped B.step K.net attempts (vec_len buses) seats.items buses.items f) }
-    ensures one { IfErr result (λ f. f.kind ≡ RunKind.NoWorker
-        → OneStopped B.step K.net (vec_len buses) seats.items buses.items f) }
+    ensures first { IfErr result (λ f. f.kind ≡ RunKind.NoWorker
+        → FirstStopped B.step K.net (vec_len buses) seats.items buses.items f) }
 {
     if let Some(kind) = fault_of(seats.len(), buses.len(), attempts) {
         return Err(RunFault { kind, seats, buses });

@@ -54,3 +54,18 @@ fn a_register_is_opened_or_the_first_fault_is_told(rt: HostRuntime) -> Result<()
     }
     Ok(())
 }
+
+#[test]
+fn a_wire_has_the_room_that_is_asked_for(rt: HostRuntime) -> Result<(), Fail> {
+    for room in [
+        0, 1, 128, 4_096, 65_536, 99_999, 100_000, 100_001, 1_048_576, 2_097_152,
+    ] {
+        let mut wire = SimWire::new(rt.alloc(), room)?;
+        sure(&rt, wire.room() == room && !wire.used());
+        if room > 0 {
+            wire.send(frame(&rt, [0x01, 0]));
+            sure(&rt, wire.room() == room - 1 && wire.used());
+        }
+    }
+    Ok(())
+}
