@@ -1,0 +1,199 @@
+//! Nanoseconds for one call of the sequential manager, and for the start of a network by it.
+
+use crate::bench::mix::{Random, next_call};
+use crate::bench::network::{SLAVES, agreeing, full_network, id_at, listed_terms};
+use cm_history::{Call, Orders, Reply};
+use cm_netlist::Network;
+use cm_nmt::Terms;
+use cm_sequential::Manager;
+use std::alloc::Global;
+use std::io::{self, Write};
+use std::rt::Clock;
+use std::time::Instant;
+
+const RUNS: u32 = 7;
+
+/// How many calls the list has at most.
+const LONGEST: usize = 65_536;
+
+/// How many starts there are in a run.
+const STARTS: u32 = 1_000;
+
+/// How many calls a short run makes.
+const FEW: usize = 2_000;
+
+/// The list of calls, how many are reports, and how many are refused.
+#[derive(Drop)]
+struct Drawn {
+    calls: Vec<Call>,
+    reports: usize,
+    refused: usize,
+}
+
+#[inline(always)]
+fn apply(manager: &mut Manager, call: Call) -> (Reply, Orders) {
+    if manager.begun() < u64::MAX {
+        manager.apply(call)
+    } else {
+        (Reply::Noted, Orders::None)
+    }
+}
+
+fn is_report(call: &Call) -> bool {
+    matches!(call, Call::Report(_, _, _))
+}
+
+fn is_refused(reply: &Reply) -> bool {
+    matches!(reply, Reply::Refused(_))
+}
+
+/// Draws so many calls, each for the manager that the ones before it leave.
+fn draw(alloc: Global, net: &Network, count: usize) -> Option<Drawn> {
+    let mut calls = Vec::with_capacity(alloc, count).ok()?;
+    let mut manager = Manager::new(net);
+    let mut random = Random::new();
+    let mut reports: usize = 0;
+    let mut refused: usize = 0;
+    for _ in 0..count {
+        let call = next_call(net, &manager, &mut random)?;
+        let (reply, _) = apply(&mut manager, call);
+        if is_report(&call) {
+            reports = reports.saturating_add(1);
+        }
+        if is_refused(&reply) {
+            refused = refused.saturating_add(1);
+        }
+        calls.push(call).ok()?;
+    }
+    Some(Drawn {
+        calls,
+        reports,
+        refused,
+    })
+}
+
+/// Makes the calls on a new manager, and counts those that order a frame.
+fn make(net: &Network, calls: &[Call]) -> u64 {
+    let mut manager = Manager::new(net);
+    let mut sent: u64 = 0;
+    for call in calls {
+        let (_, orders) = apply(&mut manager, *call);
+        if orders != Orders::None {
+            sent = sent.saturating_add(1);
+        }
+    }
+    sent
+}
+
+/// Makes the list of calls this often.
+fn make_often(net: &Network, calls: &[Call], rounds: usize) -> u64 {
+    let mut sent: u64 = 0;
+    for _ in 0..rounds {
+        sent = sent.saturating_add(make(net, calls));
+    }
+    sent
+}
+
+/// Tenths of a nanosecond for one call, the best of so many runs.
+fn best_call(
+    clock: &impl Clock,
+    net: &Network,
+    calls: &[Call],
+    rounds: usize,
+    runs: u32,
+) -> Option<u128> {
+    let made = (calls.len() as u128).saturating_mul(rounds as u128).max(1);
+    let mut best = u128::MAX;
+    let mut sent: u64 = 0;
+    for _ in 0..runs {
+        let from = Instant::now(clock).ok()?;
+        sent = sent.saturating_add(make_often(net, calls, rounds));
+        let nanos = from.elapsed(clock).ok()?.as_nanos();
+        best = best.min(nanos.saturating_mul(10) / made);
+    }
+    if sent == 0 { None } else { Some(best) }
+}
+
+/// Starts the network and boots each of its slaves, by a manager that has answered no call. `None`
+/// where one is open then.
+fn start(manager: &Manager, terms: &[Terms]) -> Option<()> {
+    let mut manager = *manager;
+    apply(&mut manager, Call::StartNetwork);
+    for (place, terms) in terms.iter().enumerate() {
+        let id = id_at(place)?;
+        let (Reply::Begun(session), _) = apply(&mut manager, Call::Begin(id)) else {
+            return None;
+        };
+        apply(&mut manager, Call::Report(id, session, agreeing(terms)));
+    }
+    if manager.open_mandatory() == 0 {
+        Some(())
+    } else {
+        None
+    }
+}
+
+/// Nanoseconds for the start of a network of so many slaves, the best of so many runs.
+fn best_start(clock: &impl Clock, alloc: Global, slaves: u8, runs: u32) -> Option<u128> {
+    let net = full_network(alloc, slaves)?;
+    let terms = listed_terms(alloc, &net)?;
+    let manager = Manager::new(&net);
+    let mut best = u128::MAX;
+    for _ in 0..runs {
+        let from = Instant::now(clock).ok()?;
+        for _ in 0..STARTS {
+            start(&manager, terms.as_slice())?;
+        }
+        let nanos = from.elapsed(clock).ok()?.as_nanos();
+        best = best.min(nanos / u128::from(STARTS));
+    }
+    Some(best)
+}
+
+fn measure_calls<R: Clock + Print + AllocGlobal>(rt: &R, count: usize) -> Option<()> {
+    let net = full_network(rt.alloc(), SLAVES)?;
+    let drawn = draw(rt.alloc(), &net, count.min(LONGEST))?;
+    let calls = drawn.calls.as_slice();
+    let tenths = best_call(rt, &net, calls, count / calls.len().max(1), RUNS)?;
+    let share = |part: usize| part.saturating_mul(100) / calls.len().max(1);
+    let mut out = io::writer(rt);
+    writeln!(
+        out,
+        "calls: {}.{} ns per call (best of {RUNS}; {}% reports, {}% refused)",
+        tenths / 10,
+        tenths % 10,
+        share(drawn.reports),
+        share(drawn.refused)
+    )
+    .ok()
+}
+
+fn measure_starts<R: Clock + Print + AllocGlobal>(rt: &R) -> Option<()> {
+    for slaves in [1, 2, 32, 63, SLAVES] {
+        let nanos = best_start(rt, rt.alloc(), slaves, RUNS)?;
+        let mut out = io::writer(rt);
+        writeln!(out, "start of {slaves} slaves: {nanos} ns").ok()?;
+    }
+    Some(())
+}
+
+/// Prints the nanoseconds of a call, over about so many calls of operators and boots on 126 slaves,
+/// and of the start of networks of several sizes, of which every slave is booted.
+pub fn measure<R: Clock + Print + AllocGlobal>(rt: &R, count: usize) -> Option<()> {
+    measure_calls(rt, count)?;
+    measure_starts(rt)
+}
+
+/// Makes a few calls, and starts of all slaves, in one run.
+pub fn run_briefly<R: Clock + Print + AllocGlobal>(rt: &R) -> Option<()> {
+    let net = full_network(rt.alloc(), SLAVES)?;
+    let drawn = draw(rt.alloc(), &net, FEW)?;
+    best_call(rt, &net, drawn.calls.as_slice(), 1, 1)?;
+    best_start(rt, rt.alloc(), SLAVES, 1)?;
+    let mut out = io::writer(rt);
+    writeln!(
+        out,
+        "calls: {FEW} calls, and {STARTS} starts of {SLAVES} slaves"
+    )
+    .ok()
+}
