@@ -25,19 +25,19 @@ of_later net xs ys p q = prefix_trans (item.Opened net ∷ []) xs ys p q
 
 pub status_is : (net : Network) (cs : List Cell) (log : List LogItem) (c d : ℕ) → IsRow net cs log → (cell cs 0).0 ≡ status_word c d → c ≤ most_entries → d ≤ most_entries
     → (length (entries_in log) ≡ c) × (done_in log ≡ d)
-status_is net cs log c d row found small less = by row.status
+status_is net cs log c d is_row found small less = by is_row.status
   where
     by : (cell cs 0 ≡ (status_word (length (entries_in log)) (done_in log), true)) ⊎ (cell cs 0 ≡ (gone_word, true)) → (length (entries_in log) ≡ c) × (done_in log ≡ d)
-    by (inl p) = (omega (arith, found, ap (λ (w : Cell). w.0) p, small, less, row.right.few, row.right.done), omega (arith, found, ap (λ (w : Cell). w.0) p, small, less, row.right.few, row.right.done))
+    by (inl p) = (omega (arith, found, ap (λ (w : Cell). w.0) p, small, less, is_row.right.few, is_row.right.done), omega (arith, found, ap (λ (w : Cell). w.0) p, small, less, is_row.right.few, is_row.right.done))
     by (inr p) = absurd (omega (arith, found, ap (λ (w : Cell). w.0) p, small, less))
 
 -- a row whose words stay, but for one that is set
-module _ (net : Network) (cs : List Cell) (log : List LogItem) (row : IsRow net cs log) where
+module _ (net : Network) (cs : List Cell) (log : List LogItem) (is_row : IsRow net cs log) where
   long_set : (k : ℕ) (x : Cell) → length (slice_set cs k x) ≡ 128
-  long_set k x = length-set cs k x ∙ row.long
+  long_set k x = length-set cs k x ∙ is_row.long
 
   at_set : (k n : ℕ) → k < 128 → cell (slice_set cs k (n, true)) k ≡ (n, true)
-  at_set k n small = get_or-set_at cs k k (n, true) (0, false) refl (omega (arith, small, row.long))
+  at_set k n small = get_or-set_at cs k k (n, true) (0, false) refl (omega (arith, small, is_row.long))
 
   at_other : (k t : ℕ) (x : Cell) → (t ≡ k → ⊥) → cell (slice_set cs k x) t ≡ cell cs t
   at_other k t x away = get_or-set_other cs k t x (0, false) away
@@ -46,12 +46,12 @@ module _ (net : Network) (cs : List Cell) (log : List LogItem) (row : IsRow net 
   word_later : (ys : List LogItem) (t : ℕ) (x : Cell) (k : ℕ) → 1 ≤ t → t < 128 → (t ≡ k → ⊥) → IsPrefix log ys → since_in ys t ≡ since_in log t
       → IsWord (cell (slice_set cs k x) t).0 (since_in ys t) (shown_at (listing net) (entries_in ys) (since_in ys t) t) (shown_at (listing net) (entries_in ys) (since_in ys t - 1) t)
   word_later ys t x k low small away p same =
-      rw (ap (λ (w : Cell). w.0) (at_other k t x away), same, sym (shown_same (listing net) log ys (since_in log t) t p (row.right.since t low small)), sym (shown_same (listing net) log ys (since_in log t - 1) t p (omega (arith, row.right.since t low small)))) (row.words t low small)
+      rw (ap (λ (w : Cell). w.0) (at_other k t x away), same, sym (shown_same (listing net) log ys (since_in log t) t p (is_row.right.since t low small)), sym (shown_same (listing net) log ys (since_in log t - 1) t p (omega (arith, is_row.right.since t low small)))) (is_row.words t low small)
 
   home_later : (k n t : ℕ) → k < 128 → 1 ≤ t → t < 128 → (cell (slice_set cs k (n, true)) t).1 ≡ true
   home_later k n t inside low small = elim (cases_eq t k) [
     | inl here ↦ subst (λ (i : ℕ). (cell (slice_set cs k (n, true)) i).1 ≡ true) (sym here) (ap (λ (w : Cell). w.1) (at_set k n inside))
-    | inr away ↦ ap (λ (w : Cell). w.1) (at_other k t (n, true) away) ∙ row.home t low small
+    | inr away ↦ ap (λ (w : Cell). w.1) (at_other k t (n, true) away) ∙ is_row.home t low small
   ]
 
 -- an entry is added
@@ -59,29 +59,29 @@ pub adds_entry : (net : Network) (seen : List LogItem) (e : Entry) (c : ℕ) (cs
     → IsOf net seen → c ≤ length (entries_in seen) → c < most_entries → IsAnswered (listing net) e (reverse (take c (entries_in seen)))
     → HasRow cs log → IsPrefix seen log → (cell cs 0).0 ≡ status_word c c
     → HasRow (slice_set cs 0 (status_word (c + 1) c, true)) (log ++ item.Entry e ∷ [])
-adds_entry net seen e c cs log of there few next (n, row) pre found = (
+adds_entry net seen e c cs log of there few next (n, is_row) pre found = (
   n,
   record {
-    of = of_later n log (log ++ item.Entry e ∷ []) row.of (item.Entry e ∷ [], refl);
-    long = long_set n cs log row 0 (status_word (c + 1) c, true);
-    status = inl (at_set n cs log row 0 (status_word (c + 1) c) (omega arith) ∙ ap (λ (k : ℕ). (k, true)) (omega (arith, count, dones)));
-    home = λ t low small. home_later n cs log row 0 (status_word (c + 1) c) t (omega arith) low small;
-    words = λ t low small. word_later n cs log row (log ++ item.Entry e ∷ []) t (status_word (c + 1) c, true) 0 low small (λ z. absurd (omega (arith, z, low))) (item.Entry e ∷ [], refl) (since t);
+    of = of_later n log (log ++ item.Entry e ∷ []) is_row.of (item.Entry e ∷ [], refl);
+    long = long_set n cs log is_row 0 (status_word (c + 1) c, true);
+    status = inl (at_set n cs log is_row 0 (status_word (c + 1) c) (omega arith) ∙ ap (λ (k : ℕ). (k, true)) (omega (arith, count, dones)));
+    home = λ t low small. home_later n cs log is_row 0 (status_word (c + 1) c) t (omega arith) low small;
+    words = λ t low small. word_later n cs log is_row (log ++ item.Entry e ∷ []) t (status_word (c + 1) c, true) 0 low small (λ z. absurd (omega (arith, z, low))) (item.Entry e ∷ [], refl) (since t);
     right = record {
-      legal = rw entries (legal_longer (listing n) (entries_in log) e row.right.legal answered);
+      legal = rw entries (legal_longer (listing n) (entries_in log) e is_row.right.legal answered);
       few = omega (arith, count, few);
       done = omega (arith, count, dones);
-      since = λ t low small. omega (arith, since t, row.right.since t low small, count, is.0);
-      same = λ t low small. rw (dones ∙ sym is.1) (same_later (listing n) log (log ++ item.Entry e ∷ []) (done_in log) t (item.Entry e ∷ [], refl) row.right.done (row.right.same t low small));
+      since = λ t low small. omega (arith, since t, is_row.right.since t low small, count, is.0);
+      same = λ t low small. rw (dones ∙ sym is.1) (same_later (listing n) log (log ++ item.Entry e ∷ []) (done_in log) t (item.Entry e ∷ [], refl) is_row.right.done (is_row.right.same t low small));
     };
   },
 )
   where
     is : (length (entries_in log) ≡ c) × (done_in log ≡ c)
-    is = status_is n cs log c c row found (omega (arith, few)) (omega (arith, few))
+    is = status_is n cs log c c is_row found (omega (arith, few)) (omega (arith, few))
 
     net_is : net ≡ n
-    net_is = same_net net n log (of_later net seen log of pre) row.of
+    net_is = same_net net n log (of_later net seen log of pre) is_row.of
 
     entries : entries_in (log ++ item.Entry e ∷ []) ≡ entries_in log ++ e ∷ []
     entries = entries_more log (item.Entry e ∷ [])
@@ -107,26 +107,26 @@ pub stores : (net : Network) (seen : List LogItem) (k old c v b : ℕ) (cs : Lis
     → v ≡ shown_at (listing net) (entries_in seen) c k → b ≡ shown_at (listing net) (entries_in seen) (c - 1) k
     → HasRow cs log → IsPrefix seen log → (cell cs k).0 ≡ old
     → HasRow (slice_set cs k (c * 65536 + v * 256 + b, true)) (log ++ item.Stored k c ∷ [])
-stores net seen k old c v b cs log of low small there few older byte less_byte state state_before (n, row) pre found = (
+stores net seen k old c v b cs log of low small there few older byte less_byte state state_before (n, is_row) pre found = (
   n,
   record {
-    of = of_later n log (log ++ item.Stored k c ∷ []) row.of (item.Stored k c ∷ [], refl);
-    long = long_set n cs log row k (c * 65536 + v * 256 + b, true);
-    status = rw (at_other n cs log row k 0 (c * 65536 + v * 256 + b, true) (λ z. absurd (omega (arith, z, low))), entries, dones) row.status;
-    home = λ t l s. home_later n cs log row k (c * 65536 + v * 256 + b) t small l s;
+    of = of_later n log (log ++ item.Stored k c ∷ []) is_row.of (item.Stored k c ∷ [], refl);
+    long = long_set n cs log is_row k (c * 65536 + v * 256 + b, true);
+    status = rw (at_other n cs log is_row k 0 (c * 65536 + v * 256 + b, true) (λ z. absurd (omega (arith, z, low))), entries, dones) is_row.status;
+    home = λ t l s. home_later n cs log is_row k (c * 65536 + v * 256 + b) t small l s;
     words = words;
     right = record {
-      legal = rw entries row.right.legal;
-      few = rw entries row.right.few;
-      done = rw (entries, dones) row.right.done;
+      legal = rw entries is_row.right.legal;
+      few = rw entries is_row.right.few;
+      done = rw (entries, dones) is_row.right.done;
       since = since;
-      same = λ t l s. rw dones (same_later (listing n) log (log ++ item.Stored k c ∷ []) (done_in log) t (item.Stored k c ∷ [], refl) row.right.done (row.right.same t l s));
+      same = λ t l s. rw dones (same_later (listing n) log (log ++ item.Stored k c ∷ []) (done_in log) t (item.Stored k c ∷ [], refl) is_row.right.done (is_row.right.same t l s));
     };
   },
 )
   where
     net_is : net ≡ n
-    net_is = same_net net n log (of_later net seen log of pre) row.of
+    net_is = same_net net n log (of_later net seen log of pre) is_row.of
 
     entries : entries_in (log ++ item.Stored k c ∷ []) ≡ entries_in log
     entries = entries_more log (item.Stored k c ∷ []) ∙ append-nil (entries_in log)
@@ -145,13 +145,13 @@ stores net seen k old c v b cs log of low small there few older byte less_byte s
 
     since : (t : ℕ) → 1 ≤ t → t < 128 → since_in (log ++ item.Stored k c ∷ []) t ≤ length (entries_in (log ++ item.Stored k c ∷ []))
     since t l s = elim (cases_eq t k) [
-      | inl here ↦ rw (here, entries, since_here) (omega (arith, count, row.right.since k low small))
-      | inr away ↦ rw (entries, since_other t away) (row.right.since t l s)
+      | inl here ↦ rw (here, entries, since_here) (omega (arith, count, is_row.right.since k low small))
+      | inr away ↦ rw (entries, since_other t away) (is_row.right.since t l s)
     ]
 
     -- it was stored with fewer entries before
     less : since_in log k < c
-    less = by (row.words k low small)
+    less = by (is_row.words k low small)
       where
         by : IsWord (cell cs k).0 (since_in log k) (shown_at (listing n) (entries_in log) (since_in log k) k) (shown_at (listing n) (entries_in log) (since_in log k - 1) k) → since_in log k < c
         by (inl p) = omega (arith, p.0, older)
@@ -169,8 +169,8 @@ stores net seen k old c v b cs log of low small there few older byte less_byte s
     words : (t : ℕ) → 1 ≤ t → t < 128 → IsWord (cell (slice_set cs k (c * 65536 + v * 256 + b, true)) t).0 (since_in (log ++ item.Stored k c ∷ []) t) (shown_at (listing n) (entries_in (log ++ item.Stored k c ∷ [])) (since_in (log ++ item.Stored k c ∷ []) t) t) (shown_at (listing n) (entries_in (log ++ item.Stored k c ∷ [])) (since_in (log ++ item.Stored k c ∷ []) t - 1) t)
     words t l s = elim (cases_eq t k) [
       | inl here ↦ subst (λ (i : ℕ). IsWord (cell (slice_set cs k (c * 65536 + v * 256 + b, true)) i).0 (since_in (log ++ item.Stored k c ∷ []) i) (shown_at (listing n) (entries_in (log ++ item.Stored k c ∷ [])) (since_in (log ++ item.Stored k c ∷ []) i) i) (shown_at (listing n) (entries_in (log ++ item.Stored k c ∷ [])) (since_in (log ++ item.Stored k c ∷ []) i - 1) i)) (sym here)
-          (rw (ap (λ (w : Cell). w.0) (at_set n cs log row k (c * 65536 + v * 256 + b) small), now, sym shows, sym shows_before) (inr (omega (arith, less), refl, byte, less_byte)))
-      | inr away ↦ word_later n cs log row (log ++ item.Stored k c ∷ []) t (c * 65536 + v * 256 + b, true) k l s away (item.Stored k c ∷ [], refl) (since_other t away)
+          (rw (ap (λ (w : Cell). w.0) (at_set n cs log is_row k (c * 65536 + v * 256 + b) small), now, sym shows, sym shows_before) (inr (omega (arith, less), refl, byte, less_byte)))
+      | inr away ↦ word_later n cs log is_row (log ++ item.Stored k c ∷ []) t (c * 65536 + v * 256 + b, true) k l s away (item.Stored k c ∷ [], refl) (since_other t away)
     ]
 
 -- the words of all nodes are right
@@ -179,29 +179,29 @@ pub shows_all : (net : Network) (seen : List LogItem) (c : ℕ) (cs : List Cell)
     → ((t : ℕ) → 1 ≤ t → t < 128 → IsSame (listing net) seen c t)
     → HasRow cs log → IsPrefix seen log → (cell cs 0).0 ≡ status_word c (c - 1)
     → HasRow (slice_set cs 0 (status_word c c, true)) (log ++ item.Shown c ∷ [])
-shows_all net seen c cs log of some few there same (n, row) pre found = (
+shows_all net seen c cs log of some few there same (n, is_row) pre found = (
   n,
   record {
-    of = of_later n log (log ++ item.Shown c ∷ []) row.of (item.Shown c ∷ [], refl);
-    long = long_set n cs log row 0 (status_word c c, true);
-    status = inl (at_set n cs log row 0 (status_word c c) (omega arith) ∙ ap (λ (k : ℕ). (k, true)) (omega (arith, ap length entries, is.0, dones)));
-    home = λ t low small. home_later n cs log row 0 (status_word c c) t (omega arith) low small;
-    words = λ t low small. word_later n cs log row (log ++ item.Shown c ∷ []) t (status_word c c, true) 0 low small (λ z. absurd (omega (arith, z, low))) (item.Shown c ∷ [], refl) (since t);
+    of = of_later n log (log ++ item.Shown c ∷ []) is_row.of (item.Shown c ∷ [], refl);
+    long = long_set n cs log is_row 0 (status_word c c, true);
+    status = inl (at_set n cs log is_row 0 (status_word c c) (omega arith) ∙ ap (λ (k : ℕ). (k, true)) (omega (arith, ap length entries, is.0, dones)));
+    home = λ t low small. home_later n cs log is_row 0 (status_word c c) t (omega arith) low small;
+    words = λ t low small. word_later n cs log is_row (log ++ item.Shown c ∷ []) t (status_word c c, true) 0 low small (λ z. absurd (omega (arith, z, low))) (item.Shown c ∷ [], refl) (since t);
     right = record {
-      legal = rw entries row.right.legal;
-      few = rw entries row.right.few;
+      legal = rw entries is_row.right.legal;
+      few = rw entries is_row.right.few;
       done = omega (arith, dones, is.0, ap length entries);
-      since = λ t low small. omega (arith, since t, row.right.since t low small, ap length entries);
+      since = λ t low small. omega (arith, since t, is_row.right.since t low small, ap length entries);
       same = λ t low small. rw dones (same_later (listing n) seen (log ++ item.Shown c ∷ []) c t (prefix_trans seen log (log ++ item.Shown c ∷ []) pre (item.Shown c ∷ [], refl)) there (rw (← net_is) (same t low small)));
     };
   },
 )
   where
     is : (length (entries_in log) ≡ c) × (done_in log ≡ c - 1)
-    is = status_is n cs log c (c - 1) row found few (omega (arith, few))
+    is = status_is n cs log c (c - 1) is_row found few (omega (arith, few))
 
     net_is : net ≡ n
-    net_is = same_net net n log (of_later net seen log of pre) row.of
+    net_is = same_net net n log (of_later net seen log of pre) is_row.of
 
     entries : entries_in (log ++ item.Shown c ∷ []) ≡ entries_in log
     entries = entries_more log (item.Shown c ∷ []) ∙ append-nil (entries_in log)
@@ -214,32 +214,32 @@ shows_all net seen c cs log of some few there same (n, row) pre found = (
 
 -- the history is shown no more
 pub gone : (net : Network) (cs : List Cell) (log : List LogItem) → IsRow net cs log → IsRow net (slice_set cs 0 (gone_word, true)) log
-gone net cs log row = record {
-  of = row.of;
-  long = long_set net cs log row 0 (gone_word, true);
-  status = inr (at_set net cs log row 0 gone_word (omega arith));
-  home = λ t low small. home_later net cs log row 0 gone_word t (omega arith) low small;
-  words = λ t low small. word_later net cs log row log t (gone_word, true) 0 low small (λ z. absurd (omega (arith, z, low))) ([], append-nil log) refl;
-  right = row.right;
+gone net cs log is_row = record {
+  of = is_row.of;
+  long = long_set net cs log is_row 0 (gone_word, true);
+  status = inr (at_set net cs log is_row 0 gone_word (omega arith));
+  home = λ t low small. home_later net cs log is_row 0 gone_word t (omega arith) low small;
+  words = λ t low small. word_later net cs log is_row log t (gone_word, true) 0 low small (λ z. absurd (omega (arith, z, low))) ([], append-nil log) refl;
+  right = is_row.right;
 }
 
 -- what is known where an entry was added
 pub pending_now : (net : Network) (seen log now : List LogItem) (e : Entry) (c : ℕ) → IsOf net seen → c < most_entries → IsPrefix seen log → Found 0 (status_word c c) log
     → now ≡ log ++ item.Entry e ∷ [] → IsPending (listing net) now c e
-pending_now net seen log now e c of few pre (cs, (n, row), found) is = record {
+pending_now net seen log now e c of few pre (cs, (n, is_row), found) is = record {
   next = rw (entries, take_at (entries_in log) (e ∷ []) c count.0) (take_all (c + 1) (entries_in log ++ e ∷ []) (omega (arith, length-append (entries_in log) (e ∷ []), count.0)));
   there = omega (arith, ap length entries, length-append (entries_in log) (e ∷ []), count.0);
-  same = λ t low small. rw net_is (same_later (listing n) log now c t (item.Entry e ∷ [], sym is) (omega (arith, count.0)) (rw (← count.1) (row.right.same t low small)));
+  same = λ t low small. rw net_is (same_later (listing n) log now c t (item.Entry e ∷ [], sym is) (omega (arith, count.0)) (rw (← count.1) (is_row.right.same t low small)));
 }
   where
     count : (length (entries_in log) ≡ c) × (done_in log ≡ c)
-    count = status_is n cs log c c row found (omega (arith, few)) (omega (arith, few))
+    count = status_is n cs log c c is_row found (omega (arith, few)) (omega (arith, few))
 
     entries : entries_in now ≡ entries_in log ++ e ∷ []
     entries = ap entries_in is ∙ entries_more log (item.Entry e ∷ [])
 
     net_is : net ≡ n
-    net_is = same_net net n log (of_later net seen log of pre) row.of
+    net_is = same_net net n log (of_later net seen log of pre) is_row.of
 
 -- what is known where a node's word was stored
 pub same_now : (net : Listing) (log now : List LogItem) (k c : ℕ) → now ≡ log ++ item.Stored k c ∷ [] → IsSame net now c k

@@ -53,6 +53,7 @@ impl<K: RunName> Model for Seat<K> {
 }
 
 /// Moves the list to the larger one, where there is one.
+#[inline(always)]
 fn take_room(list: &mut Vec<Made>, room: Option<Vec<Made>>)
     requires { MatchOption room (vec_len list.old < vec_capacity list.old)
         (λ larger. (vec_len larger ≡ 0) × (vec_len list.old < vec_capacity larger)) }
@@ -93,6 +94,7 @@ impl<K: RunName> Seat<K> {
     }
 
     /// The number of the seat in its register, counted from 1.
+    #[inline(always)]
     pub fn number(&self) -> u16
         ensures value { result ≡ self.now.number }
         ensures range { (0 < self.now.number) × (self.now.number ≤ K.seats)
@@ -102,6 +104,7 @@ impl<K: RunName> Seat<K> {
     }
 
     /// The calls that it made, in order.
+    #[inline(always)]
     pub fn list(&self) -> &[Made]
         ensures { result.now ≡ self.now.list }
     {
@@ -168,6 +171,7 @@ impl<K: RunName> Seat<K> {
 
     /// Memory for one call more, where the list has none left: a larger list, still empty, with four times
     /// the places, since all calls so far move there.
+    #[inline]
     pub fn room_for_call(&self) -> Result<Option<Vec<Made>>, AllocError>
         ensures { IfOk result (λ room. MatchOption room
             (length self.now.list < self.now.capacity)
@@ -186,6 +190,7 @@ impl<K: RunName> Seat<K> {
     /// Takes in that its call was made, with memory for it by [`Seat::room_for_call`]: the call is added
     /// to the list and counted in the ledger, and the seat is told the history, of which it is the last
     /// entry.
+    #[inline(always)]
     pub fn count_call(
         &mut self,
         ledger: &mut Book<K>,
