@@ -78,7 +78,9 @@ fn gather<K: RunName>(
 }
 
 impl<'n, W: Wire, K: RunName> Book<'n, W, K> {
-    /// Why this book can't be closed with these seats, if anything is in the way.
+    /// Why this book can't be closed with these seats, if anything is in the way. This and the two below
+    /// stand apart: a book has over 7 KB, and LLVM takes a minute for a caller that it reads them into.
+    #[inline(never)]
     fn close_cause(&self, seats: &[Seat<K>]) -> Result<(), CloseKind>
         ensures may { IfOk result (λ u. MayClose self.now.history K.seats seats.now) }
         ensures fault { IfErr result (IsCloseCause K.seats seats.now) }
@@ -98,6 +100,7 @@ impl<'n, W: Wire, K: RunName> Book<'n, W, K> {
     }
 
     /// Takes the book apart, and the seats.
+    #[inline(never)]
     fn finish(self, seats: Vec<Seat<K>>) -> Closed<W>
         requires may { MayClose self.history K.seats seats.items }
         ensures history { result.history.items ≡ self.entry.history }
@@ -129,6 +132,7 @@ impl<'n, W: Wire, K: RunName> Book<'n, W, K> {
     /// Closes the book of one thread, as [`crate::Register::close`] closes that of several. It is
     /// refused just where a seat is missing, where what a seat knows isn't found to be of the history,
     /// and where a number comes twice.
+    #[inline(never)]
     pub fn close(self, seats: Vec<Seat<K>>) -> Result<Closed<W>, BookFault<'n, W, K>>
         ensures history { IfOk result (λ c. c.history.items ≡ self.entry.history) }
         ensures closed { IfOk result (IsClosed W.sent K.net K.seats K.limit seats.items) }
