@@ -6,6 +6,7 @@ mod bus_files;
 mod live;
 mod live_inputs;
 mod live_team;
+mod live_threads;
 mod opening;
 mod operating;
 mod program;

@@ -1,4 +1,5 @@
 //! The workers of a live run: who they are, their threads, and what each does.
+ghost use Rattle.std.specs.Prelude.{◌≤◌};
 
 use crate::live::Setting;
 use crate::rounds::live_round;
@@ -8,7 +9,7 @@ use cm_nmt::NodeId;
 use cm_register::{Register, RunName, Seat};
 use cm_run::{Last, Outcome};
 use crossbeam_channel::{Receiver, Sender};
-use std::alloc::AllocError;
+use std::alloc::{AllocError, Global};
 use std::io::Write;
 use std::sync::atomic::{AtomicBool, Ordering};
 use std::sync::{Arc, Wait};
@@ -34,6 +35,31 @@ fn tried_of(outcome: &Outcome) -> Tried {
     }
 }
 
+/// Boots the slaves that are handed to a worker, and tells what came of each, until the run is over.
+fn boot_handed<'n, R: Wait + Clock + Drop, K: RunName, N: Write + Drop, W: Write + Drop>(
+    rt: &R,
+    announcing: &Announcing<'_, Register<'n, LiveWire<N>, K>>,
+    seat: &mut Seat<K>,
+    bus: &mut LiveBus<'n, LivePort<R, W>>,
+    jobs: &Receiver<NodeId>,
+    happenings: &Sender<Happening>,
+    attempts: u8,
+    over: &AtomicBool,
+)
+    requires { (1 ≤ attempts) × (attempts ≤ 10) }
+{
+    for _ in rt.forever() {
+        let Ok(id) = jobs.recv(rt) else {
+            return;
+        };
+        if over.load(Ordering::SeqCst) {
+            return;
+        }
+        let outcome = live_round(rt, announcing, seat, bus, id, attempts);
+        let _ = happenings.send(rt, Happening::Ended(id, tried_of(&outcome)));
+    }
+}
+
 /// What one worker does: rounds of the slaves that it is handed, until the run is over. Its seat comes back.
 fn work<'n, R: Wait + Clock + Drop, K: RunName, N: Write + Drop, W: Write + Drop>(
     rt: &R,
@@ -48,20 +74,18 @@ fn work<'n, R: Wait + Clock + Drop, K: RunName, N: Write + Drop, W: Write + Drop
         happenings,
         attempts,
     } = worker;
-    let Ok(tells) = happenings.clone() else {
-        return seat;
-    };
-    let announcing = Announcing::new(register, tells);
-    for _ in rt.forever() {
-        let Ok(id) = jobs.recv(rt) else {
-            break;
-        };
-        if over.load(Ordering::SeqCst) {
-            break;
-        }
-        let attempts = attempts.clamp(1, 10);
-        let outcome = live_round(rt, &announcing, &mut seat, &mut bus, id, attempts);
-        let _ = happenings.send(rt, Happening::Ended(id, tried_of(&outcome)));
+    if let Ok(tells) = happenings.clone() {
+        let announcing = Announcing::new(register, tells);
+        boot_handed(
+            rt,
+            &announcing,
+            &mut seat,
+            &mut bus,
+            &jobs,
+            &happenings,
+            attempts.clamp(1, 10),
+            over,
+        );
     }
     seat
 }
@@ -97,34 +121,85 @@ fn make_bus<'a, 'n, R: Wait + Clock + Clone + Drop, W: Write + Drop>(
     Ok((bus, hears))
 }
 
+/// A worker with this seat, and the ends of its channels by which it gets frames and slaves.
+fn make_worker<'a, 'n, R: Wait + Clock + Clone + Drop, K: RunName, W: Write + Drop>(
+    setting: &Setting<'a, 'n, R>,
+    place: usize,
+    seat: Seat<K>,
+    writer: W,
+) -> Result<(Worker<'n, R, K, W>, Sender<CanFrame>, Sender<NodeId>), AllocError> {
+    let happenings = setting.happenings.clone()?;
+    let (tells, jobs) = crossbeam_channel::unbounded(setting.alloc)?;
+    let (bus, hears) = make_bus(setting, place, writer)?;
+    let worker = Worker {
+        seat,
+        bus,
+        jobs,
+        happenings,
+        attempts: setting.options.attempts,
+    };
+    Ok((worker, hears, tells))
+}
+
+impl<'n, R: Wait + Clock + Drop, K: RunName, W: Write + Drop> Staff<'n, R, K, W> {
+    /// Nobody.
+    fn new(alloc: Global) -> Staff<'n, R, K, W> {
+        Staff {
+            workers: Vec::new(alloc),
+            hears: Vec::new(alloc),
+            jobs: Vec::new(alloc),
+        }
+    }
+
+    /// Takes in a worker, with the ends of its channels.
+    fn take(
+        &mut self,
+        worker: Worker<'n, R, K, W>,
+        hears: Sender<CanFrame>,
+        jobs: Sender<NodeId>,
+    ) -> Result<(), AllocError> {
+        self.workers.push(worker)?;
+        self.hears.push(hears)?;
+        self.jobs.push(jobs)?;
+        Ok(())
+    }
+}
+
 /// The workers, one for each seat, and the channels to them.
 pub(crate) fn make_staff<'a, 'n, R: Wait + Clock + Clone + Drop, K: RunName, W: Write + Drop>(
     setting: &Setting<'a, 'n, R>,
     seats: Vec<Seat<K>>,
     written: Vec<W>,
 ) -> Result<Staff<'n, R, K, W>, AllocError> {
-    let alloc = setting.alloc;
-    let mut staff = Staff {
-        workers: Vec::new(alloc),
-        hears: Vec::new(alloc),
-        jobs: Vec::new(alloc),
-    };
-    let mut place = 0usize;
+    let mut staff = Staff::new(setting.alloc);
     for (seat, writer) in seats.into_iter().zip(written.into_iter()) {
-        let (bus, hears) = make_bus(setting, place, writer)?;
-        let (tells, jobs) = crossbeam_channel::unbounded(alloc)?;
-        staff.hears.push(hears)?;
-        staff.jobs.push(tells)?;
-        staff.workers.push(Worker {
-            seat,
-            bus,
-            jobs,
-            happenings: setting.happenings.clone()?,
-            attempts: setting.options.attempts,
-        })?;
-        place = place.wrapping_add(1);
+        let place = staff.workers.len();
+        let (worker, hears, jobs) = make_worker(setting, place, seat, writer)?;
+        staff.take(worker, hears, jobs)?;
     }
     Ok(staff)
+}
+
+/// Starts a thread for a worker. The answer is whether it has one.
+fn start_worker<
+    's,
+    'n: 's,
+    V,
+    R: Wait + Threads + Clock + Send + Sync + Drop + 's,
+    K: RunName + Send + Sync + 's,
+    W: Write + Drop + Send + 's,
+>(
+    scope: &Scope<'s, V>,
+    rt: &'s R,
+    register: &'s Register<'n, LiveWire<W>, K>,
+    worker: Worker<'n, R, K, W>,
+    over: &'s AtomicBool,
+    handles: &mut Vec<JoinHandle<Seat<K>>>,
+) -> bool {
+    match scope.spawn(move || work(rt, register, worker, over)) {
+        Ok(handle) => handles.push(handle).is_ok(),
+        Err(_) => false,
+    }
 }
 
 /// Starts a thread for each worker. The answer is whether each has one.
@@ -144,10 +219,7 @@ pub(crate) fn start_workers<
     handles: &mut Vec<JoinHandle<Seat<K>>>,
 ) -> bool {
     for worker in workers {
-        let Ok(handle) = scope.spawn(move || work(rt, register, worker, over)) else {
-            return false;
-        };
-        if handles.push(handle).is_err() {
+        if !start_worker(scope, rt, register, worker, over, handles) {
             return false;
         }
     }

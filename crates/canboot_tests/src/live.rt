@@ -9,7 +9,7 @@ use canboot::{LiveEnds, LiveOptions, live_text, replay_text};
 use cm_can::{CanFrame, Kind, read_log_line};
 use cm_live::Format;
 use crossbeam_channel::{Receiver, Sender};
-use std::alloc::Global;
+use std::alloc::{AllocError, Global};
 use std::io::{self, ErrorKind, Read, Write};
 use std::process::Abort;
 use std::sync::Wait;
@@ -200,6 +200,58 @@ struct Bus<R: Wait + Drop> {
     ends: LiveEnds<Answered<R>, Typing<R>, Devices<R>>,
 }
 
+/// Devices that tell this sender their answers, and the other one which node was started.
+fn make_devices<R: Wait + Clone + Drop>(
+    rt: &R,
+    alloc: Global,
+    answers: &Sender<Heard>,
+    starts: &Sender<u8>,
+    left: u32,
+) -> Result<Devices<R>, AllocError> {
+    let rt = rt.clone()?;
+    let answers = answers.clone()?;
+    let starts = starts.clone()?;
+    Ok(Devices {
+        rt,
+        alloc,
+        line: Vec::new(alloc),
+        answers,
+        starts,
+        left,
+    })
+}
+
+/// A writer for each of four workers, and one more.
+fn writers<R: Wait + Clone + Drop>(
+    rt: &R,
+    alloc: Global,
+    answers: &Sender<Heard>,
+    starts: &Sender<u8>,
+    left: u32,
+) -> Result<Vec<Devices<R>>, Fail> {
+    let mut written = Vec::new(alloc);
+    for _writer in 0..5u8 {
+        written.push(make_devices(rt, alloc, answers, starts, left)?)?;
+    }
+    Ok(written)
+}
+
+/// A reader of at most so many texts.
+fn reader<R: Wait + Clone + Drop>(
+    rt: &R,
+    alloc: Global,
+    answers: Receiver<Heard>,
+    left: u32,
+) -> Result<Answered<R>, AllocError> {
+    Ok(Answered {
+        rt: rt.clone()?,
+        answers,
+        text: Vec::new(alloc),
+        at: 0,
+        left,
+    })
+}
+
 fn bus_of<R: Wait + Clone + Drop>(
     rt: &R,
     alloc: Global,
@@ -210,36 +262,21 @@ fn bus_of<R: Wait + Clone + Drop>(
 ) -> Result<Bus<R>, Fail> {
     let (answers, heard) = crossbeam_channel::unbounded(alloc)?;
     let (starts, started) = crossbeam_channel::unbounded(alloc)?;
-    let mut written = Vec::new(alloc);
-    for _writer in 0..5u8 {
-        written.push(Devices {
-            rt: rt.clone()?,
-            alloc,
-            line: Vec::new(alloc),
-            answers: answers.clone()?,
-            starts: starts.clone()?,
-            left: written_at_most,
-        })?;
-    }
-    let received = Answered {
-        rt: rt.clone()?,
-        answers: heard,
-        text: Vec::new(alloc),
-        at: 0,
-        left: heard_at_most,
-    };
+    let written = writers(rt, alloc, &answers, &starts, written_at_most)?;
+    let received = reader(rt, alloc, heard, heard_at_most)?;
     let typed = Typing {
         rt: rt.clone()?,
         starts: started,
         wanted,
         text,
     };
-    let ends = LiveEnds {
-        received,
-        typed,
-        written,
-    };
-    Ok(Bus { ends })
+    Ok(Bus {
+        ends: LiveEnds {
+            received,
+            typed,
+            written,
+        },
+    })
 }
 
 /// Four workers.
@@ -262,6 +299,16 @@ struct Printed {
     status: u8,
     out: Vec<u8>,
     err: Vec<u8>,
+}
+
+/// Asserts that a journal is one whose report is this.
+fn has_report(rt: &impl Abort, alloc: Global, journal: &[u8], wanted: &[u8]) {
+    let mut entries = journal;
+    let mut report: Vec<u8> = Vec::new(alloc);
+    let mut fault: Vec<u8> = Vec::new(alloc);
+    let replayed = replay_text(alloc, &mut entries, &mut report, &mut fault);
+    assert_eq!(rt; replayed, 0);
+    assert_eq!(rt; report.as_slice(), wanted);
 }
 
 /// Boots 126 slaves over a bus in memory, and asserts that the journal is one whose report is the one that was written.
@@ -290,12 +337,7 @@ fn lives<R: Wait + Threads + Clock + Clone + Abort + Send + Sync + Drop + 'stati
     let Some(journal) = journal else {
         return Err(Fail::from("no journal"));
     };
-    let mut entries = journal.as_slice();
-    let mut report: Vec<u8> = Vec::new(alloc);
-    let mut fault: Vec<u8> = Vec::new(alloc);
-    let replayed = replay_text(alloc, &mut entries, &mut report, &mut fault);
-    assert_eq!(rt; replayed, 0);
-    assert_eq!(rt; report.as_slice(), out.as_slice());
+    has_report(rt, alloc, journal.as_slice(), out.as_slice());
     Ok(Printed { status, out, err })
 }
 

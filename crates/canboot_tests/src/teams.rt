@@ -5,7 +5,7 @@ ghost use Rattle.cm_register.specs.Naming.{Names};
 use crate::runs::full_list;
 use crate::written::sure;
 use canboot::replay_text;
-use cm_history::{Call, Reply};
+use cm_history::{Call, Entry, Reply};
 use cm_journal::journal_write;
 use cm_netlist::Network;
 use cm_nmt::{Answers, Got, NodeId};
@@ -130,7 +130,40 @@ fn seats_of<K: RunName>(
     Ok(seats)
 }
 
-/// Seat 1 starts the network, and then all seats make so many calls, four seats in each thread.
+/// Seat 1 starts the network.
+fn start<K: RunName, R: Wait + Abort>(
+    rt: &R,
+    register: &Register<SimWire, K>,
+    callers: &mut [Caller<K>],
+) {
+    let [first, ..] = callers else {
+        return sure(rt, false);
+    };
+    let start = register.call(rt, &mut first.seat, Call::StartNetwork);
+    let started = Receipt {
+        position: 1,
+        reply: Reply::Started,
+    };
+    sure(rt, start == Ok(started));
+    first.made = 1;
+}
+
+/// All seats make so many calls, four seats in each thread.
+fn call_at_once<K: RunName + Send + Sync, R: Wait + Threads + Abort + Send + Sync>(
+    rt: &R,
+    register: &Register<SimWire, K>,
+    callers: &mut [Caller<K>],
+    calls: u32,
+) {
+    thread::for_each_mut(
+        rt,
+        callers,
+        THREADS,
+        &|_, caller| { caller.call_often(rt, register, calls) },
+    );
+}
+
+/// Seat 1 starts the network, and then all seats make so many calls.
 fn make_calls<K: RunName + Send + Sync, R: Wait + Threads + Abort + Send + Sync>(
     rt: &R,
     alloc: Global,
@@ -143,26 +176,13 @@ fn make_calls<K: RunName + Send + Sync, R: Wait + Threads + Abort + Send + Sync>
         return Err(Fail::from("named"));
     };
     let mut callers = callers_of(rt, alloc, seats)?;
-    let Some(first) = callers.first_mut() else {
-        return Err(Fail::from("callers"));
-    };
-    let start = register.call(rt, &mut first.seat, Call::StartNetwork);
-    let started = Receipt {
-        position: 1,
-        reply: Reply::Started,
-    };
-    sure(rt, start.ok() == Some(started));
-    first.made = 1;
-    thread::for_each_mut(
-        rt,
-        callers.as_mut_slice(),
-        THREADS,
-        &|_, caller| { caller.call_often(rt, &register, calls) },
-    );
-    let Ok(closed) = register.close(seats_of(rt, alloc, callers, calls)?) else {
-        return Err(Fail::from("close"));
-    };
-    Ok(closed)
+    start(rt, &register, callers.as_mut_slice());
+    call_at_once(rt, &register, callers.as_mut_slice(), calls);
+    let seats = seats_of(rt, alloc, callers, calls)?;
+    match register.close(seats) {
+        Ok(closed) => Ok(closed),
+        Err(_) => Err(Fail::from("close")),
+    }
 }
 
 /// A network whose slaves are all other nodes.
@@ -175,6 +195,23 @@ fn full_network(alloc: Global) -> Result<Network, Fail> {
         return Err(Fail::from("list"));
     };
     Ok(net)
+}
+
+/// Asserts that the journal of these entries is replayed.
+fn is_replayed(
+    rt: &impl Abort,
+    alloc: Global,
+    net: &Network,
+    limit: u32,
+    entries: &[Entry],
+) -> Result<(), Fail> {
+    let mut text: Vec<u8> = Vec::new(alloc);
+    journal_write(net, SEATS, limit, entries, &mut text)?;
+    let mut out: Vec<u8> = Vec::new(alloc);
+    let mut err: Vec<u8> = Vec::new(alloc);
+    let status = replay_text(alloc, &mut text.as_slice(), &mut out, &mut err);
+    sure(rt, status == 0 && err.is_empty());
+    Ok(())
 }
 
 /// Fills a history of this limit with the calls of all seats, the same number of each, and asserts that
@@ -192,13 +229,7 @@ fn fill<R: Wait + Threads + Abort + Send + Sync>(
     let closed = make_calls::<Brand, _>(rt, alloc, opened, limit / u32::from(SEATS))?;
     let entries = closed.history.as_slice();
     sure(rt, entries.len() == limit as usize);
-    let mut text: Vec<u8> = Vec::new(alloc);
-    journal_write(&net, SEATS, limit, entries, &mut text)?;
-    let mut out: Vec<u8> = Vec::new(alloc);
-    let mut err: Vec<u8> = Vec::new(alloc);
-    let status = replay_text(alloc, &mut text.as_slice(), &mut out, &mut err);
-    sure(rt, status == 0 && err.is_empty());
-    Ok(())
+    is_replayed(rt, alloc, &net, limit, entries)
 }
 
 #[test]

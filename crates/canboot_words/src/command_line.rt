@@ -128,30 +128,41 @@ pub(crate) fn journal_argument<'a>(alloc: Global) -> Arg<'a> {
 }
 
 fn run_command<'a>(alloc: Global) -> Result<Command<'a>, AllocError> {
+    let arguments = vec![in alloc;
+        network_argument(alloc),
+        workers_argument(alloc, "1"),
+        attempts_argument(alloc, "1"),
+        silent_argument(alloc),
+        journal_argument(alloc),
+    ]?;
     Command::new(alloc, "run")
         .about(ABOUT_RUN)
         .long_about(HELP_RUN)
-        .arg(network_argument(alloc))?
-        .arg(workers_argument(alloc, "1"))?
-        .arg(attempts_argument(alloc, "1"))?
-        .arg(silent_argument(alloc))?
-        .arg(journal_argument(alloc))
+        .args(arguments)
+}
+
+fn replay_command<'a>(alloc: Global) -> Command<'a> {
+    Command::new(alloc, "replay")
+        .about(ABOUT_REPLAY)
+        .long_about(HELP_REPLAY)
+}
+
+fn subcommands<'a>(alloc: Global) -> Result<Vec<Command<'a>>, AllocError> {
+    let check = check_command(alloc)?;
+    let run = run_command(alloc)?;
+    let live = live_command(alloc)?;
+    Ok(vec![in alloc; check, run, live, replay_command(alloc)]?)
 }
 
 fn command<'a>(alloc: Global) -> Result<Command<'a>, AllocError> {
-    let replay = Command::new(alloc, "replay")
-        .about(ABOUT_REPLAY)
-        .long_about(HELP_REPLAY);
+    let subcommands = subcommands(alloc)?;
     Command::new(alloc, NAME)
         .bin_name(NAME)?
         .version(VERSION)
         .about(ABOUT)
         .after_help(AFTER)
         .subcommand_required(true)
-        .subcommand(check_command(alloc)?)?
-        .subcommand(run_command(alloc)?)?
-        .subcommand(live_command(alloc)?)?
-        .subcommand(replay)
+        .subcommands(subcommands)
 }
 
 /// A number of this name, which clap took only where it is 1 to `most`.

@@ -70,23 +70,34 @@ fn seconds_argument<'a>(alloc: Global) -> Arg<'a> {
         .value_parser(value_parser!(u32).range(0..31_536_001))
 }
 
+fn arguments<'a>(alloc: Global) -> Result<Vec<Arg<'a>>, AllocError> {
+    let receive = receive_argument(alloc)?;
+    let send = send_argument(alloc)?;
+    let adapter = adapter_argument(alloc)?;
+    Ok(vec![in alloc;
+        network_argument(alloc),
+        receive,
+        send,
+        adapter,
+        workers_argument(alloc, "4"),
+        attempts_argument(alloc, "3"),
+        answer_argument(alloc),
+        settle_argument(alloc),
+        seconds_argument(alloc),
+        journal_argument(alloc),
+    ]?)
+}
+
 /// The words of `canboot live`.
 pub(crate) fn live_command<'a>(alloc: Global) -> Result<Command<'a>, AllocError> {
+    let arguments = arguments(alloc)?;
+    let group = bus_group(alloc)?;
     Command::new(alloc, "live")
         .about(ABOUT_LIVE)
         .long_about(HELP_LIVE)
         .override_usage(USAGE_LIVE)
-        .arg(network_argument(alloc))?
-        .arg(receive_argument(alloc)?)?
-        .arg(send_argument(alloc)?)?
-        .arg(adapter_argument(alloc)?)?
-        .group(bus_group(alloc)?)?
-        .arg(workers_argument(alloc, "4"))?
-        .arg(attempts_argument(alloc, "3"))?
-        .arg(answer_argument(alloc))?
-        .arg(settle_argument(alloc))?
-        .arg(seconds_argument(alloc))?
-        .arg(journal_argument(alloc))
+        .args(arguments)?
+        .group(group)
 }
 
 /// A time of this name in ms, which clap took only where it is `least` to `most`.

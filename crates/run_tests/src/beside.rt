@@ -6,10 +6,11 @@ ghost use Rattle.cm_register.specs.Naming.{Names};
 use crate::support::{
     HeldBus, close_with, held, is_made, network, node, open, outcome, reaches, started, sure,
 };
+use cm_boot::Bus;
 use cm_history::{Call, Reply};
 use cm_nmt::{NodeId, Status};
 use cm_register::{Opened, Register, RunName, Seat};
-use cm_run::{Booted, Last, boot_all};
+use cm_run::{Booted, Last, RunFault, boot_all};
 use cm_simulated::SimWire;
 use std::alloc::Global;
 use std::marker::Brand;
@@ -47,6 +48,16 @@ fn calls_when_asked<K: RunName, R: Wait + Abort>(
     called.store(1, Ordering::SeqCst);
 }
 
+/// What the workers did, who had to boot every slave.
+fn booted_by<B: Bus, K: RunName>(
+    boot: Result<Booted<B, K>, RunFault<B, K>>,
+) -> Result<Booted<B, K>, Fail> {
+    match boot {
+        Ok(booted) => Ok(booted),
+        Err(_) => Err(Fail::from("boot_all")),
+    }
+}
+
 /// Boots node 2 in another thread, while the operator calls.
 fn boots_beside<'a, K: RunName + Send + Sync, R: Wait + Threads + Abort + Send + Sync>(
     rt: &R,
@@ -66,11 +77,25 @@ fn boots_beside<'a, K: RunName + Send + Sync, R: Wait + Threads + Abort + Send +
             return Err(Fail::from("thread"));
         };
         calls_when_asked(rt, register, operator, story, asked, called);
-        let Ok(booted) = boot.join(rt) else {
-            return Err(Fail::from("boot_all"));
-        };
-        Ok(booted)
+        booted_by(boot.join(rt))
     })
+}
+
+/// The operator calls while the worker asks node 2; the worker's seat comes back.
+fn boot_while_called<K: RunName + Send + Sync, R: Wait + Threads + Abort + Send + Sync>(
+    rt: &R,
+    alloc: Global,
+    register: &Register<SimWire, K>,
+    seats: Vec<Seat<K>>,
+    operator: &mut Seat<K>,
+    story: &Story,
+) -> Result<Vec<Seat<K>>, Fail> {
+    let asked = AtomicUsize::new(0);
+    let called = AtomicUsize::new(0);
+    let booted = boots_beside(rt, alloc, register, seats, operator, story, &asked, &called)?;
+    let wanted = outcome(rt, 2, story.attempts, story.last);
+    sure(rt, booted.outcomes.as_slice() == [wanted].as_slice());
+    Ok(booted.seats)
 }
 
 /// The operator starts the network, and calls while the worker asks node 2.
@@ -83,21 +108,8 @@ fn tells<K: RunName + Send + Sync, R: Wait + Threads + Abort + Send + Sync>(
     requires { Names K.RunName opened }
 {
     let (register, seats, mut operator) = started::<K, _>(rt, opened)?;
-    let asked = AtomicUsize::new(0);
-    let called = AtomicUsize::new(0);
-    let booted = boots_beside(
-        rt,
-        alloc,
-        &register,
-        seats,
-        &mut operator,
-        story,
-        &asked,
-        &called,
-    )?;
-    let wanted = outcome(rt, 2, story.attempts, story.last);
-    sure(rt, booted.outcomes.as_slice() == [wanted].as_slice());
-    let closed = close_with(register, booted.seats, operator)?;
+    let seats = boot_while_called(rt, alloc, &register, seats, &mut operator, story)?;
+    let closed = close_with(register, seats, operator)?;
     sure(rt, closed.history.len() == story.entries);
     sure(rt, closed.manager.begun() == story.sessions);
     Ok(())

@@ -8,9 +8,9 @@ use crate::support::{
 };
 use cm_history::{Call, Phase, Reply};
 use cm_nmt::{NmtState, Status};
-use cm_register::{CallFault, Closed, Opened, RunName};
-use cm_run::{Last, Outcome, boot_all};
-use cm_simulated::SimWire;
+use cm_register::{CallFault, Closed, Opened, Register, RunName, Seat};
+use cm_run::{Booted, Last, Outcome, boot_all};
+use cm_simulated::{SimBus, SimWire};
 use std::alloc::Global;
 use std::marker::Brand;
 use std::process::Abort;
@@ -29,6 +29,57 @@ struct Then {
     reply: Reply,
 }
 
+/// Boots every slave by the workers of these seats and buses.
+fn boot<K: RunName + Send + Sync, R: Wait + Threads + Abort + Send + Sync>(
+    rt: &R,
+    alloc: Global,
+    register: &Register<SimWire, K>,
+    seats: Vec<Seat<K>>,
+    buses: Vec<SimBus>,
+    attempts: u8,
+) -> Result<Booted<SimBus, K>, Fail> {
+    match boot_all(rt, alloc, register, seats, buses, attempts) {
+        Ok(booted) => Ok(booted),
+        Err(_) => Err(Fail::from("boot_all")),
+    }
+}
+
+/// Asserts that the seats are those of the workers, in their order.
+fn are_in_order<K: RunName>(rt: &impl Abort, seats: &[Seat<K>]) {
+    for (place, seat) in seats.iter().enumerate() {
+        sure(rt, usize::from(seat.number()) == place + 1);
+    }
+}
+
+/// Boots every slave, with these outcomes; the seats come back in their order.
+fn boot_with<K: RunName + Send + Sync, R: Wait + Threads + Abort + Send + Sync>(
+    rt: &R,
+    alloc: Global,
+    register: &Register<SimWire, K>,
+    seats: Vec<Seat<K>>,
+    attempts: u8,
+    outcomes: &[Outcome],
+) -> Result<Vec<Seat<K>>, Fail> {
+    let buses = agreeing(alloc, register.network(), seats.len())?;
+    let booted = boot(rt, alloc, register, seats, buses, attempts)?;
+    sure(rt, booted.outcomes.as_slice() == outcomes);
+    are_in_order(rt, booted.seats.as_slice());
+    Ok(booted.seats)
+}
+
+/// Makes the operator's call behind the boot, if there is one.
+fn call_then<K: RunName, R: Wait + Abort>(
+    rt: &R,
+    register: &Register<SimWire, K>,
+    operator: &mut Seat<K>,
+    then: Option<Then>,
+) {
+    if let Some(then) = then {
+        let made = register.call(rt, operator, then.call);
+        is_made(rt, made, then.position, then.reply);
+    }
+}
+
 /// The operator starts the network, the workers boot it, with these outcomes; the seats come back in
 /// their order, the operator calls once more, if it is to, and the register closes with all of them.
 fn boots<K: RunName + Send + Sync, R: Wait + Threads + Abort + Send + Sync>(
@@ -42,19 +93,9 @@ fn boots<K: RunName + Send + Sync, R: Wait + Threads + Abort + Send + Sync>(
     requires { Names K.RunName opened }
 {
     let (register, seats, mut operator) = started::<K, _>(rt, opened)?;
-    let buses = agreeing(alloc, register.network(), seats.len())?;
-    let Ok(booted) = boot_all(rt, alloc, &register, seats, buses, attempts) else {
-        return Err(Fail::from("boot_all"));
-    };
-    sure(rt, booted.outcomes.as_slice() == outcomes);
-    for (place, seat) in booted.seats.iter().enumerate() {
-        sure(rt, usize::from(seat.number()) == place + 1);
-    }
-    if let Some(then) = then {
-        let made = register.call(rt, &mut operator, then.call);
-        is_made(rt, made, then.position, then.reply);
-    }
-    close_with(register, booted.seats, operator)
+    let seats = boot_with(rt, alloc, &register, seats, attempts, outcomes)?;
+    call_then(rt, &register, &mut operator, then);
+    close_with(register, seats, operator)
 }
 
 /// Asserts how many entries there are, which frames were sent, and how the network ended.
@@ -86,17 +127,31 @@ fn two_workers_boot_two_slaves(rt: HostRuntime) -> Result<(), Fail> {
     Ok(())
 }
 
+/// Slaves at each node but the manager's.
+fn all_slaves(alloc: Global) -> Result<Vec<(u8, u32)>, Fail> {
+    let mut slaves = Vec::new(alloc);
+    for number in 1..127 {
+        slaves.push((number, 0x0D))?;
+    }
+    Ok(slaves)
+}
+
+/// What a boot of all of them comes to.
+fn all_booted(rt: &impl Abort, alloc: Global) -> Result<Vec<Outcome>, Fail> {
+    let mut outcomes = Vec::new(alloc);
+    for number in 1..127 {
+        outcomes.push(outcome(rt, number, 1, BOOTED))?;
+    }
+    Ok(outcomes)
+}
+
 /// A history with room for more entries than a journal of version 1.
 #[test]
 fn four_workers_boot_126_slaves(rt: HostRuntime) -> Result<(), Fail> {
-    let mut slaves = Vec::new(rt.alloc());
-    let mut outcomes = Vec::new(rt.alloc());
-    for number in 1..127_u8 {
-        slaves.push((number, 0x0D))?;
-        outcomes.push(outcome(&rt, number, 1, BOOTED))?;
-    }
+    let slaves = all_slaves(rt.alloc())?;
     let net = network(&rt, rt.alloc(), 127, slaves.as_slice());
     let opened = open(rt.alloc(), &net, 5, 70_000, 200)?;
+    let outcomes = all_booted(&rt, rt.alloc())?;
     let closed = boots::<Brand, _>(&rt, rt.alloc(), opened, 1, outcomes.as_slice(), None)?;
     sure(&rt, closed.history.len() == 253);
     sure(&rt, closed.wire.sent().len() == 127);
@@ -158,8 +213,37 @@ fn a_full_history_ends_each_round(rt: HostRuntime) -> Result<(), Fail> {
     Ok(())
 }
 
+/// Slave 1 is lost, by call 6.
+fn lose_one<K: RunName, R: Wait + Abort>(
+    rt: &R,
+    register: &Register<SimWire, K>,
+    operator: &mut Seat<K>,
+) {
+    let lost = register.call(rt, operator, Call::Lost(node(rt, 1)));
+    is_made(rt, lost, 6, Reply::Handled);
+}
+
 /// Boots two slaves, of which the first is lost, and then again, with the seats and buses that came
 /// back: the first is booted, the other was booted already.
+fn boot_twice<K: RunName + Send + Sync, R: Wait + Threads + Abort + Send + Sync>(
+    rt: &R,
+    alloc: Global,
+    register: &Register<SimWire, K>,
+    seats: Vec<Seat<K>>,
+    operator: &mut Seat<K>,
+) -> Result<Vec<Seat<K>>, Fail> {
+    let buses = agreeing(alloc, register.network(), seats.len())?;
+    let booted = boot(rt, alloc, register, seats, buses, 1)?;
+    lose_one(rt, register, operator);
+    let again = boot(rt, alloc, register, booted.seats, booted.buses, 1)?;
+    let outcomes = [
+        outcome(rt, 1, 1, BOOTED),
+        outcome(rt, 2, 1, Last::Refused(6)),
+    ];
+    sure(rt, again.outcomes.as_slice() == outcomes.as_slice());
+    Ok(again.seats)
+}
+
 fn boots_again<K: RunName + Send + Sync, R: Wait + Threads + Abort + Send + Sync>(
     rt: &R,
     alloc: Global,
@@ -168,21 +252,8 @@ fn boots_again<K: RunName + Send + Sync, R: Wait + Threads + Abort + Send + Sync
     requires { Names K.RunName opened }
 {
     let (register, seats, mut operator) = started::<K, _>(rt, opened)?;
-    let buses = agreeing(alloc, register.network(), seats.len())?;
-    let Ok(booted) = boot_all(rt, alloc, &register, seats, buses, 1) else {
-        return Err(Fail::from("boot_all"));
-    };
-    let lost = register.call(rt, &mut operator, Call::Lost(node(rt, 1)));
-    is_made(rt, lost, 6, Reply::Handled);
-    let Ok(again) = boot_all(rt, alloc, &register, booted.seats, booted.buses, 1) else {
-        return Err(Fail::from("boot_all again"));
-    };
-    let outcomes = [
-        outcome(rt, 1, 1, BOOTED),
-        outcome(rt, 2, 1, Last::Refused(6)),
-    ];
-    sure(rt, again.outcomes.as_slice() == outcomes.as_slice());
-    let closed = close_with(register, again.seats, operator)?;
+    let seats = boot_twice(rt, alloc, &register, seats, &mut operator)?;
+    let closed = close_with(register, seats, operator)?;
     sure(rt, closed.history.len() == 9);
     Ok(())
 }

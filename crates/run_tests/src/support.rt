@@ -151,10 +151,7 @@ pub(crate) fn is_made(
     position: u32,
     reply: Reply,
 ) {
-    match made {
-        Ok(receipt) => sure(rt, receipt == Receipt { position, reply }),
-        Err(fault) => panic!(rt; "{fault}"),
-    }
+    sure(rt, made == Ok(Receipt { position, reply }));
 }
 
 /// Whether the count comes to this many in time.
