@@ -2,7 +2,7 @@
 
 ghost use Rattle.cm_register.specs.Naming.{Names};
 
-use crate::support::{close, named, network, stop_the_slave, sure};
+use crate::support::{close, network, stop_the_slave, sure};
 use cm_nmt::Frame;
 use cm_register::{Opened, Register, RunName, Seat, Seen, Wire};
 use cm_simulated::SimWire;
@@ -80,27 +80,6 @@ fn read_while_held<K: RunName>(rt: &impl Abort, seat: &mut Seat<K>, counts: &Cou
 }
 
 /// Seat 1 calls, and each other seat reads, all at once.
-fn read_beside_a_held_frame<K: RunName + Send + Sync, R: Wait + Threads + Abort + Send + Sync>(
-    rt: &R,
-    register: &Register<HoldingWire, K>,
-    seats: &mut [Seat<K>],
-    counts: &Counts,
-) {
-    sure(rt, seats.len() == READERS + 1);
-    thread::for_each_mut(
-        rt,
-        seats,
-        READERS + 1,
-        &|place, seat| {
-            if place == 0 {
-                stop_the_slave(rt, register, seat);
-            } else {
-                read_while_held(rt, seat, counts);
-            }
-        },
-    );
-}
-
 fn reads_beside_a_held_frame<K: RunName + Send + Sync, R: Wait + Threads + Abort + Send + Sync>(
     rt: &R,
     opened: Opened<HoldingWire>,
@@ -108,8 +87,22 @@ fn reads_beside_a_held_frame<K: RunName + Send + Sync, R: Wait + Threads + Abort
 ) -> Result<(), Fail>
     requires { Names K.RunName opened }
 {
-    let (register, mut seats) = named::<_, K>(opened)?;
-    read_beside_a_held_frame(rt, &register, seats.as_mut_slice(), counts);
+    let Ok((register, mut seats)) = opened.named::<K>() else {
+        return Err(Fail::from("named"));
+    };
+    sure(rt, seats.len() == READERS + 1);
+    thread::for_each_mut(
+        rt,
+        seats.as_mut_slice(),
+        READERS + 1,
+        &|place, seat| {
+            if place == 0 {
+                stop_the_slave(rt, &register, seat);
+            } else {
+                read_while_held(rt, seat, counts);
+            }
+        },
+    );
     let closed = close(register, seats)?;
     sure(rt, closed.wire.were_read);
     sure(rt, closed.wire.wire.sent().len() == 2);

@@ -2,12 +2,10 @@
 
 ghost use Rattle.cm_register.specs.Naming.{Names};
 
-use crate::support::{
-    answers, entry, frame, has_entries, is_made, is_refused, network, node, sure,
-};
+use crate::support::{answers, entry, frame, is_made, is_refused, network, node, sure};
 use cm_history::{Call, Entry, Orders, Phase, Reply};
 use cm_nmt::{Frame, NmtState, Status};
-use cm_register::{Book, CallFault, CloseKind, Closed, Opened, RunName, Seat};
+use cm_register::{Book, CallFault, CloseKind, Opened, RunName, Seat};
 use cm_simulated::SimWire;
 use std::alloc::Global;
 use std::marker::Brand;
@@ -39,11 +37,13 @@ fn one_slave_boots(rt: HostRuntime) -> Result<(), Fail> {
     boots::<Brand, _>(&rt, rt.alloc(), opened)
 }
 
-/// The entries of a boot of slave 2 by seat 1.
-fn boot_of_two(rt: &impl Abort) -> [Entry; 3] {
+fn boots<K: RunName, R: Abort>(rt: &R, alloc: Global, opened: Opened<SimWire>) -> Result<(), Fail>
+    requires { Names K.RunName opened }
+{
     let two = node(rt, 2);
+    let (mut book, mut seat) = open::<K>(opened)?;
     let started = Orders::One(frame(rt, [0x01, 2]));
-    [
+    let entries = [
         entry(1, Call::StartNetwork, Reply::Started, Orders::ResetUnkept),
         entry(1, Call::Begin(two), Reply::Begun(1), Orders::None),
         entry(
@@ -52,32 +52,15 @@ fn boot_of_two(rt: &impl Abort) -> [Entry; 3] {
             Reply::Reported(Status::Ok),
             started,
         ),
-    ]
-}
-
-/// Makes the calls of these entries, and finds slave 2 started.
-fn boot<K: RunName>(
-    rt: &impl Abort,
-    book: &mut Book<SimWire, K>,
-    seat: &mut Seat<K>,
-    entries: &[Entry],
-) {
+    ];
     for (position, entry) in (1..4).zip(entries.iter()) {
-        let made = book.apply(seat, entry.call);
+        let made = book.apply(&mut seat, entry.call);
         is_made(rt, made, position, entry.reply);
     }
-    sure(rt, book.history() == entries);
+    sure(rt, book.history() == entries.as_slice());
     sure(rt, book.manager().phase() == Phase::Ready);
     sure(rt, book.manager().own() == NmtState::Operational);
-    sure(rt, book.manager().state(node(rt, 2)) == 5);
-}
-
-fn boots<K: RunName, R: Abort>(rt: &R, alloc: Global, opened: Opened<SimWire>) -> Result<(), Fail>
-    requires { Names K.RunName opened }
-{
-    let (mut book, mut seat) = open::<K>(opened)?;
-    let entries = boot_of_two(rt);
-    boot(rt, &mut book, &mut seat, &entries);
+    sure(rt, book.manager().state(two) == 5);
     let frames = [frame(rt, [0x82, 0]), frame(rt, [0x01, 2])];
     closes_with_its_seat_alone(rt, alloc, book, seat, &entries, &frames)
 }
@@ -92,21 +75,6 @@ fn a_full_wire_refuses_a_call(rt: HostRuntime) -> Result<(), Fail> {
     lacks_room::<Brand, _>(&rt, rt.alloc(), opened)
 }
 
-/// A start finds no room on the wire, and a read needs none.
-fn call_without_room<K: RunName>(
-    rt: &impl Abort,
-    book: &mut Book<SimWire, K>,
-    seat: &mut Seat<K>,
-    entries: &[Entry],
-) {
-    let start = book.apply(seat, Call::StartNetwork);
-    is_refused(rt, start, CallFault::WireFull);
-    sure(rt, seat.list().is_empty() && book.history().is_empty());
-    let read = book.apply(seat, Call::Read(2));
-    is_made(rt, read, 1, Reply::Refused(3));
-    sure(rt, book.history() == entries);
-}
-
 fn lacks_room<K: RunName, R: Abort>(
     rt: &R,
     alloc: Global,
@@ -115,8 +83,17 @@ fn lacks_room<K: RunName, R: Abort>(
     requires { Names K.RunName opened }
 {
     let (mut book, mut seat) = open::<K>(opened)?;
+    let start = book.apply(&mut seat, Call::StartNetwork);
+    is_refused(rt, start, CallFault::WireFull);
+    sure(rt, seat.list().is_empty() && book.history().is_empty());
+    is_made(
+        rt,
+        book.apply(&mut seat, Call::Read(2)),
+        1,
+        Reply::Refused(3),
+    );
     let entries = [entry(1, Call::Read(2), Reply::Refused(3), Orders::None)];
-    call_without_room(rt, &mut book, &mut seat, &entries);
+    sure(rt, book.history() == entries.as_slice());
     closes_with_its_seat_alone(rt, alloc, book, seat, &entries, &[])
 }
 
@@ -135,19 +112,6 @@ fn lacks_its_seat<'n, K: RunName>(
     }
 }
 
-/// What a book leaves that closes with these seats, and this one more.
-fn close_with<'n, K: RunName>(
-    book: Book<'n, SimWire, K>,
-    mut seats: Vec<Seat<K>>,
-    seat: Seat<K>,
-) -> Result<Closed<SimWire>, Fail> {
-    seats.push(seat)?;
-    match book.close(seats) {
-        Ok(closed) => Ok(closed),
-        Err(_) => Err(Fail::from("not closed")),
-    }
-}
-
 /// A book stays open where its seat is missing, and is closed with it: these are its entries, and the
 /// frames sent.
 fn closes_with_its_seat_alone<K: RunName>(
@@ -158,9 +122,12 @@ fn closes_with_its_seat_alone<K: RunName>(
     entries: &[Entry],
     frames: &[Frame],
 ) -> Result<(), Fail> {
-    let (book, seats) = lacks_its_seat(rt, book, Vec::new(alloc))?;
-    let closed = close_with(book, seats, seat)?;
-    has_entries(rt, &closed, entries);
+    let (book, mut seats) = lacks_its_seat(rt, book, Vec::new(alloc))?;
+    seats.push(seat)?;
+    let Ok(closed) = book.close(seats) else {
+        return Err(Fail::from("not closed"));
+    };
+    sure(rt, closed.history.as_slice() == entries);
     sure(rt, closed.wire.sent() == frames);
     Ok(())
 }

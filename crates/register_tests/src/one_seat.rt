@@ -2,7 +2,7 @@
 
 ghost use Rattle.cm_register.specs.Naming.{Names};
 
-use crate::support::{close, is_made, is_refused, named, network, open, sees, sure};
+use crate::support::{close, is_made, is_refused, network, open, sees, sure};
 use cm_history::{Call, Reply};
 use cm_register::{CallFault, Opened, Register, RunName, Seat};
 use cm_simulated::SimWire;
@@ -31,33 +31,26 @@ fn calls_up_to<K: RunName, R: Wait + Abort>(
     sees(rt, seat, 1, last, 127);
 }
 
-/// Fills the history; no call is made then.
-fn fill<K: RunName, R: Wait + Abort>(
-    rt: &R,
-    register: &Register<SimWire, K>,
-    seats: &mut [Seat<K>],
-) {
-    let [seat] = seats else {
-        return sure(rt, false);
-    };
-    calls_up_to(rt, register, seat, 1, MANY);
-    calls_up_to(rt, register, seat, MANY + 1, LIMIT);
-    let more = register.call(rt, seat, Call::Read(1));
-    is_refused(rt, more, CallFault::JournalFull);
-}
-
 /// Fills the history and closes the register.
 fn fills<K: RunName, R: Wait + Abort>(rt: &R, opened: Opened<SimWire>) -> Result<(), Fail>
     requires { Names K.RunName opened }
 {
-    let (register, mut seats) = named::<_, K>(opened)?;
-    fill(rt, &register, seats.as_mut_slice());
+    let Ok((register, mut seats)) = opened.named::<K>() else {
+        return Err(Fail::from("named"));
+    };
+    let [seat] = seats.as_mut_slice() else {
+        return Err(Fail::from("seats"));
+    };
+    calls_up_to(rt, &register, seat, 1, MANY);
+    calls_up_to(rt, &register, seat, MANY + 1, LIMIT);
+    let more = register.call(rt, seat, Call::Read(1));
+    is_refused(rt, more, CallFault::JournalFull);
     let closed = close(register, seats)?;
     sure(rt, closed.history.len() == LIMIT as usize);
-    match closed.lists.as_slice() {
-        [list] => sure(rt, list.made.len() == LIMIT as usize),
-        _ => sure(rt, false),
-    }
+    let [list] = closed.lists.as_slice() else {
+        return Err(Fail::from("lists"));
+    };
+    sure(rt, list.made.len() == LIMIT as usize);
     Ok(())
 }
 

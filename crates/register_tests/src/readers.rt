@@ -2,7 +2,7 @@
 
 ghost use Rattle.cm_register.specs.Naming.{Names};
 
-use crate::support::{close, named, network, node, open, sure};
+use crate::support::{close, network, node, open, sure};
 use cm_history::{Call, Entry};
 use cm_netlist::Network;
 use cm_nmt::NodeId;
@@ -181,36 +181,7 @@ fn shown_after_each(
     Ok(shown)
 }
 
-/// All members work at once.
-fn work_at_once<K: RunName + Send + Sync, R: Wait + Threads + Abort + Send + Sync>(
-    rt: &R,
-    register: &Register<SimWire, K>,
-    members: &mut [Member<K>],
-) {
-    let callers = AtomicU32::new(u32::from(CALLERS));
-    thread::for_each_mut(
-        rt,
-        members,
-        usize::from(SEATS),
-        &|_, member| { member.work(rt, register, &callers) },
-    );
-}
-
-/// Each watch is compared with the history.
-fn are_replayed(
-    rt: &impl Abort,
-    alloc: Global,
-    net: &Network,
-    history: &[Entry],
-    watches: &[Watch],
-) -> Result<(), Fail> {
-    sure(rt, history.len() == LIMIT as usize);
-    for watch in watches {
-        watch.is_replayed(rt, alloc, net, history)?;
-    }
-    Ok(())
-}
-
+/// All members work at once; then each watch is compared with the history.
 fn works<K: RunName + Send + Sync, R: Wait + Threads + Abort + Send + Sync>(
     rt: &R,
     alloc: Global,
@@ -219,18 +190,24 @@ fn works<K: RunName + Send + Sync, R: Wait + Threads + Abort + Send + Sync>(
     requires { Names K.RunName opened }
 {
     let net = opened.net;
-    let (register, seats) = named::<_, K>(opened)?;
+    let Ok((register, seats)) = opened.named::<K>() else {
+        return Err(Fail::from("named"));
+    };
     let mut members = members_of(rt, alloc, seats)?;
-    work_at_once(rt, &register, members.as_mut_slice());
+    let callers = AtomicU32::new(u32::from(CALLERS));
+    thread::for_each_mut(
+        rt,
+        members.as_mut_slice(),
+        usize::from(SEATS),
+        &|_, member| { member.work(rt, &register, &callers) },
+    );
     let (seats, watches) = parted(alloc, members)?;
     let closed = close(register, seats)?;
-    are_replayed(
-        rt,
-        alloc,
-        net,
-        closed.history.as_slice(),
-        watches.as_slice(),
-    )
+    sure(rt, closed.history.len() == LIMIT as usize);
+    for watch in watches.iter() {
+        watch.is_replayed(rt, alloc, net, closed.history.as_slice())?;
+    }
+    Ok(())
 }
 
 /// Opens a register, at which all members work.

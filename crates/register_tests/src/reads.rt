@@ -2,7 +2,7 @@
 
 ghost use Rattle.cm_register.specs.Naming.{Names};
 
-use crate::support::{answers, named, network, node, open, sure};
+use crate::support::{answers, network, node, open, sure};
 use cm_history::{Call, Reply};
 use cm_register::{Opened, Register, RunName, Seat};
 use cm_simulated::SimWire;
@@ -48,11 +48,18 @@ fn refuses_targets<K: RunName, R: Wait + Abort>(
 }
 
 /// Makes the ten calls, of which none is refused; node 5 is read as stopped where it is held.
-fn read_after_each<K: RunName, R: Wait + Abort>(
+fn reads_after_each<K: RunName, R: Wait + Abort>(
     rt: &R,
-    register: &Register<SimWire, K>,
-    seat: &mut Seat<K>,
-) {
+    opened: Opened<SimWire>,
+) -> Result<(), Fail>
+    requires { Names K.RunName opened }
+{
+    let Ok((register, mut seats)) = opened.named::<K>() else {
+        return Err(Fail::from("named"));
+    };
+    let Some(mut seat) = seats.pop() else {
+        return Err(Fail::from("seat"));
+    };
     let five = node(rt, 5);
     for call in [
         Call::StartNetwork,
@@ -66,25 +73,12 @@ fn read_after_each<K: RunName, R: Wait + Abort>(
         Call::Hold(five),
         Call::Release(five),
     ] {
-        let made = register.call(rt, seat, call);
+        let made = register.call(rt, &mut seat, call);
         sure(rt, made.is_ok_and(|receipt| receipt.reply.is_granted()));
-        reads_as_calls(rt, register, seat);
+        reads_as_calls(rt, &register, &mut seat);
     }
-    refuses_targets(rt, register, seat);
+    refuses_targets(rt, &register, &mut seat);
     sure(rt, seat.read(5).is_ok_and(|seen| seen.state == 4));
-}
-
-fn reads_after_each<K: RunName, R: Wait + Abort>(
-    rt: &R,
-    opened: Opened<SimWire>,
-) -> Result<(), Fail>
-    requires { Names K.RunName opened }
-{
-    let (register, mut seats) = named::<_, K>(opened)?;
-    match seats.as_mut_slice() {
-        [seat] => read_after_each(rt, &register, seat),
-        _ => sure(rt, false),
-    }
     Ok(())
 }
 

@@ -2,7 +2,7 @@
 
 ghost use Rattle.cm_register.specs.Naming.{Names};
 
-use crate::support::{close, is_made, named, network, open, sees, stop_the_slave, sure};
+use crate::support::{close, is_made, network, open, sees, stop_the_slave, sure};
 use cm_history::{Call, Reply};
 use cm_register::{Opened, ReadFault, Register, RunName, Seat};
 use cm_simulated::SimWire;
@@ -47,31 +47,30 @@ fn read_stopped<K: RunName>(rt: &impl Abort, seat: &mut Seat<K>) {
     }
 }
 
-/// Seat 2 reads by calls, and seat 1 without.
-fn read_side_by_side<K: RunName + Send + Sync, R: Wait + Threads + Abort + Send + Sync>(
-    rt: &R,
-    register: &Register<SimWire, K>,
-    seats: &mut [Seat<K>],
-) {
-    let [first, second] = seats else {
-        return sure(rt, false);
-    };
-    stop_the_slave(rt, register, first);
-    thread::join(
-        rt,
-        || read_by_calls(rt, register, &mut *second),
-        || read_stopped(rt, &mut *first),
-    );
-}
-
 fn reads_beside_calls<K: RunName + Send + Sync, R: Wait + Threads + Abort + Send + Sync>(
     rt: &R,
     opened: Opened<SimWire>,
 ) -> Result<(), Fail>
     requires { Names K.RunName opened }
 {
-    let (register, mut seats) = named::<_, K>(opened)?;
-    read_side_by_side(rt, &register, seats.as_mut_slice());
+    let Ok((register, mut seats)) = opened.named::<K>() else {
+        return Err(Fail::from("named"));
+    };
+    let Some(mut second) = seats.pop() else {
+        return Err(Fail::from("seats"));
+    };
+    let Some(mut first) = seats.pop() else {
+        return Err(Fail::from("seats"));
+    };
+    stop_the_slave(rt, &register, &mut first);
+    let shared = &register;
+    thread::join(
+        rt,
+        || read_by_calls(rt, shared, &mut second),
+        || read_stopped(rt, &mut first),
+    );
+    seats.push(first)?;
+    seats.push(second)?;
     let closed = close(register, seats)?;
     sure(rt, closed.history.len() == READS as usize + 2);
     Ok(())
@@ -94,27 +93,21 @@ fn shows_no_call<K: RunName>(rt: &impl Abort, seat: &mut Seat<K>) {
 }
 
 /// One seat reads before any call; after its calls every seat sees them.
-fn each_sees_the_calls<K: RunName, R: Wait + Abort>(
-    rt: &R,
-    register: &Register<SimWire, K>,
-    seats: &mut [Seat<K>],
-) {
-    let [.., last] = seats else {
-        return sure(rt, false);
-    };
-    shows_no_call(rt, last);
-    stop_the_slave(rt, register, last);
-    for seat in seats.iter_mut() {
-        sees(rt, seat, 5, 2, 4);
-    }
-}
-
 fn each_reads<K: RunName, R: Wait + Abort>(rt: &R, opened: Opened<SimWire>) -> Result<(), Fail>
     requires { Names K.RunName opened }
 {
-    let (register, mut seats) = named::<_, K>(opened)?;
+    let Ok((register, mut seats)) = opened.named::<K>() else {
+        return Err(Fail::from("named"));
+    };
     sure(rt, seats.len() == 64);
-    each_sees_the_calls(rt, &register, seats.as_mut_slice());
+    let Some(last) = seats.last_mut() else {
+        return Err(Fail::from("seats"));
+    };
+    shows_no_call(rt, last);
+    stop_the_slave(rt, &register, last);
+    for seat in seats.iter_mut() {
+        sees(rt, seat, 5, 2, 4);
+    }
     let closed = close(register, seats)?;
     sure(rt, closed.history.len() == 2);
     Ok(())
@@ -133,7 +126,9 @@ fn reads_no_version<K: RunName, R: Wait + Abort>(
 ) -> Result<(), Fail>
     requires { Names K.RunName opened }
 {
-    let (register, mut seats) = named::<_, K>(opened)?;
+    let Ok((register, mut seats)) = opened.named::<K>() else {
+        return Err(Fail::from("named"));
+    };
     let [seat] = seats.as_mut_slice() else {
         return Err(Fail::from("seats"));
     };
@@ -172,31 +167,28 @@ fn read_two<K: RunName>(rt: &impl Abort, seat: &mut Seat<K>) {
     }
 }
 
-/// Seat 2 calls, and seat 1 reads.
-fn read_beside_changes<K: RunName + Send + Sync, R: Wait + Threads + Abort + Send + Sync>(
-    rt: &R,
-    register: &Register<SimWire, K>,
-    seats: &mut [Seat<K>],
-) {
-    let [first, second] = seats else {
-        return sure(rt, false);
-    };
-    stop_the_slave(rt, register, first);
-    thread::join(
-        rt,
-        || change_by_calls(rt, register, &mut *second),
-        || read_two(rt, &mut *first),
-    );
-}
-
 fn reads_two_beside_calls<K: RunName + Send + Sync, R: Wait + Threads + Abort + Send + Sync>(
     rt: &R,
     opened: Opened<SimWire>,
 ) -> Result<(), Fail>
     requires { Names K.RunName opened }
 {
-    let (register, mut seats) = named::<_, K>(opened)?;
-    read_beside_changes(rt, &register, seats.as_mut_slice());
+    let Ok((register, mut seats)) = opened.named::<K>() else {
+        return Err(Fail::from("named"));
+    };
+    let Some(mut second) = seats.pop() else {
+        return Err(Fail::from("seats"));
+    };
+    let Some(mut first) = seats.pop() else {
+        return Err(Fail::from("seats"));
+    };
+    stop_the_slave(rt, &register, &mut first);
+    let shared = &register;
+    thread::join(
+        rt,
+        || change_by_calls(rt, shared, &mut second),
+        || read_two(rt, &mut first),
+    );
     Ok(())
 }
 

@@ -1,7 +1,5 @@
 //! What the tests of several topics call and assert.
 
-ghost use Rattle.cm_register.specs.Naming.{Names};
-
 use arrayvec::ArrayVec;
 use cm_history::{Call, Entry, Orders, Reply};
 use cm_netlist::{Network, SlaveEntry};
@@ -89,18 +87,6 @@ pub(crate) fn open<'n>(
     Ok(opened)
 }
 
-/// The register that was opened, under this name, and its seats.
-pub(crate) fn named<'n, W: Wire, K: RunName>(
-    opened: Opened<'n, W>,
-) -> Result<(Register<'n, W, K>, Vec<Seat<K>>), Fail>
-    requires { Names K.RunName opened }
-{
-    let Ok(named) = opened.named::<K>() else {
-        return Err(Fail::from("named"));
-    };
-    Ok(named)
-}
-
 /// What a register leaves that closes with these seats.
 pub(crate) fn close<W: Wire, K: RunName>(
     register: Register<W, K>,
@@ -112,11 +98,6 @@ pub(crate) fn close<W: Wire, K: RunName>(
     Ok(closed)
 }
 
-/// Asserts that these are the entries of a register that was closed.
-pub(crate) fn has_entries<W: Wire>(rt: &impl Abort, closed: &Closed<W>, entries: &[Entry]) {
-    sure(rt, closed.history.as_slice() == entries);
-}
-
 /// Asserts that a call was made, with this place and this reply.
 pub(crate) fn is_made(
     rt: &impl Abort,
@@ -124,7 +105,10 @@ pub(crate) fn is_made(
     position: u32,
     reply: Reply,
 ) {
-    sure(rt, made == Ok(Receipt { position, reply }));
+    match made {
+        Ok(receipt) => sure(rt, receipt == Receipt { position, reply }),
+        Err(fault) => panic!(rt; "{fault}"),
+    }
 }
 
 /// Asserts that a call wasn't made, for this reason.

@@ -2,7 +2,7 @@
 
 ghost use Rattle.cm_register.specs.Naming.{Names};
 
-use crate::support::{close, is_refused, lacks_seats, named, network, open, sure};
+use crate::support::{close, is_refused, lacks_seats, network, open, sure};
 use cm_history::{Call, Reply};
 use cm_register::{CallFault, Closed, Opened, Register, RunName, Seat, SeatList};
 use cm_simulated::SimWire;
@@ -119,7 +119,9 @@ fn reads<K: RunName + Send + Sync, R: Wait + Threads + Abort + Send + Sync>(
 ) -> Result<(), Fail>
     requires { Names K.RunName opened }
 {
-    let (register, seats) = named::<_, K>(opened)?;
+    let Ok((register, seats)) = opened.named::<K>() else {
+        return Err(Fail::from("named"));
+    };
     let mut seats = read_in_threads(rt, alloc, &register, seats)?;
     sure(rt, seats.len() == 3);
     is_full(rt, &register, seats.as_mut_slice());
