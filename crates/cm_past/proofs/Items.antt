@@ -21,6 +21,7 @@ pub entries_more : (xs ys : List LogItem) → entries_in (xs ++ ys) ≡ entries_
 entries_more [] ys = refl
 entries_more (item.Opened n ∷ xs) ys = entries_more xs ys
 entries_more (item.Entry e ∷ xs) ys = ap (λ (w : List Entry). e ∷ w) (entries_more xs ys)
+entries_more (item.Unmoved e n ∷ xs) ys = ap (λ (w : List Entry). e ∷ w) (entries_more xs ys)
 entries_more (item.Stored k n ∷ xs) ys = entries_more xs ys
 entries_more (item.Shown n ∷ xs) ys = entries_more xs ys
 
@@ -28,6 +29,7 @@ pub done_more : (xs ys : List LogItem) → done_in (xs ++ ys) ≡ max (done_in x
 done_more [] ys = sym (zero-max (done_in ys))
 done_more (item.Opened n ∷ xs) ys = done_more xs ys
 done_more (item.Entry e ∷ xs) ys = done_more xs ys
+done_more (item.Unmoved e n ∷ xs) ys = ap (max n) (done_more xs ys) ∙ (max_assoc n (done_in xs) (done_in ys))
 done_more (item.Stored k n ∷ xs) ys = done_more xs ys
 done_more (item.Shown n ∷ xs) ys = ap (max n) (done_more xs ys) ∙ (max_assoc n (done_in xs) (done_in ys))
 
@@ -39,6 +41,7 @@ pub since_more : (xs ys : List LogItem) (t : ℕ) → since_in (xs ++ ys) t ≡ 
 since_more [] ys t = sym (zero-max (since_in ys t))
 since_more (item.Opened n ∷ xs) ys t = since_more xs ys t
 since_more (item.Entry e ∷ xs) ys t = since_more xs ys t
+since_more (item.Unmoved e n ∷ xs) ys t = since_more xs ys t
 since_more (item.Stored k n ∷ xs) ys t = stored_more (k == t) n (since_in (xs ++ ys) t) (since_in xs t) (since_in ys t) (since_more xs ys t)
 since_more (item.Shown n ∷ xs) ys t = since_more xs ys t
 

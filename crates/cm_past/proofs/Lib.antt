@@ -1,8 +1,8 @@
 pub mod Prefixes
 pub mod LegalEnds
 mod Items
+mod Refreshing
 mod RowSteps
 mod RowMoves
 mod Showing
-mod Refreshing
 mod Looking

@@ -18,6 +18,8 @@ use Rattle.cm_past.specs.Items.{IsOf, IsSame, done_in, entries_in, shown_at, sin
 use Rattle.cm_past.specs.Row.{Found, HasRow, IsPending, IsRow, IsWord, gone_word, status_word}
 use Rattle.cm_past.proofs.Items.{done_more, entries_count, entries_more, same_later, same_net, shown_same, since_more, take_same}
 use Rattle.cm_past.proofs.LegalEnds.{legal_longer}
+use Rattle.cm_past.proofs.Refreshing.{same_stays, shown_next}
+use Rattle.cm_past.specs.Changes.{IsUnmoved}
 
 -- what a log begins with stays
 of_later : (net : Network) (xs ys : List LogItem) → IsOf net xs → IsPrefix xs ys → IsOf net ys
@@ -30,6 +32,37 @@ status_is net cs log c d is_row found small less = by is_row.status
     by : (cell cs 0 ≡ (status_word (length (entries_in log)) (done_in log), true)) ⊎ (cell cs 0 ≡ (gone_word, true)) → (length (entries_in log) ≡ c) × (done_in log ≡ d)
     by (inl p) = (omega (arith, found, ap (λ (w : Cell). w.0) p, small, less, is_row.right.few, is_row.right.done), omega (arith, found, ap (λ (w : Cell). w.0) p, small, less, is_row.right.few, is_row.right.done))
     by (inr p) = absurd (omega (arith, found, ap (λ (w : Cell). w.0) p, small, less))
+
+-- what is known where an entry was added
+pending_from : (net : Network) (seen log now : List LogItem) (e : Entry) (c : ℕ) → IsOf net seen → c < most_entries → IsPrefix seen log → Found 0 (status_word c c) log
+    → IsPrefix log now → entries_in now ≡ entries_in log ++ e ∷ [] → IsPending (listing net) now c e
+pending_from net seen log now e c of few pre (cs, (n, is_row), found) later entries = record {
+  next = rw (entries, take_at (entries_in log) (e ∷ []) c count.0) (take_all (c + 1) (entries_in log ++ e ∷ []) (omega (arith, length-append (entries_in log) (e ∷ []), count.0)));
+  there = omega (arith, ap length entries, length-append (entries_in log) (e ∷ []), count.0);
+  same = λ t low small. rw net_is (same_later (listing n) log now c t later (omega (arith, count.0)) (rw (← count.1) (is_row.right.same t low small)));
+}
+  where
+    count : (length (entries_in log) ≡ c) × (done_in log ≡ c)
+    count = status_is n cs log c c is_row found (omega (arith, few)) (omega (arith, few))
+
+    net_is : net ≡ n
+    net_is = same_net net n log (of_later net seen log of pre) is_row.of
+
+pub pending_now : (net : Network) (seen log now : List LogItem) (e : Entry) (c : ℕ) → IsOf net seen → c < most_entries → IsPrefix seen log → Found 0 (status_word c c) log
+    → now ≡ log ++ item.Entry e ∷ [] → IsPending (listing net) now c e
+pending_now net seen log now e c of few pre there is =
+    pending_from net seen log now e c of few pre there (item.Entry e ∷ [], sym is) (ap entries_in is ∙ entries_more log (item.Entry e ∷ []))
+
+pub pending_unmoved : (net : Network) (seen log now : List LogItem) (e : Entry) (c : ℕ) → IsOf net seen → c < most_entries → IsPrefix seen log → Found 0 (status_word c c) log
+    → now ≡ log ++ item.Unmoved e (c + 1) ∷ [] → IsPending (listing net) now c e
+pending_unmoved net seen log now e c of few pre there is =
+    pending_from net seen log now e c of few pre there (item.Unmoved e (c + 1) ∷ [], sym is) (ap entries_in is ∙ entries_more log (item.Unmoved e (c + 1) ∷ []))
+
+-- where the first word says so, the words of all nodes are right with so many entries
+pub same_all : (net : Network) (log : List LogItem) (c : ℕ) → IsOf net log → c ≤ most_entries → Found 0 (status_word c c) log
+    → (t : ℕ) → 1 ≤ t → t < 128 → IsSame (listing net) log c t
+same_all net log c of few (cs, (n, is_row), found) t low small =
+    rw (same_net net n log of is_row.of, ← (status_is n cs log c c is_row found few few).1) (is_row.right.same t low small)
 
 -- a row whose words stay, but for one that is set
 module _ (net : Network) (cs : List Cell) (log : List LogItem) (is_row : IsRow net cs log) where
@@ -54,25 +87,27 @@ module _ (net : Network) (cs : List Cell) (log : List LogItem) (is_row : IsRow n
     | inr away ↦ ap (λ (w : Cell). w.1) (at_other k t (n, true) away) ∙ is_row.home t low small
   ]
 
--- an entry is added
-pub adds_entry : (net : Network) (seen : List LogItem) (e : Entry) (c : ℕ) (cs : List Cell) (log : List LogItem)
+-- an entry is added, with which the words are right up to so many
+adds : (net : Network) (seen : List LogItem) (i : LogItem) (e : Entry) (c d : ℕ) (cs : List Cell) (log : List LogItem)
     → IsOf net seen → c ≤ length (entries_in seen) → c < most_entries → IsAnswered (listing net) e (reverse (take c (entries_in seen)))
     → HasRow cs log → IsPrefix seen log → (cell cs 0).0 ≡ status_word c c
-    → HasRow (slice_set cs 0 (status_word (c + 1) c, true)) (log ++ item.Entry e ∷ [])
-adds_entry net seen e c cs log of there few next (n, is_row) pre found = (
+    → entries_in (log ++ i ∷ []) ≡ entries_in log ++ e ∷ [] → done_in (log ++ i ∷ []) ≡ d → d ≤ c + 1
+    → ((t : ℕ) → since_in (log ++ i ∷ []) t ≡ since_in log t) → ((t : ℕ) → 1 ≤ t → t < 128 → IsSame (listing net) (log ++ i ∷ []) d t)
+    → HasRow (slice_set cs 0 (status_word (c + 1) d, true)) (log ++ i ∷ [])
+adds net seen i e c d cs log of there few next (n, is_row) pre found entries dones most since same = (
   n,
   record {
-    of = of_later n log (log ++ item.Entry e ∷ []) is_row.of (item.Entry e ∷ [], refl);
-    long = long_set n cs log is_row 0 (status_word (c + 1) c, true);
-    status = inl (at_set n cs log is_row 0 (status_word (c + 1) c) (omega arith) ∙ ap (λ (k : ℕ). (k, true)) (omega (arith, count, dones)));
-    home = λ t low small. home_later n cs log is_row 0 (status_word (c + 1) c) t (omega arith) low small;
-    words = λ t low small. word_later n cs log is_row (log ++ item.Entry e ∷ []) t (status_word (c + 1) c, true) 0 low small (λ z. absurd (omega (arith, z, low))) (item.Entry e ∷ [], refl) (since t);
+    of = of_later n log (log ++ i ∷ []) is_row.of (i ∷ [], refl);
+    long = long_set n cs log is_row 0 (status_word (c + 1) d, true);
+    status = inl (at_set n cs log is_row 0 (status_word (c + 1) d) (omega arith) ∙ ap (λ (k : ℕ). (k, true)) (omega (arith, count, dones)));
+    home = λ t low small. home_later n cs log is_row 0 (status_word (c + 1) d) t (omega arith) low small;
+    words = λ t low small. word_later n cs log is_row (log ++ i ∷ []) t (status_word (c + 1) d, true) 0 low small (λ z. absurd (omega (arith, z, low))) (i ∷ [], refl) (since t);
     right = record {
       legal = rw entries (legal_longer (listing n) (entries_in log) e is_row.right.legal answered);
       few = omega (arith, count, few);
-      done = omega (arith, count, dones);
+      done = omega (arith, count, dones, most);
       since = λ t low small. omega (arith, since t, is_row.right.since t low small, count, is.0);
-      same = λ t low small. rw (dones ∙ sym is.1) (same_later (listing n) log (log ++ item.Entry e ∷ []) (done_in log) t (item.Entry e ∷ [], refl) is_row.right.done (is_row.right.same t low small));
+      same = λ t low small. rw (dones, ← net_is) (same t low small);
     };
   },
 )
@@ -83,23 +118,52 @@ adds_entry net seen e c cs log of there few next (n, is_row) pre found = (
     net_is : net ≡ n
     net_is = same_net net n log (of_later net seen log of pre) is_row.of
 
-    entries : entries_in (log ++ item.Entry e ∷ []) ≡ entries_in log ++ e ∷ []
-    entries = entries_more log (item.Entry e ∷ [])
-
-    count : length (entries_in (log ++ item.Entry e ∷ [])) ≡ c + 1
+    count : length (entries_in (log ++ i ∷ [])) ≡ c + 1
     count = omega (arith, ap length entries, length-append (entries_in log) (e ∷ []), is.0)
-
-    dones : done_in (log ++ item.Entry e ∷ []) ≡ c
-    dones = done_more log (item.Entry e ∷ []) ∙ omega (arith, is.1)
-
-    since : (t : ℕ) → since_in (log ++ item.Entry e ∷ []) t ≡ since_in log t
-    since t = since_more log (item.Entry e ∷ []) t ∙ omega arith
 
     all : take c (entries_in seen) ≡ entries_in log
     all = take_same seen log c pre there ∙ take_all c (entries_in log) (omega (arith, is.0))
 
     answered : IsAnswered (listing n) e (reverse (entries_in log))
     answered = subst (λ (w : Network). IsAnswered (listing w) e (reverse (entries_in log))) net_is (subst (λ (w : List Entry). IsAnswered (listing net) e (reverse w)) all next)
+
+-- an entry is added, and the words may not be right with it yet
+pub adds_entry : (net : Network) (seen : List LogItem) (e : Entry) (c : ℕ) (cs : List Cell) (log : List LogItem)
+    → IsOf net seen → c ≤ length (entries_in seen) → c < most_entries → IsAnswered (listing net) e (reverse (take c (entries_in seen)))
+    → HasRow cs log → IsPrefix seen log → (cell cs 0).0 ≡ status_word c c
+    → HasRow (slice_set cs 0 (status_word (c + 1) c, true)) (log ++ item.Entry e ∷ [])
+adds_entry net seen e c cs log of there few next row pre found =
+    adds net seen (item.Entry e) e c c cs log of there few next row pre found (entries_more log (item.Entry e ∷ [])) dones (omega arith)
+    (λ t. since_more log (item.Entry e ∷ []) t ∙ omega arith) (pending_now net seen log (log ++ item.Entry e ∷ []) e c of few pre (cs, row, found) refl).same
+  where
+    dones : done_in (log ++ item.Entry e ∷ []) ≡ c
+    dones = done_more log (item.Entry e ∷ []) ∙ omega (arith, (status_is row.0 cs log c c row.1 found (omega (arith, few)) (omega (arith, few))).1)
+
+-- an entry is added, with which nothing else is shown of any node
+pub adds_unmoved : (net : Network) (seen : List LogItem) (e : Entry) (c : ℕ) (cs : List Cell) (log : List LogItem)
+    → IsOf net seen → c ≤ length (entries_in seen) → c < most_entries → IsAnswered (listing net) e (reverse (take c (entries_in seen)))
+    → IsUnmoved (listing net) (take c (entries_in seen)) e
+    → HasRow cs log → IsPrefix seen log → (cell cs 0).0 ≡ status_word c c
+    → HasRow (slice_set cs 0 (status_word (c + 1) (c + 1), true)) (log ++ item.Unmoved e (c + 1) ∷ [])
+adds_unmoved net seen e c cs log of there few next stays row pre found =
+    adds net seen (item.Unmoved e (c + 1)) e c (c + 1) cs log of there few next row pre found (entries_more log (item.Unmoved e (c + 1) ∷ [])) dones (omega arith)
+    (λ t. since_more log (item.Unmoved e (c + 1) ∷ []) t ∙ omega arith) same
+  where
+    dones : done_in (log ++ item.Unmoved e (c + 1) ∷ []) ≡ c + 1
+    dones = done_more log (item.Unmoved e (c + 1) ∷ []) ∙ omega (arith, (status_is row.0 cs log c c row.1 found (omega (arith, few)) (omega (arith, few))).1)
+
+    was : IsPending (listing net) (log ++ item.Unmoved e (c + 1) ∷ []) c e
+    was = pending_unmoved net seen log (log ++ item.Unmoved e (c + 1) ∷ []) e c of few pre (cs, row, found) refl
+
+    first : take c (entries_in seen) ≡ take c (entries_in (log ++ item.Unmoved e (c + 1) ∷ []))
+    first = take_same seen (log ++ item.Unmoved e (c + 1) ∷ []) c (prefix_trans seen log (log ++ item.Unmoved e (c + 1) ∷ []) pre (item.Unmoved e (c + 1) ∷ [], refl)) there
+
+    unmoved : IsUnmoved (listing net) (take c (entries_in (log ++ item.Unmoved e (c + 1) ∷ []))) e
+    unmoved = subst (λ (h : List Entry). IsUnmoved (listing net) h e) first stays
+
+    same : (t : ℕ) → 1 ≤ t → t < 128 → IsSame (listing net) (log ++ item.Unmoved e (c + 1) ∷ []) (c + 1) t
+    same t low small = same_stays (listing net) (log ++ item.Unmoved e (c + 1) ∷ []) c t (was.same t low small)
+        (shown_next (listing net) (log ++ item.Unmoved e (c + 1) ∷ []) c e t was ∙ unmoved t low small)
 
 -- the word of a node is stored
 pub stores : (net : Network) (seen : List LogItem) (k old c v b : ℕ) (cs : List Cell) (log : List LogItem)
@@ -222,24 +286,6 @@ gone net cs log is_row = record {
   words = λ t low small. word_later net cs log is_row log t (gone_word, true) 0 low small (λ z. absurd (omega (arith, z, low))) ([], append-nil log) refl;
   right = is_row.right;
 }
-
--- what is known where an entry was added
-pub pending_now : (net : Network) (seen log now : List LogItem) (e : Entry) (c : ℕ) → IsOf net seen → c < most_entries → IsPrefix seen log → Found 0 (status_word c c) log
-    → now ≡ log ++ item.Entry e ∷ [] → IsPending (listing net) now c e
-pending_now net seen log now e c of few pre (cs, (n, is_row), found) is = record {
-  next = rw (entries, take_at (entries_in log) (e ∷ []) c count.0) (take_all (c + 1) (entries_in log ++ e ∷ []) (omega (arith, length-append (entries_in log) (e ∷ []), count.0)));
-  there = omega (arith, ap length entries, length-append (entries_in log) (e ∷ []), count.0);
-  same = λ t low small. rw net_is (same_later (listing n) log now c t (item.Entry e ∷ [], sym is) (omega (arith, count.0)) (rw (← count.1) (is_row.right.same t low small)));
-}
-  where
-    count : (length (entries_in log) ≡ c) × (done_in log ≡ c)
-    count = status_is n cs log c c is_row found (omega (arith, few)) (omega (arith, few))
-
-    entries : entries_in now ≡ entries_in log ++ e ∷ []
-    entries = ap entries_in is ∙ entries_more log (item.Entry e ∷ [])
-
-    net_is : net ≡ n
-    net_is = same_net net n log (of_later net seen log of pre) is_row.of
 
 -- what is known where a node's word was stored
 pub same_now : (net : Listing) (log now : List LogItem) (k c : ℕ) → now ≡ log ++ item.Stored k c ∷ [] → IsSame net now c k

@@ -21,6 +21,14 @@ abbrev pub Stays : Listing → List Entry → Entry → ℕ → ℕ → Type 0
 Stays net before e node own =
     (t : ℕ) → 1 ≤ t → t < 128 → (node == t) ≡ false → (t == own) ≡ false → shown net (e ∷ reverse before) t ≡ shown net (reverse before) t
 
+-- with the entry there is shown of the node what was shown of it before
+abbrev pub StaysShown : Listing → List Entry → Entry → ℕ → Type 0
+StaysShown net before e t = shown net (e ∷ reverse before) t ≡ shown net (reverse before) t
+
+-- with the entry there is shown of every node what was shown of it before
+abbrev pub IsUnmoved : Listing → List Entry → Entry → Type 0
+IsUnmoved net before e = (t : ℕ) → 1 ≤ t → t < 128 → StaysShown net before e t
+
 -- after the entry this is shown of a node, where that was shown of it before
 abbrev pub LeavesState : Entry → ℕ → ℕ → ℕ → ℕ → ℕ → ℕ → ℕ → Type 0
 LeavesState e node value own own_value t state after =

@@ -13,11 +13,13 @@ use Rattle.cm_past.specs.declared.log_item.LogItem.TheVariants as item
 abbrev pub entries_in : List LogItem → List Entry
 entries_in [] = []
 entries_in (item.Entry e ∷ is) = e ∷ entries_in is
+entries_in (item.Unmoved e n ∷ is) = e ∷ entries_in is
 entries_in (_ ∷ is) = entries_in is
 
 -- up to so many entries the words of all nodes are right
 abbrev pub done_in : List LogItem → ℕ
 done_in [] = 0
+done_in (item.Unmoved e n ∷ is) = max n (done_in is)
 done_in (item.Shown n ∷ is) = max n (done_in is)
 done_in (_ ∷ is) = done_in is
 

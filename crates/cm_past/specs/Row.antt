@@ -77,6 +77,14 @@ pub record IsPending (net : Listing) (log : List LogItem) (count : ℕ) (e : Ent
   pub there : count + 1 ≤ length (entries_in log)
   pub same : (t : ℕ) → 1 ≤ t → t < 128 → IsSame net log count t
 
+-- the log is that of the network, its first entries are so many, with which all words are right, and the change is that
+-- of the entry that is next
+pub record IsNext (net : Network) (log : List LogItem) (count : ℕ) (e : Entry) (node value own own_value : ℕ) : Type 0 where
+  pub of : IsOf net log
+  pub there : count ≤ length (entries_in log)
+  pub same : (t : ℕ) → 1 ≤ t → t < 128 → IsSame (listing net) log count t
+  pub change : IsChange (listing net) (take count (entries_in log)) e node value own own_value
+
 -- the log is that of the network, and the change is that of the entry that was added to so many
 pub record IsMoving (net : Network) (log : List LogItem) (count : ℕ) (e : Entry) (node value own own_value : ℕ) : Type 0 where
   pub of : IsOf net log

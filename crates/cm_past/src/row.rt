@@ -4,6 +4,7 @@ ghost use mathlib.Core.List.{IsPrefix};
 ghost use Rattle.logbook.specs.Pages.{Cell, cell};
 ghost use Rattle.cm_netlist.specs.Network.{listing};
 ghost use Rattle.cm_history.specs.Legal.{IsAnswered, most_entries};
+ghost use Rattle.cm_past.specs.Changes.{IsUnmoved};
 ghost use Rattle.cm_past.specs.Items.{IsOf, IsSame, entries_in, shown_at};
 ghost use Rattle.cm_past.specs.Row.{AreWords, Found, HasRow, IsPending, status_word};
 ghost use Rattle.cm_past.specs.declared.log_item.LogItem.{LogItem as Item};
@@ -11,7 +12,8 @@ ghost use Rattle.cm_past.specs.declared.log_item.LogItem.{LogItem as Item};
 use crate::history_name::HistoryName;
 use crate::log_item::LogItem;
 use crate::row_rule::{
-    AskEntry, AskShown, AskStored, End, Look, NoGain, Put, RowRule, SeenLog, Storing,
+    Adding, AskEntry, AskShown, AskStored, AskUnmoved, End, Look, NoGain, Put, RowRule, SeenLog,
+    Storing,
 };
 use cm_history::Entry;
 use cm_nmt::NodeId;
@@ -107,6 +109,46 @@ impl<K: HistoryName> Row<K> {
             status(count, count),
             status(count + 1, count),
             entry,
+            seen,
+        )
+    }
+
+    /// Whether the history has so many entries, and the words of all nodes are right with them.
+    #[inline(always)]
+    pub(crate) fn shows(&self, count: u64, seen: &mut SeenLog) -> bool
+        requires of { (seen.old.book ≡ K.log) × IsOf K.net seen.old.log }
+        requires few { count ≤ most_entries }
+        ensures book { seen.new.book ≡ seen.old.book }
+        ensures later { IsPrefix seen.old.log seen.new.log }
+        ensures same { IsTrue result → (t : ℕ) → 1 ≤ t → t < 128
+            → IsSame (listing K.net) seen.new.log count t }
+    {
+        let status_now = self.look(0, seen);
+        status_now == status(count, count)
+    }
+
+    /// Adds the next entry to the log, with which nothing else is shown of any node, where the history has so
+    /// many and all of them are shown: they are with it too.
+    #[inline(always)]
+    pub(crate) fn add_unmoved(&self, count: u64, entry: &Entry, seen: &mut SeenLog) -> bool
+        requires of { (seen.old.book ≡ K.log) × IsOf K.net seen.old.log }
+        requires count { (count < most_entries) × (count ≤ length (entries_in seen.old.log)) }
+        requires answered { IsAnswered (listing K.net) entry.now
+            (reverse (take count (entries_in seen.old.log))) }
+        requires unmoved { IsUnmoved (listing K.net) (take count (entries_in seen.old.log)) entry.now }
+        ensures book { seen.new.book ≡ seen.old.book }
+        ensures later { IsPrefix seen.old.log seen.new.log }
+        ensures next { IsTrue result → IsPending (listing K.net) seen.new.log count entry.now }
+    {
+        let adding = Adding {
+            entry,
+            count: count + 1,
+        };
+        self.put::<Adding<'_>, AskUnmoved>(
+            0,
+            status(count, count),
+            status(count + 1, count + 1),
+            &adding,
             seen,
         )
     }

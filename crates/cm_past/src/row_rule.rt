@@ -83,6 +83,25 @@ impl Plain<Entry, LogItem, u64> for AskEntry {
     ghost state = { λ entry. None };
 }
 
+/// An entry that is added, and how many there are with it.
+#[derive(Clone, Copy)]
+pub struct Adding<'e> {
+    pub entry: &'e Entry,
+    pub count: u64,
+}
+
+/// Asks for an entry with which no node's word changes.
+pub struct AskUnmoved;
+
+impl<'e> Plain<Adding<'e>, LogItem, u64> for AskUnmoved {
+    ghost use Rattle.std.specs.Prelude.{None};
+    ghost use Rattle.cm_past.specs.declared.log_item.LogItem.TheVariants as item;
+
+    ghost ask = { λ a. item.Unmoved a.entry.now a.count };
+
+    ghost state = { λ a. None };
+}
+
 /// The node whose word is stored, and with how many entries.
 #[derive(Clone, Copy)]
 pub struct Storing {

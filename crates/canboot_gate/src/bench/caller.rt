@@ -2,7 +2,7 @@
 
 use crate::bench::network::{SLAVES, agreeing, id_at};
 use cm_history::{Call, Reply};
-use cm_nmt::Terms;
+use cm_nmt::{NodeId, Terms};
 use cm_register::{Register, RunName, Seat, Wire};
 use std::sync::Wait;
 
@@ -32,20 +32,25 @@ impl Caller {
         }
     }
 
-    /// The next call.
+    /// The slave that it boots now, and what is listed of it.
     #[inline(always)]
-    pub fn next_call(&self, terms: &[Terms]) -> Option<Call> {
-        let id = id_at(self.place)?;
-        Some(match self.step {
+    pub fn slave<'t>(&self, terms: &'t [Terms]) -> Option<(NodeId, &'t Terms)> {
+        Some((id_at(self.place)?, terms.get(self.place)?))
+    }
+
+    /// The next call, of this slave.
+    #[inline(always)]
+    pub fn next_call(&self, id: NodeId, terms: &Terms) -> Call {
+        match self.step {
             0 => Call::Begin(id),
-            1 => Call::Report(id, self.session, agreeing(terms.get(self.place)?)),
+            1 => Call::Report(id, self.session, agreeing(terms)),
             2 => Call::Read(id.get()),
             3 => Call::Signal(id, 5),
             4 => Call::Request(id.get(), 127),
             5 => Call::Elapsed(1),
             _ if self.place % 2 == 0 => Call::Signal(id, 0),
             _ => Call::Lost(id),
-        })
+        }
     }
 
     /// Goes on after this reply.
@@ -76,8 +81,10 @@ pub fn call_often<W: Wire, K: RunName, R: Wait>(
     count: u32,
 ) -> Option<()> {
     for _ in 0..count {
-        let call = caller.next_call(terms)?;
-        let receipt = register.call(rt, seat, call).ok()?;
+        let (id, listed) = caller.slave(terms)?;
+        let receipt = register
+            .call(rt, seat, caller.next_call(id, listed))
+            .ok()?;
         caller.go_on(&receipt.reply);
     }
     Some(())
