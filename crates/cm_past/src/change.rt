@@ -65,6 +65,7 @@ impl<'e> Change<'e> {
     }
 
     /// What is shown of a node after the entry, by what was shown of it before.
+    #[inline(always)]
     pub(crate) fn state(&self, id: NodeId, state: u8) -> u8
         ensures { LeavesState self.now.entry.now self.now.node self.now.value self.now.own
             self.now.own_value id state result }

@@ -169,7 +169,7 @@ impl<K: RunName> Seat<K> {
         Ok(Seen { count, state })
     }
 
-    /// Memory for one call more, where the list has none left: a larger list, still empty, with four times
+    /// Memory for one call more, where the list has none left: a larger list, still empty, with eight times
     /// the places, since all calls so far move there.
     #[inline]
     pub fn room_for_call(&self) -> Result<Option<Vec<Made>>, AllocError>
@@ -181,7 +181,7 @@ impl<K: RunName> Seat<K> {
         if count < self.list.capacity() {
             return Ok(None);
         }
-        let Some(more) = count.checked_mul(4) else {
+        let Some(more) = count.checked_mul(8) else {
             return Err(AllocError);
         };
         Ok(Some(Vec::with_capacity(*self.list.allocator(), more.max(4))?))

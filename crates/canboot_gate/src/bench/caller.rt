@@ -32,10 +32,16 @@ impl Caller {
         }
     }
 
-    /// The slave that it boots now, and what is listed of it.
+    /// The slave that it boots now.
     #[inline(always)]
-    pub fn slave<'t>(&self, terms: &'t [Terms]) -> Option<(NodeId, &'t Terms)> {
-        Some((id_at(self.place)?, terms.get(self.place)?))
+    pub fn slave(&self) -> Option<NodeId> {
+        id_at(self.place)
+    }
+
+    /// What is listed of the slave that it boots now.
+    #[inline(always)]
+    pub fn listed<'t>(&self, terms: &'t [Terms]) -> Option<&'t Terms> {
+        terms.get(self.place)
     }
 
     /// The next call, of this slave.
@@ -81,10 +87,9 @@ pub fn call_often<W: Wire, K: RunName, R: Wait>(
     count: u32,
 ) -> Option<()> {
     for _ in 0..count {
-        let (id, listed) = caller.slave(terms)?;
-        let receipt = register
-            .call(rt, seat, caller.next_call(id, listed))
-            .ok()?;
+        let id = caller.slave()?;
+        let listed = caller.listed(terms)?;
+        let receipt = register.call(rt, seat, caller.next_call(id, listed)).ok()?;
         caller.go_on(&receipt.reply);
     }
     Some(())

@@ -89,7 +89,8 @@ fn run_book<R: Clock, K: RunName>(
     let mut caller = Caller::new(0, 1);
     let from = Instant::now(rt).ok()?;
     for _ in 0..count {
-        let (id, listed) = caller.slave(terms)?;
+        let id = caller.slave()?;
+        let listed = caller.listed(terms)?;
         let receipt = book.apply(seat, caller.next_call(id, listed)).ok()?;
         caller.go_on(&receipt.reply);
     }

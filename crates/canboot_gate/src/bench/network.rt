@@ -54,6 +54,7 @@ pub fn full_network(alloc: Global, slaves: u8) -> Option<Network> {
 }
 
 /// The answers of a boot that ends with Ok: identity and date agree, the time doesn't.
+#[inline(always)]
 pub fn agreeing(terms: &Terms) -> Answers {
     let heard = if terms.assignment.is_kept_alive() {
         Heard::State(NmtState::PreOperational)

@@ -70,7 +70,8 @@ fn call_timed<R: Clock + Wait, K: RunName>(
     let mut caller = Caller::new(0, 1);
     let mut longest = Duration::ZERO;
     for _ in 0..count {
-        let (id, listed) = caller.slave(terms)?;
+        let id = caller.slave()?;
+        let listed = caller.listed(terms)?;
         let call = caller.next_call(id, listed);
         let from = Instant::now(rt).ok()?;
         let receipt = register.call(rt, seat, call).ok()?;
