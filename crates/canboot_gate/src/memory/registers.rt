@@ -11,9 +11,9 @@ use cm_simulated::SimWire;
 use std::marker::Brand;
 use std::sync::Wait;
 
-/// How many calls are made: a seat takes memory for 4, 16 and 64 calls, so that one more wants memory, and
+/// How many calls are made: a seat takes memory for 4 and 32 calls, so that one more wants memory, and
 /// the history is full too.
-const CALLS: u32 = 64;
+const CALLS: u32 = 32;
 
 /// A wire with room for a frame.
 fn wire<R: Print + AllocGlobal>(rt: &R) -> Option<SimWire> {

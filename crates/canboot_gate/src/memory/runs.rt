@@ -15,7 +15,7 @@ use std::sync::Wait;
 use std::thread::Threads;
 
 /// How many calls an operator makes.
-const CALLS: u32 = 20;
+const CALLS: u32 = 40;
 
 /// A register that isn't named yet; memory for it isn't asked of here, but by the words `register` and
 /// `book`.
