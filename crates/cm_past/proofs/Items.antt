@@ -11,7 +11,7 @@ use Rattle.cm_history.specs.History.{shown}
 use Rattle.cm_history.specs.declared.call.Entry.{Entry}
 use Rattle.cm_past.specs.declared.log_item.LogItem.{LogItem}
 use Rattle.cm_past.specs.declared.log_item.LogItem.TheVariants as item
-use Rattle.cm_past.specs.Items.{IsOf, IsSame, done_in, entries_in, shown_at, since_in}
+use Rattle.cm_past.specs.Items.{IsOf, IsSame, current_from, done_in, entries_in, number_of, shown_at, since_in}
 use Rattle.cm_past.proofs.Prefixes.{prefix_length}
 
 max_assoc : (a b c : ℕ) → max a (max b c) ≡ max (max a b) c
@@ -21,7 +21,7 @@ pub entries_more : (xs ys : List LogItem) → entries_in (xs ++ ys) ≡ entries_
 entries_more [] ys = refl
 entries_more (item.Opened n ∷ xs) ys = entries_more xs ys
 entries_more (item.Entry e ∷ xs) ys = ap (λ (w : List Entry). e ∷ w) (entries_more xs ys)
-entries_more (item.Unmoved e n ∷ xs) ys = ap (λ (w : List Entry). e ∷ w) (entries_more xs ys)
+entries_more (item.Moved e n k ∷ xs) ys = ap (λ (w : List Entry). e ∷ w) (entries_more xs ys)
 entries_more (item.Stored k n ∷ xs) ys = entries_more xs ys
 entries_more (item.Shown n ∷ xs) ys = entries_more xs ys
 
@@ -29,7 +29,7 @@ pub done_more : (xs ys : List LogItem) → done_in (xs ++ ys) ≡ max (done_in x
 done_more [] ys = sym (zero-max (done_in ys))
 done_more (item.Opened n ∷ xs) ys = done_more xs ys
 done_more (item.Entry e ∷ xs) ys = done_more xs ys
-done_more (item.Unmoved e n ∷ xs) ys = ap (max n) (done_more xs ys) ∙ (max_assoc n (done_in xs) (done_in ys))
+done_more (item.Moved e n k ∷ xs) ys = ap (max n) (done_more xs ys) ∙ (max_assoc n (done_in xs) (done_in ys))
 done_more (item.Stored k n ∷ xs) ys = done_more xs ys
 done_more (item.Shown n ∷ xs) ys = ap (max n) (done_more xs ys) ∙ (max_assoc n (done_in xs) (done_in ys))
 
@@ -41,9 +41,18 @@ pub since_more : (xs ys : List LogItem) (t : ℕ) → since_in (xs ++ ys) t ≡ 
 since_more [] ys t = sym (zero-max (since_in ys t))
 since_more (item.Opened n ∷ xs) ys t = since_more xs ys t
 since_more (item.Entry e ∷ xs) ys t = since_more xs ys t
-since_more (item.Unmoved e n ∷ xs) ys t = since_more xs ys t
+since_more (item.Moved e n k ∷ xs) ys t = since_more xs ys t
 since_more (item.Stored k n ∷ xs) ys t = stored_more (k == t) n (since_in (xs ++ ys) t) (since_in xs t) (since_in ys t) (since_more xs ys t)
 since_more (item.Shown n ∷ xs) ys t = since_more xs ys t
+
+-- what the first word has after more items
+pub current_more : (k : ℕ) (xs ys : List LogItem) → current_from k (xs ++ ys) ≡ current_from (current_from k xs) ys
+current_more k [] ys = refl
+current_more k (item.Opened n ∷ xs) ys = current_more k xs ys
+current_more k (item.Entry e ∷ xs) ys = current_more 0 xs ys
+current_more k (item.Moved e n node ∷ xs) ys = current_more (number_of node) xs ys
+current_more k (item.Stored t n ∷ xs) ys = current_more k xs ys
+current_more k (item.Shown n ∷ xs) ys = current_more k xs ys
 
 pub entries_begin : (xs ys : List LogItem) → IsPrefix xs ys → IsPrefix (entries_in xs) (entries_in ys)
 entries_begin xs ys p = (entries_in p.0, sym (entries_more xs p.0) ∙ ap entries_in p.1)

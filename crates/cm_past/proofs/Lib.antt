@@ -5,4 +5,5 @@ mod Refreshing
 mod RowSteps
 mod RowMoves
 mod Showing
+mod CurrentNode
 mod Looking

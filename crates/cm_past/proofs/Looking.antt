@@ -1,48 +1,85 @@
 -- What a reader sees, by the first word and then the word of a node.
-use Rattle.std.proofs.Common.{◌≡◌, ℕ, ◌%◌, ◌-◌, ◌<◌, ◌≤◌, ◌⊎◌, inl, inr, true, List, length, ap, sym, subst, ◌∙◌, arith}
+use Rattle.std.proofs.Common.{◌≡◌, ℕ, ◌%◌, ◌/◌, ◌-◌, ◌<◌, ◌≤◌, ◌⊎◌, inl, inr, true, List, [], ◌∷◌, length, ap, sym, subst, ◌∙◌, arith}
 use mathlib.Core.List.{IsPrefix}
+use base.Growing.{prefix_trans}
 use Rattle.logbook.specs.Pages.{Cell, cell}
 use Rattle.cm_netlist.specs.Network.{Network, listing}
 use Rattle.cm_history.proofs.LegalHistories.{legal_take}
 use Rattle.cm_past.specs.declared.log_item.LogItem.{LogItem}
-use Rattle.cm_past.specs.Items.{IsOf, done_in, entries_in, shown_at, since_in}
-use Rattle.cm_past.specs.Row.{Found, IsLooked, IsRight, gone_word, status_word}
-use Rattle.cm_past.proofs.Items.{done_rises, same_net}
+use Rattle.cm_past.specs.declared.log_item.LogItem.TheVariants as item
+use Rattle.cm_past.specs.Items.{IsOf, IsSame, current_in, done_in, entries_in, shown_at, since_in}
+use Rattle.cm_past.specs.Row.{Found, IsLooked, IsRight, IsRow, gone_word, status_word}
+use Rattle.cm_past.proofs.Items.{entries_count, same_later, same_net}
 
--- up to how many the words are right, by the first word
-pub status_done : (log : List LogItem) (n : ℕ) → Found 0 n log → (n ≡ gone_word → ⊥) → done_in log ≡ n % 4294967296
-status_done log n (cs, (net, row), found) here = by row.status
+-- what the first word says
+record IsRead (net : Network) (log : List LogItem) (n : ℕ) : Type 0 where
+  pub done : done_in log ≡ n / 65536 % 2097152
+  pub node : current_in log ≡ n / 256 % 256
+  pub shown : 1 ≤ current_in log → n % 256 ≡ shown_at (listing net) (entries_in log) (done_in log) (current_in log)
+
+read_status : (net : Network) (cs : List Cell) (log : List LogItem) (n : ℕ) → IsRow net cs log → (cell cs 0).0 ≡ n → (n ≡ gone_word → ⊥) → IsRead net log n
+read_status net cs log n row found here = by row.status
   where
-    by : (cell cs 0 ≡ (status_word (length (entries_in log)) (done_in log), true)) ⊎ (cell cs 0 ≡ (gone_word, true)) → done_in log ≡ n % 4294967296
-    by (inl p) = omega (arith, found, ap (λ (w : Cell). w.0) p, row.right.few, row.right.done)
+    by : (cell cs 0 ≡ (status_word (length (entries_in log)) (done_in log) (current_in log) row.state, true)) ⊎ (cell cs 0 ≡ (gone_word, true)) → IsRead net log n
+    by (inl p) =
+        let word : n ≡ status_word (length (entries_in log)) (done_in log) (current_in log) row.state = sym found ∙ ap (λ (w : Cell). w.0) p in
+        let state : n % 256 ≡ row.state = omega (arith, word, row.first.byte) in
+        record {
+          done = omega (arith, word, row.right.few, row.right.done, row.first.node, row.first.byte);
+          node = omega (arith, word, row.right.few, row.right.done, row.first.node, row.first.byte);
+          shown = λ some. state ∙ row.first.shown some;
+        }
     by (inr p) = absurd (here (sym found ∙ ap (λ (w : Cell). w.0) p))
 
 -- the entries are right in a row of this network
 right_of : (net : Network) (log : List LogItem) (t found : ℕ) → IsOf net log → Found t found log → IsRight (listing net) log
 right_of net log t found of (cs, (n, row), is) = subst (λ (w : Network). IsRight (listing w) log) (sym (same_net net n log of row.of)) row.right
 
+-- what the first word says of a node is what is shown of it
+pub looked_current : (net : Network) (log : List LogItem) (t status : ℕ) → Found 0 status log → (status ≡ gone_word → ⊥) → IsOf net log → 1 ≤ t → status / 256 % 256 ≡ t
+    → IsLooked net log t (status % 256) (status / 65536 % 2097152)
+looked_current net log t status (cs, (n, row), found) here of low is = record {
+  there = omega (arith, read.done, row.right.done);
+  few = omega (arith, read.done, row.right.done, row.right.few);
+  legal = rw same (legal_take (listing n) (entries_in log) (status / 65536 % 2097152) row.right.legal);
+  shows = rw (same, ← is, ← read.node, ← read.done) (read.shown (omega (arith, read.node, is, low)));
+}
+  where
+    read : IsRead n log status
+    read = read_status n cs log status row found here
+
+    same : net ≡ n
+    same = same_net net n log of row.of
+
+-- what is shown of another node is the same from where its word was stored up to where the words are right
+same_read : (net : Network) (xs ys : List LogItem) (t status : ℕ) → Found 0 status xs → (status ≡ gone_word → ⊥) → IsPrefix xs ys → IsOf net ys → 1 ≤ t → t < 128
+    → (status / 256 % 256 ≡ t → ⊥) → (status / 65536 % 2097152 ≤ length (entries_in xs)) × IsSame (listing net) ys (status / 65536 % 2097152) t
+same_read net xs ys t status (cs, (n, row), found) here p of low small away =
+    let read = read_status n cs xs status row found here in
+    let same : net ≡ n = same_net net n ys of (prefix_trans (item.Opened n ∷ []) xs ys row.of p) in (
+      omega (arith, read.done, row.right.done),
+      rw (same, ← read.done) (same_later (listing n) xs ys (done_in xs) t p row.right.done (row.right.same t low small (λ z. away (sym read.node ∙ sym z)))),
+    )
+
 -- where a node's word was stored with no more entries than are right, it is right with all of these
-pub looked_done : (net : Network) (xs ys : List LogItem) (t status word since state : ℕ) → Found 0 status xs → (status ≡ gone_word → ⊥) → IsPrefix xs ys
+pub looked_done : (net : Network) (xs ys : List LogItem) (t status word since state : ℕ) → Found 0 status xs → (status ≡ gone_word → ⊥) → (status / 256 % 256 ≡ t → ⊥) → IsPrefix xs ys
     → IsOf net ys → 1 ≤ t → t < 128 → Found t word ys → since ≡ since_in ys t → state ≡ shown_at (listing net) (entries_in ys) (since_in ys t) t
-    → since ≤ status % 4294967296 → IsLooked net ys t state (status % 4294967296)
-looked_done net xs ys t status word since state first here p of low small there stored shown behind = record {
+    → since ≤ status / 65536 % 2097152 → IsLooked net ys t state (status / 65536 % 2097152)
+looked_done net xs ys t status word since state first here away p of low small there stored shown behind = record {
   there = fits;
   few = omega (arith, fits, right.few);
-  legal = legal_take (listing net) (entries_in ys) (status % 4294967296) right.legal;
-  shows = shown ∙ sym (right.same t low small (status % 4294967296) (omega (arith, behind, stored)) (omega (arith, rises, done)));
+  legal = legal_take (listing net) (entries_in ys) (status / 65536 % 2097152) right.legal;
+  shows = shown ∙ sym (same.1 (status / 65536 % 2097152) (omega (arith, behind, stored)) (omega arith));
 }
   where
     right : IsRight (listing net) ys
     right = right_of net ys t word of there
 
-    done : done_in xs ≡ status % 4294967296
-    done = status_done xs status first here
+    same : (status / 65536 % 2097152 ≤ length (entries_in xs)) × IsSame (listing net) ys (status / 65536 % 2097152) t
+    same = same_read net xs ys t status first here p of low small away
 
-    rises : done_in xs ≤ done_in ys
-    rises = done_rises xs ys p
-
-    fits : status % 4294967296 ≤ length (entries_in ys)
-    fits = omega (arith, done, rises, right.done)
+    fits : status / 65536 % 2097152 ≤ length (entries_in ys)
+    fits = omega (arith, same.0, entries_count xs ys p)
 
 -- where it was stored with more, it says what was shown with one entry less
 pub looked_before : (net : Network) (ys : List LogItem) (t word since before : ℕ) → IsOf net ys → 1 ≤ t → t < 128 → Found t word ys

@@ -10,11 +10,11 @@ use Rattle.cm_history.specs.History.{shown}
 use Rattle.cm_history.specs.Legal.{most_entries}
 use Rattle.cm_history.specs.declared.call.Entry.{Entry}
 use Rattle.cm_past.specs.declared.log_item.LogItem.{LogItem}
-use Rattle.cm_past.specs.Changes.{IsChange, IsUnmoved, LeavesState, Stays, StaysShown}
+use Rattle.cm_past.specs.Changes.{IsChange, Stays}
 use Rattle.cm_past.specs.Items.{IsOf, IsSame, entries_in, shown_at, since_in}
 use Rattle.cm_past.specs.declared.log_item.LogItem.TheVariants as item
 use base.Growing.{prefix_trans}
-use Rattle.cm_past.specs.Row.{Found, IsMoving, IsNext, IsPending, IsWord}
+use Rattle.cm_past.specs.Row.{Found, IsMoving, IsPending, IsWord}
 use Rattle.logbook.specs.Pages.{cell}
 use Rattle.cm_past.proofs.Items.{entries_count, same_later, same_net, take_same}
 
@@ -65,15 +65,15 @@ change_later net xs ys c e node value own own_value p le was =
     subst (λ (w : List Entry). IsChange net w e node value own own_value) (take_same xs ys c p le) was
 
 -- what is shown with the entry that was added
-pub shown_next : (net : Listing) (log : List LogItem) (c : ℕ) (e : Entry) (t : ℕ) → IsPending net log c e
+pub shown_next : (net : Listing) (log : List LogItem) (c : ℕ) (e : Entry) (t : ℕ) → take (c + 1) (entries_in log) ≡ take c (entries_in log) ++ e ∷ []
     → shown_at net (entries_in log) (c + 1) t ≡ shown net (e ∷ reverse (take c (entries_in log))) t
-shown_next net log c e t was = ap (λ (w : List Entry). shown net w t) (ap reverse was.next ∙ reverse-append (take c (entries_in log)) (e ∷ []))
+shown_next net log c e t next = ap (λ (w : List Entry). shown net w t) (ap reverse next ∙ reverse-append (take c (entries_in log)) (e ∷ []))
 
 -- a word that was stored with more entries is right
 pub same_far : (net : Listing) (log : List LogItem) (c t : ℕ) → c < since_in log t → IsSame net log (c + 1) t
 same_far net log c t far m low high = ap (λ (i : ℕ). shown_at net (entries_in log) i t) (omega (arith, far, low, high))
 
-below : (m n : ℕ) → m ≤ n → (m ≡ n → ⊥) → m + 1 ≤ n
+pub below : (m n : ℕ) → m ≤ n → (m ≡ n → ⊥) → m + 1 ≤ n
 below m n le away = elim (cases_lt m n) [
   | inl less ↦ omega (arith, less)
   | inr not ↦ absurd (away (omega (arith, le, not)))
@@ -99,7 +99,7 @@ same_stays net log c t same stays = elim (cases_lt c (since_in log t)) [
 pub same_shown : (net : Listing) (log : List LogItem) (c : ℕ) (e : Entry) (t before after : ℕ) → IsPending net log c e → 1 ≤ t → t < 128
     → before ≡ shown_at net (entries_in log) (since_in log t) t → after ≡ shown net (e ∷ reverse (take c (entries_in log))) t → after ≡ before → IsSame net log (c + 1) t
 same_shown net log c e t before after was low small is next same =
-    same_step net log c t (was.same t low small) (shown_next net log c e t was ∙ sym next ∙ same ∙ is)
+    same_step net log c t (was.same t low small) (shown_next net log c e t was.next ∙ sym next ∙ same ∙ is)
 
 -- what a word says is what is shown with so many entries, where it wasn't stored with more
 pub shown_before : (net : Listing) (log : List LogItem) (c t before : ℕ) → IsSame net log c t → since_in log t ≤ c
@@ -111,7 +111,7 @@ pub others_same : (net : Listing) (log : List LogItem) (c : ℕ) (e : Entry) (no
     → 1 ≤ t → t < 128 → (t ≡ node → ⊥) → (t ≡ own → ⊥) → IsSame net log (c + 1) t
 others_same net log c e node own t was stays low small not_node not_own =
     same_stays net log c t (was.same t low small)
-    (shown_next net log c e t was ∙ stays t low small (ne_eqb node t (λ z. not_node (sym z))) (ne_eqb t own not_own))
+    (shown_next net log c e t was.next ∙ stays t low small (ne_eqb node t (λ z. not_node (sym z))) (ne_eqb t own not_own))
 
 -- what is found is found while the entry is added
 pub moving_later : (net : Network) (xs ys : List LogItem) (c : ℕ) (e : Entry) (node value own own_value : ℕ) → IsPrefix xs ys
@@ -122,51 +122,6 @@ moving_later net xs ys c e node value own own_value p was = record {
   change = change_later (listing net) xs ys c e node value own own_value p (omega (arith, was.pending.there)) was.change;
 }
 
--- what is known before the entry is added is known later, while it isn't added
-pub next_later : (net : Network) (xs ys : List LogItem) (c : ℕ) (e : Entry) (node value own own_value : ℕ) → IsPrefix xs ys
-    → IsNext net xs c e node value own own_value → IsNext net ys c e node value own own_value
-next_later net xs ys c e node value own own_value p was = record {
-  of = prefix_trans (item.Opened net ∷ []) xs ys was.of p;
-  there = omega (arith, was.there, entries_count xs ys p);
-  same = λ t low small. same_later (listing net) xs ys c t p was.there (was.same t low small);
-  change = change_later (listing net) xs ys c e node value own own_value p was.there was.change;
-}
-
--- what is known before the entry is added, where all words were found right since
-pub next_now : (net : Network) (xs ys : List LogItem) (c : ℕ) (e : Entry) (node value own own_value : ℕ) → IsPrefix xs ys → IsOf net xs → c ≤ length (entries_in xs)
-    → IsChange (listing net) (take c (entries_in xs)) e node value own own_value → ((t : ℕ) → 1 ≤ t → t < 128 → IsSame (listing net) ys c t)
-    → IsNext net ys c e node value own own_value
-next_now net xs ys c e node value own own_value p of there change same = record {
-  of = prefix_trans (item.Opened net ∷ []) xs ys of p;
-  there = omega (arith, there, entries_count xs ys p);
-  same = same;
-  change = change_later (listing net) xs ys c e node value own own_value p there change;
-}
-
--- with the entry the same is shown of a node, by what was found of it
-pub stays_shown : (net : Network) (xs ys : List LogItem) (c : ℕ) (e : Entry) (node value own own_value t state after : ℕ) → IsPrefix xs ys
-    → IsNext net xs c e node value own own_value → LeavesState e node value own own_value t state after → 1 ≤ t → t < 128 → since_in ys t ≤ c
-    → state ≡ shown_at (listing net) (entries_in ys) (since_in ys t) t → after ≡ state → StaysShown (listing net) (take c (entries_in xs)) e t
-stays_shown net xs ys c e node value own own_value t state after p was leaves low small near shown same =
-    let now = next_later net xs ys c e node value own own_value p was in
-    let before = shown_before (listing net) ys c t state (now.same t low small) near shown in
-    rw (take_same xs ys c p was.there) (sym (leaves (listing net) (take c (entries_in ys)) now.change low small before) ∙ (same ∙ before))
-
--- with the entry the same is shown of every node, where it is of the two that the change sets
-pub all_stay : (net : Listing) (before : List Entry) (e : Entry) (node own : ℕ) → Stays net before e node own
-    → StaysShown net before e node → StaysShown net before e own → IsUnmoved net before e
-all_stay net before e node own others this that t low small = elim (cases_eq t own) [
-  | inl here ↦ subst (StaysShown net before e) (sym here) that
-  | inr not_own ↦ elim (cases_eq t node) [
-    | inl here ↦ subst (StaysShown net before e) (sym here) this
-    | inr not_node ↦ others t low small (ne_eqb node t (λ z. not_node (sym z))) (ne_eqb t own not_own)
-  ]
-]
-
 -- the change is of no more entries than a history may have
 pub moving_few : (net : Network) (log : List LogItem) (c : ℕ) (e : Entry) (node value own own_value : ℕ) → IsMoving net log c e node value own own_value → c < most_entries
 moving_few net log c e node value own own_value was = omega (arith, was.change.few, length-take-le c (entries_in log) (omega (arith, was.pending.there)))
-
--- the history with the entry that was added
-pub take_next : (net : Listing) (xs ys : List LogItem) (c : ℕ) (e : Entry) → IsPending net xs c e → IsPrefix xs ys → take (c + 1) (entries_in ys) ≡ take c (entries_in xs) ++ e ∷ []
-take_next net xs ys c e was p = sym (take_same xs ys (c + 1) p was.there) ∙ was.next

@@ -8,61 +8,73 @@ use Rattle.std.proofs.lemmas.Bool.Decides.{nat_tests}
 use mathlib.Core.List.{IsPrefix}
 use base.Growing.{prefix_trans}
 use Rattle.logbook.specs.Pages.{Cell, cell}
-use Rattle.cm_nmt.specs.Listing.{Listing}
 use Rattle.cm_netlist.specs.Network.{Network, listing}
 use Rattle.cm_history.specs.Legal.{IsAnswered, most_entries}
 use Rattle.cm_history.specs.declared.call.Entry.{Entry}
 use Rattle.cm_past.specs.declared.log_item.LogItem.{LogItem}
 use Rattle.cm_past.specs.declared.log_item.LogItem.TheVariants as item
-use Rattle.cm_past.specs.Items.{IsOf, IsSame, done_in, entries_in, shown_at, since_in}
-use Rattle.cm_past.specs.Row.{Found, HasRow, IsPending, IsRow, IsWord, gone_word, status_word}
-use Rattle.cm_past.proofs.Items.{done_more, entries_count, entries_more, same_later, same_net, shown_same, since_more, take_same}
+use Rattle.cm_past.specs.declared.current.Current.{Current}
+use Rattle.cm_past.specs.Items.{IsOf, IsSame, current_from, current_in, done_in, entries_in, number_of, shown_at, since_in}
+use Rattle.cm_past.specs.Row.{Found, HasRow, IsAdded, IsCurrent, IsPending, IsReady, IsRow, IsWord, gone_word, status_word}
+use Rattle.cm_past.proofs.Items.{current_more, done_more, entries_count, entries_more, same_later, same_net, shown_same, since_more, take_same}
 use Rattle.cm_past.proofs.LegalEnds.{legal_longer}
-use Rattle.cm_past.proofs.Refreshing.{same_stays, shown_next}
-use Rattle.cm_past.specs.Changes.{IsUnmoved}
+use Rattle.cm_past.proofs.CurrentNode.{current_next}
 
 -- what a log begins with stays
 of_later : (net : Network) (xs ys : List LogItem) → IsOf net xs → IsPrefix xs ys → IsOf net ys
 of_later net xs ys p q = prefix_trans (item.Opened net ∷ []) xs ys p q
 
-pub status_is : (net : Network) (cs : List Cell) (log : List LogItem) (c d : ℕ) → IsRow net cs log → (cell cs 0).0 ≡ status_word c d → c ≤ most_entries → d ≤ most_entries
-    → (length (entries_in log) ≡ c) × (done_in log ≡ d)
-status_is net cs log c d is_row found small less = by is_row.status
+-- what the first word says, where it is there
+pub record IsStatus (net : Network) (log : List LogItem) (c d k v : ℕ) : Type 0 where
+  pub count : length (entries_in log) ≡ c
+  pub done : done_in log ≡ d
+  pub node : current_in log ≡ k
+  pub shown : 1 ≤ k → v ≡ shown_at (listing net) (entries_in log) d k
+
+pub status_is : (net : Network) (cs : List Cell) (log : List LogItem) (c d k v : ℕ) → IsRow net cs log → (cell cs 0).0 ≡ status_word c d k v → c ≤ most_entries → d ≤ most_entries
+    → k < 128 → v < 256 → IsStatus net log c d k v
+status_is net cs log c d k v is_row found small less node byte = by is_row.status
   where
-    by : (cell cs 0 ≡ (status_word (length (entries_in log)) (done_in log), true)) ⊎ (cell cs 0 ≡ (gone_word, true)) → (length (entries_in log) ≡ c) × (done_in log ≡ d)
-    by (inl p) = (omega (arith, found, ap (λ (w : Cell). w.0) p, small, less, is_row.right.few, is_row.right.done), omega (arith, found, ap (λ (w : Cell). w.0) p, small, less, is_row.right.few, is_row.right.done))
-    by (inr p) = absurd (omega (arith, found, ap (λ (w : Cell). w.0) p, small, less))
+    by : (cell cs 0 ≡ (status_word (length (entries_in log)) (done_in log) (current_in log) is_row.state, true)) ⊎ (cell cs 0 ≡ (gone_word, true)) → IsStatus net log c d k v
+    by (inl p) =
+        let word : status_word (length (entries_in log)) (done_in log) (current_in log) is_row.state ≡ status_word c d k v = sym (ap (λ (w : Cell). w.0) p) ∙ found in
+        let count : length (entries_in log) ≡ c = omega (arith, word, small, less, node, byte, is_row.right.few, is_row.right.done, is_row.first.node, is_row.first.byte) in
+        let done : done_in log ≡ d = omega (arith, word, small, less, node, byte, is_row.right.few, is_row.right.done, is_row.first.node, is_row.first.byte) in
+        let current : current_in log ≡ k = omega (arith, word, small, less, node, byte, is_row.right.few, is_row.right.done, is_row.first.node, is_row.first.byte) in
+        let state : is_row.state ≡ v = omega (arith, word, count, done, current) in
+        record {
+          count = count;
+          done = done;
+          node = current;
+          shown = λ some. sym state ∙ is_row.first.shown (omega (arith, some, current)) ∙ ap (λ (m : ℕ). shown_at (listing net) (entries_in log) m (current_in log)) done
+              ∙ ap (shown_at (listing net) (entries_in log) d) current;
+        }
+    by (inr p) = absurd (omega (arith, found, ap (λ (w : Cell). w.0) p, small, less, node, byte))
 
 -- what is known where an entry was added
-pending_from : (net : Network) (seen log now : List LogItem) (e : Entry) (c : ℕ) → IsOf net seen → c < most_entries → IsPrefix seen log → Found 0 (status_word c c) log
-    → IsPrefix log now → entries_in now ≡ entries_in log ++ e ∷ [] → IsPending (listing net) now c e
-pending_from net seen log now e c of few pre (cs, (n, is_row), found) later entries = record {
-  next = rw (entries, take_at (entries_in log) (e ∷ []) c count.0) (take_all (c + 1) (entries_in log ++ e ∷ []) (omega (arith, length-append (entries_in log) (e ∷ []), count.0)));
-  there = omega (arith, ap length entries, length-append (entries_in log) (e ∷ []), count.0);
-  same = λ t low small. rw net_is (same_later (listing n) log now c t later (omega (arith, count.0)) (rw (← count.1) (is_row.right.same t low small)));
+added_from : (net : Network) (log now : List LogItem) (e : Entry) (c : ℕ) → length (entries_in log) ≡ c → entries_in now ≡ entries_in log ++ e ∷ [] → IsAdded now c e
+added_from net log now e c count entries = record {
+  next = rw (entries, take_at (entries_in log) (e ∷ []) c count) (take_all (c + 1) (entries_in log ++ e ∷ []) (omega (arith, length-append (entries_in log) (e ∷ []), count)));
+  there = omega (arith, ap length entries, length-append (entries_in log) (e ∷ []), count);
 }
-  where
-    count : (length (entries_in log) ≡ c) × (done_in log ≡ c)
-    count = status_is n cs log c c is_row found (omega (arith, few)) (omega (arith, few))
 
-    net_is : net ≡ n
-    net_is = same_net net n log (of_later net seen log of pre) is_row.of
+-- an entry that was found right to add is added
+pub added_now : (log now : List LogItem) (i : LogItem) (e : Entry) (c k v : ℕ) → c < most_entries → k < 128 → v < 256 → Found 0 (status_word c c k v) log
+    → now ≡ log ++ i ∷ [] → entries_in (i ∷ []) ≡ e ∷ [] → IsAdded now c e
+added_now log now i e c k v few node byte (cs, (n, is_row), found) is entry =
+    added_from n log now e c (status_is n cs log c c k v is_row found (omega (arith, few)) (omega (arith, few)) node byte).count
+    (ap entries_in is ∙ entries_more log (i ∷ []) ∙ ap (λ (es : List Entry). entries_in log ++ es) entry)
 
-pub pending_now : (net : Network) (seen log now : List LogItem) (e : Entry) (c : ℕ) → IsOf net seen → c < most_entries → IsPrefix seen log → Found 0 (status_word c c) log
+pub pending_now : (net : Network) (seen log now : List LogItem) (e : Entry) (c k v : ℕ) → c < most_entries → c ≤ length (entries_in seen) → k < 128 → v < 256
+    → ((t : ℕ) → 1 ≤ t → t < 128 → IsSame (listing net) seen c t) → IsPrefix seen log → Found 0 (status_word c c k v) log
     → now ≡ log ++ item.Entry e ∷ [] → IsPending (listing net) now c e
-pending_now net seen log now e c of few pre there is =
-    pending_from net seen log now e c of few pre there (item.Entry e ∷ [], sym is) (ap entries_in is ∙ entries_more log (item.Entry e ∷ []))
-
-pub pending_unmoved : (net : Network) (seen log now : List LogItem) (e : Entry) (c : ℕ) → IsOf net seen → c < most_entries → IsPrefix seen log → Found 0 (status_word c c) log
-    → now ≡ log ++ item.Unmoved e (c + 1) ∷ [] → IsPending (listing net) now c e
-pending_unmoved net seen log now e c of few pre there is =
-    pending_from net seen log now e c of few pre there (item.Unmoved e (c + 1) ∷ [], sym is) (ap entries_in is ∙ entries_more log (item.Unmoved e (c + 1) ∷ []))
-
--- where the first word says so, the words of all nodes are right with so many entries
-pub same_all : (net : Network) (log : List LogItem) (c : ℕ) → IsOf net log → c ≤ most_entries → Found 0 (status_word c c) log
-    → (t : ℕ) → 1 ≤ t → t < 128 → IsSame (listing net) log c t
-same_all net log c of few (cs, (n, is_row), found) t low small =
-    rw (same_net net n log of is_row.of, ← (status_is n cs log c c is_row found few few).1) (is_row.right.same t low small)
+pending_now net seen log now e c k v few fits node byte same pre there is =
+    let added = added_now log now (item.Entry e) e c k v few node byte there is refl in
+    record {
+      next = added.next;
+      there = added.there;
+      same = λ t low small. same_later (listing net) seen now c t (prefix_trans seen log now pre (item.Entry e ∷ [], sym is)) fits (same t low small);
+    }
 
 -- a row whose words stay, but for one that is set
 module _ (net : Network) (cs : List Cell) (log : List LogItem) (is_row : IsRow net cs log) where
@@ -87,83 +99,93 @@ module _ (net : Network) (cs : List Cell) (log : List LogItem) (is_row : IsRow n
     | inr away ↦ ap (λ (w : Cell). w.1) (at_other k t (n, true) away) ∙ is_row.home t low small
   ]
 
--- an entry is added, with which the words are right up to so many
-adds : (net : Network) (seen : List LogItem) (i : LogItem) (e : Entry) (c d : ℕ) (cs : List Cell) (log : List LogItem)
+-- an entry is added, with which the words of all nodes but one are right up to so many
+adds : (net : Network) (seen : List LogItem) (i : LogItem) (e : Entry) (c d p s k v : ℕ) (cs : List Cell) (log : List LogItem)
     → IsOf net seen → c ≤ length (entries_in seen) → c < most_entries → IsAnswered (listing net) e (reverse (take c (entries_in seen)))
-    → HasRow cs log → IsPrefix seen log → (cell cs 0).0 ≡ status_word c c
-    → entries_in (log ++ i ∷ []) ≡ entries_in log ++ e ∷ [] → done_in (log ++ i ∷ []) ≡ d → d ≤ c + 1
-    → ((t : ℕ) → since_in (log ++ i ∷ []) t ≡ since_in log t) → ((t : ℕ) → 1 ≤ t → t < 128 → IsSame (listing net) (log ++ i ∷ []) d t)
-    → HasRow (slice_set cs 0 (status_word (c + 1) d, true)) (log ++ i ∷ [])
-adds net seen i e c d cs log of there few next (n, is_row) pre found entries dones most since same = (
+    → p < 128 → s < 256 → HasRow cs log → IsPrefix seen log → (cell cs 0).0 ≡ status_word c c p s
+    → entries_in (i ∷ []) ≡ e ∷ [] → max c (done_in (i ∷ [])) ≡ d → d ≤ c + 1 → current_from (current_in log) (i ∷ []) ≡ k → k < 128 → v < 256
+    → ((t : ℕ) → since_in (i ∷ []) t ≡ 0)
+    → (1 ≤ k → v ≡ shown_at (listing net) (entries_in (log ++ i ∷ [])) d k)
+    → ((t : ℕ) → 1 ≤ t → t < 128 → (t ≡ k → ⊥) → IsSame (listing net) (log ++ i ∷ []) d t)
+    → HasRow (slice_set cs 0 (status_word (c + 1) d k v, true)) (log ++ i ∷ [])
+adds net seen i e c d p s k v cs log of there few next old byte (n, is_row) pre found entry dones most node small less none shows same = (
   n,
   record {
     of = of_later n log (log ++ i ∷ []) is_row.of (i ∷ [], refl);
-    long = long_set n cs log is_row 0 (status_word (c + 1) d, true);
-    status = inl (at_set n cs log is_row 0 (status_word (c + 1) d) (omega arith) ∙ ap (λ (k : ℕ). (k, true)) (omega (arith, count, dones)));
-    home = λ t low small. home_later n cs log is_row 0 (status_word (c + 1) d) t (omega arith) low small;
-    words = λ t low small. word_later n cs log is_row (log ++ i ∷ []) t (status_word (c + 1) d, true) 0 low small (λ z. absurd (omega (arith, z, low))) (i ∷ [], refl) (since t);
+    long = long_set n cs log is_row 0 (status_word (c + 1) d k v, true);
+    state = v;
+    first = record {
+      node = omega (arith, current, small);
+      byte = less;
+      shown = λ some. shows (omega (arith, some, current)) ∙ rw (current, done, net_is) refl;
+    };
+    status = inl (at_set n cs log is_row 0 (status_word (c + 1) d k v) (omega arith) ∙ ap (λ (w : ℕ). (w, true)) (omega (arith, count, done, current)));
+    home = λ t low high. home_later n cs log is_row 0 (status_word (c + 1) d k v) t (omega arith) low high;
+    words = λ t low high. word_later n cs log is_row (log ++ i ∷ []) t (status_word (c + 1) d k v, true) 0 low high (λ z. absurd (omega (arith, z, low))) (i ∷ [], refl) (since t);
     right = record {
       legal = rw entries (legal_longer (listing n) (entries_in log) e is_row.right.legal answered);
       few = omega (arith, count, few);
-      done = omega (arith, count, dones, most);
-      since = λ t low small. omega (arith, since t, is_row.right.since t low small, count, is.0);
-      same = λ t low small. rw (dones, ← net_is) (same t low small);
+      done = omega (arith, count, done, most);
+      since = λ t low high. omega (arith, since t, is_row.right.since t low high, count, is.count);
+      same = λ t low high away. rw (done, ← net_is) (same t low high (λ z. away (z ∙ sym current)));
     };
   },
 )
   where
-    is : (length (entries_in log) ≡ c) × (done_in log ≡ c)
-    is = status_is n cs log c c is_row found (omega (arith, few)) (omega (arith, few))
+    is : IsStatus n log c c p s
+    is = status_is n cs log c c p s is_row found (omega (arith, few)) (omega (arith, few)) old byte
 
     net_is : net ≡ n
     net_is = same_net net n log (of_later net seen log of pre) is_row.of
 
+    entries : entries_in (log ++ i ∷ []) ≡ entries_in log ++ e ∷ []
+    entries = entries_more log (i ∷ []) ∙ ap (λ (es : List Entry). entries_in log ++ es) entry
+
+    done : done_in (log ++ i ∷ []) ≡ d
+    done = done_more log (i ∷ []) ∙ ap (λ (m : ℕ). max m (done_in (i ∷ []))) is.done ∙ dones
+
+    current : current_in (log ++ i ∷ []) ≡ k
+    current = current_more 0 log (i ∷ []) ∙ node
+
+    since : (t : ℕ) → since_in (log ++ i ∷ []) t ≡ since_in log t
+    since t = since_more log (i ∷ []) t ∙ omega (arith, none t)
+
     count : length (entries_in (log ++ i ∷ [])) ≡ c + 1
-    count = omega (arith, ap length entries, length-append (entries_in log) (e ∷ []), is.0)
+    count = omega (arith, ap length entries, length-append (entries_in log) (e ∷ []), is.count)
 
     all : take c (entries_in seen) ≡ entries_in log
-    all = take_same seen log c pre there ∙ take_all c (entries_in log) (omega (arith, is.0))
+    all = take_same seen log c pre there ∙ take_all c (entries_in log) (omega (arith, is.count))
 
     answered : IsAnswered (listing n) e (reverse (entries_in log))
     answered = subst (λ (w : Network). IsAnswered (listing w) e (reverse (entries_in log))) net_is (subst (λ (w : List Entry). IsAnswered (listing net) e (reverse w)) all next)
 
 -- an entry is added, and the words may not be right with it yet
-pub adds_entry : (net : Network) (seen : List LogItem) (e : Entry) (c : ℕ) (cs : List Cell) (log : List LogItem)
+pub adds_entry : (net : Network) (seen : List LogItem) (e : Entry) (c p s : ℕ) (cs : List Cell) (log : List LogItem)
     → IsOf net seen → c ≤ length (entries_in seen) → c < most_entries → IsAnswered (listing net) e (reverse (take c (entries_in seen)))
-    → HasRow cs log → IsPrefix seen log → (cell cs 0).0 ≡ status_word c c
-    → HasRow (slice_set cs 0 (status_word (c + 1) c, true)) (log ++ item.Entry e ∷ [])
-adds_entry net seen e c cs log of there few next row pre found =
-    adds net seen (item.Entry e) e c c cs log of there few next row pre found (entries_more log (item.Entry e ∷ [])) dones (omega arith)
-    (λ t. since_more log (item.Entry e ∷ []) t ∙ omega arith) (pending_now net seen log (log ++ item.Entry e ∷ []) e c of few pre (cs, row, found) refl).same
-  where
-    dones : done_in (log ++ item.Entry e ∷ []) ≡ c
-    dones = done_more log (item.Entry e ∷ []) ∙ omega (arith, (status_is row.0 cs log c c row.1 found (omega (arith, few)) (omega (arith, few))).1)
+    → ((t : ℕ) → 1 ≤ t → t < 128 → IsSame (listing net) seen c t)
+    → p < 128 → s < 256 → HasRow cs log → IsPrefix seen log → (cell cs 0).0 ≡ status_word c c p s
+    → HasRow (slice_set cs 0 (status_word (c + 1) c 0 0, true)) (log ++ item.Entry e ∷ [])
+adds_entry net seen e c p s cs log of there few next same old byte row pre found =
+    adds net seen (item.Entry e) e c c p s 0 0 cs log of there few next old byte row pre found refl (omega arith) (omega arith) refl (omega arith) (omega arith) (λ t. refl)
+    (λ some. absurd (omega (arith, some)))
+    (λ t low high away. same_later (listing net) seen (log ++ item.Entry e ∷ []) c t (prefix_trans seen log (log ++ item.Entry e ∷ []) pre (item.Entry e ∷ [], refl)) there (same t low high))
 
--- an entry is added, with which nothing else is shown of any node
-pub adds_unmoved : (net : Network) (seen : List LogItem) (e : Entry) (c : ℕ) (cs : List Cell) (log : List LogItem)
+-- an entry is added, with which nothing else is shown of any node but one
+pub adds_moved : (net : Network) (seen : List LogItem) (e : Entry) (c p s : ℕ) (to : Current) (cs : List Cell) (log : List LogItem)
     → IsOf net seen → c ≤ length (entries_in seen) → c < most_entries → IsAnswered (listing net) e (reverse (take c (entries_in seen)))
-    → IsUnmoved (listing net) (take c (entries_in seen)) e
-    → HasRow cs log → IsPrefix seen log → (cell cs 0).0 ≡ status_word c c
-    → HasRow (slice_set cs 0 (status_word (c + 1) (c + 1), true)) (log ++ item.Unmoved e (c + 1) ∷ [])
-adds_unmoved net seen e c cs log of there few next stays row pre found =
-    adds net seen (item.Unmoved e (c + 1)) e c (c + 1) cs log of there few next row pre found (entries_more log (item.Unmoved e (c + 1) ∷ [])) dones (omega arith)
-    (λ t. since_more log (item.Unmoved e (c + 1) ∷ []) t ∙ omega arith) same
+    → IsReady (listing net) seen c e to → to.state < 256
+    → p < 128 → s < 256 → HasRow cs log → IsPrefix seen log → (cell cs 0).0 ≡ status_word c c p s
+    → HasRow (slice_set cs 0 (status_word (c + 1) (c + 1) (number_of to.node) to.state, true)) (log ++ item.Moved e (c + 1) to.node ∷ [])
+adds_moved net seen e c p s to cs log of there few next ready less old byte row pre found =
+    adds net seen (item.Moved e (c + 1) to.node) e c (c + 1) p s (number_of to.node) to.state cs log of there few next old byte row pre found refl (omega arith) (omega arith) refl
+    ready.node less (λ t. refl) (λ some. sym (is.now some (c + 1) ready.since (omega arith))) is.same
   where
-    dones : done_in (log ++ item.Unmoved e (c + 1) ∷ []) ≡ c + 1
-    dones = done_more log (item.Unmoved e (c + 1) ∷ []) ∙ omega (arith, (status_is row.0 cs log c c row.1 found (omega (arith, few)) (omega (arith, few))).1)
+    now : List LogItem
+    now = log ++ item.Moved e (c + 1) to.node ∷ []
 
-    was : IsPending (listing net) (log ++ item.Unmoved e (c + 1) ∷ []) c e
-    was = pending_unmoved net seen log (log ++ item.Unmoved e (c + 1) ∷ []) e c of few pre (cs, row, found) refl
-
-    first : take c (entries_in seen) ≡ take c (entries_in (log ++ item.Unmoved e (c + 1) ∷ []))
-    first = take_same seen (log ++ item.Unmoved e (c + 1) ∷ []) c (prefix_trans seen log (log ++ item.Unmoved e (c + 1) ∷ []) pre (item.Unmoved e (c + 1) ∷ [], refl)) there
-
-    unmoved : IsUnmoved (listing net) (take c (entries_in (log ++ item.Unmoved e (c + 1) ∷ []))) e
-    unmoved = subst (λ (h : List Entry). IsUnmoved (listing net) h e) first stays
-
-    same : (t : ℕ) → 1 ≤ t → t < 128 → IsSame (listing net) (log ++ item.Unmoved e (c + 1) ∷ []) (c + 1) t
-    same t low small = same_stays (listing net) (log ++ item.Unmoved e (c + 1) ∷ []) c t (was.same t low small)
-        (shown_next (listing net) (log ++ item.Unmoved e (c + 1) ∷ []) c e t was ∙ unmoved t low small)
+    is : IsCurrent (listing net) now (c + 1) to
+    is = current_next (listing net) seen now c e to (prefix_trans seen log now pre (item.Moved e (c + 1) to.node ∷ [], refl)) there ready
+        (added_now log now (item.Moved e (c + 1) to.node) e c p s few old byte (cs, row, found) refl refl)
 
 -- the word of a node is stored
 pub stores : (net : Network) (seen : List LogItem) (k old c v b : ℕ) (cs : List Cell) (log : List LogItem)
@@ -176,7 +198,13 @@ stores net seen k old c v b cs log of low small there few older byte less_byte s
   record {
     of = of_later n log (log ++ item.Stored k c ∷ []) is_row.of (item.Stored k c ∷ [], refl);
     long = long_set n cs log is_row k (c * 65536 + v * 256 + b, true);
-    status = rw (at_other n cs log is_row k 0 (c * 65536 + v * 256 + b, true) (λ z. absurd (omega (arith, z, low))), entries, dones) is_row.status;
+    state = is_row.state;
+    first = record {
+      node = omega (arith, current, is_row.first.node);
+      byte = is_row.first.byte;
+      shown = λ some. is_row.first.shown (omega (arith, some, current)) ∙ rw (entries, dones, current) refl;
+    };
+    status = rw (at_other n cs log is_row k 0 (c * 65536 + v * 256 + b, true) (λ z. absurd (omega (arith, z, low))), entries, dones, current) is_row.status;
     home = λ t l s. home_later n cs log is_row k (c * 65536 + v * 256 + b) t small l s;
     words = words;
     right = record {
@@ -184,7 +212,7 @@ stores net seen k old c v b cs log of low small there few older byte less_byte s
       few = rw entries is_row.right.few;
       done = rw (entries, dones) is_row.right.done;
       since = since;
-      same = λ t l s. rw dones (same_later (listing n) log (log ++ item.Stored k c ∷ []) (done_in log) t (item.Stored k c ∷ [], refl) is_row.right.done (is_row.right.same t l s));
+      same = λ t l s away. rw dones (same_later (listing n) log (log ++ item.Stored k c ∷ []) (done_in log) t (item.Stored k c ∷ [], refl) is_row.right.done (is_row.right.same t l s (λ z. away (z ∙ sym current))));
     };
   },
 )
@@ -197,6 +225,9 @@ stores net seen k old c v b cs log of low small there few older byte less_byte s
 
     dones : done_in (log ++ item.Stored k c ∷ []) ≡ done_in log
     dones = done_more log (item.Stored k c ∷ []) ∙ omega arith
+
+    current : current_in (log ++ item.Stored k c ∷ []) ≡ current_in log
+    current = current_more 0 log (item.Stored k c ∷ [])
 
     count : c ≤ length (entries_in log)
     count = omega (arith, there, entries_count seen log pre)
@@ -241,28 +272,34 @@ stores net seen k old c v b cs log of low small there few older byte less_byte s
 pub shows_all : (net : Network) (seen : List LogItem) (c : ℕ) (cs : List Cell) (log : List LogItem)
     → IsOf net seen → 0 < c → c ≤ most_entries → c ≤ length (entries_in seen)
     → ((t : ℕ) → 1 ≤ t → t < 128 → IsSame (listing net) seen c t)
-    → HasRow cs log → IsPrefix seen log → (cell cs 0).0 ≡ status_word c (c - 1)
-    → HasRow (slice_set cs 0 (status_word c c, true)) (log ++ item.Shown c ∷ [])
+    → HasRow cs log → IsPrefix seen log → (cell cs 0).0 ≡ status_word c (c - 1) 0 0
+    → HasRow (slice_set cs 0 (status_word c c 0 0, true)) (log ++ item.Shown c ∷ [])
 shows_all net seen c cs log of some few there same (n, is_row) pre found = (
   n,
   record {
     of = of_later n log (log ++ item.Shown c ∷ []) is_row.of (item.Shown c ∷ [], refl);
-    long = long_set n cs log is_row 0 (status_word c c, true);
-    status = inl (at_set n cs log is_row 0 (status_word c c) (omega arith) ∙ ap (λ (k : ℕ). (k, true)) (omega (arith, ap length entries, is.0, dones)));
-    home = λ t low small. home_later n cs log is_row 0 (status_word c c) t (omega arith) low small;
-    words = λ t low small. word_later n cs log is_row (log ++ item.Shown c ∷ []) t (status_word c c, true) 0 low small (λ z. absurd (omega (arith, z, low))) (item.Shown c ∷ [], refl) (since t);
+    long = long_set n cs log is_row 0 (status_word c c 0 0, true);
+    state = 0;
+    first = record {
+      node = omega (arith, current);
+      byte = omega arith;
+      shown = λ node. absurd (omega (arith, node, current));
+    };
+    status = inl (at_set n cs log is_row 0 (status_word c c 0 0) (omega arith) ∙ ap (λ (k : ℕ). (k, true)) (omega (arith, ap length entries, is.count, dones, current)));
+    home = λ t low small. home_later n cs log is_row 0 (status_word c c 0 0) t (omega arith) low small;
+    words = λ t low small. word_later n cs log is_row (log ++ item.Shown c ∷ []) t (status_word c c 0 0, true) 0 low small (λ z. absurd (omega (arith, z, low))) (item.Shown c ∷ [], refl) (since t);
     right = record {
       legal = rw entries is_row.right.legal;
       few = rw entries is_row.right.few;
-      done = omega (arith, dones, is.0, ap length entries);
+      done = omega (arith, dones, is.count, ap length entries);
       since = λ t low small. omega (arith, since t, is_row.right.since t low small, ap length entries);
-      same = λ t low small. rw dones (same_later (listing n) seen (log ++ item.Shown c ∷ []) c t (prefix_trans seen log (log ++ item.Shown c ∷ []) pre (item.Shown c ∷ [], refl)) there (rw (← net_is) (same t low small)));
+      same = λ t low small away. rw dones (same_later (listing n) seen (log ++ item.Shown c ∷ []) c t (prefix_trans seen log (log ++ item.Shown c ∷ []) pre (item.Shown c ∷ [], refl)) there (rw (← net_is) (same t low small)));
     };
   },
 )
   where
-    is : (length (entries_in log) ≡ c) × (done_in log ≡ c - 1)
-    is = status_is n cs log c (c - 1) is_row found few (omega (arith, few))
+    is : IsStatus n log c (c - 1) 0 0
+    is = status_is n cs log c (c - 1) 0 0 is_row found few (omega (arith, few)) (omega arith) (omega arith)
 
     net_is : net ≡ n
     net_is = same_net net n log (of_later net seen log of pre) is_row.of
@@ -271,7 +308,10 @@ shows_all net seen c cs log of some few there same (n, is_row) pre found = (
     entries = entries_more log (item.Shown c ∷ []) ∙ append-nil (entries_in log)
 
     dones : done_in (log ++ item.Shown c ∷ []) ≡ c
-    dones = done_more log (item.Shown c ∷ []) ∙ omega (arith, is.1)
+    dones = done_more log (item.Shown c ∷ []) ∙ omega (arith, is.done)
+
+    current : current_in (log ++ item.Shown c ∷ []) ≡ 0
+    current = current_more 0 log (item.Shown c ∷ []) ∙ is.node
 
     since : (t : ℕ) → since_in (log ++ item.Shown c ∷ []) t ≡ since_in log t
     since t = since_more log (item.Shown c ∷ []) t ∙ omega arith
@@ -281,6 +321,8 @@ pub gone : (net : Network) (cs : List Cell) (log : List LogItem) → IsRow net c
 gone net cs log is_row = record {
   of = is_row.of;
   long = long_set net cs log is_row 0 (gone_word, true);
+  state = is_row.state;
+  first = is_row.first;
   status = inr (at_set net cs log is_row 0 gone_word (omega arith));
   home = λ t low small. home_later net cs log is_row 0 gone_word t (omega arith) low small;
   words = λ t low small. word_later net cs log is_row log t (gone_word, true) 0 low small (λ z. absurd (omega (arith, z, low))) ([], append-nil log) refl;
@@ -288,11 +330,10 @@ gone net cs log is_row = record {
 }
 
 -- what is known where a node's word was stored
-pub same_now : (net : Listing) (log now : List LogItem) (k c : ℕ) → now ≡ log ++ item.Stored k c ∷ [] → IsSame net now c k
-same_now net log now k c is m low high =
+pub stored_now : (log now : List LogItem) (k c : ℕ) → now ≡ log ++ item.Stored k c ∷ [] → c ≤ since_in now k
+stored_now log now k c is =
     let since : since_in now k ≡ max (since_in log k) c = ap (λ w. since_in w k) is ∙ since_more log (item.Stored k c ∷ []) k ∙ ap (max (since_in log k)) (grind (nat_tests, arith)) in
-    let same : m ≡ since_in now k = omega (arith, since, low, high) in
-    ap (λ (i : ℕ). shown_at net (entries_in now) i k) same
+    omega (arith, since)
 
 -- the words of a history without an entry
 pub first_row : (net : Network) → HasRow (replicate 128 (0, true)) (item.Opened net ∷ [])
@@ -301,6 +342,8 @@ first_row net = (
   record {
     of = ([], refl);
     long = length-replicate {A = Cell} 128 (0, true);
+    state = 0;
+    first = record { node = omega arith; byte = omega arith; shown = λ some. absurd (omega (arith, some)) };
     status = inl (get_or-replicate {A = Cell} 128 0 (0, true) (0, false) (omega arith));
     home = λ t low small. ap (λ (w : Cell). w.1) (get_or-replicate {A = Cell} 128 t (0, true) (0, false) small);
     words = λ t low small. inl (refl, ap (λ (w : Cell). w.0) (get_or-replicate {A = Cell} 128 t (0, true) (0, false) small));
@@ -309,7 +352,7 @@ first_row net = (
       few = omega arith;
       done = omega arith;
       since = λ t low small. omega arith;
-      same = λ t low small m a b. let z : m ≡ 0 = omega (arith, b) in ap (λ (i : ℕ). shown_at (listing net) [] i t) z;
+      same = λ t low small away m a b. let z : m ≡ 0 = omega (arith, b) in ap (λ (i : ℕ). shown_at (listing net) [] i t) z;
     };
   },
 )

@@ -25,9 +25,9 @@ Stays net before e node own =
 abbrev pub StaysShown : Listing → List Entry → Entry → ℕ → Type 0
 StaysShown net before e t = shown net (e ∷ reverse before) t ≡ shown net (reverse before) t
 
--- with the entry there is shown of every node what was shown of it before
-abbrev pub IsUnmoved : Listing → List Entry → Entry → Type 0
-IsUnmoved net before e = (t : ℕ) → 1 ≤ t → t < 128 → StaysShown net before e t
+-- with the entry there is shown of every node but this one what was shown of it before
+abbrev pub OthersStay : Listing → List Entry → Entry → ℕ → Type 0
+OthersStay net before e node = (t : ℕ) → 1 ≤ t → t < 128 → (t ≡ node → ⊥) → StaysShown net before e t
 
 -- after the entry this is shown of a node, where that was shown of it before
 abbrev pub LeavesState : Entry → ℕ → ℕ → ℕ → ℕ → ℕ → ℕ → ℕ → Type 0

@@ -1,5 +1,5 @@
 -- What a log says: the entries of a history, and what the row of words shows of them (own).
-use Rattle.std.specs.Prelude.{◌≡◌, ◌≤◌, ℕ, List, [], ◌∷◌, ◌==◌, if◌then◌else◌, take, reverse, max}
+use Rattle.std.specs.Prelude.{◌≡◌, ◌≤◌, ℕ, List, [], ◌∷◌, ◌==◌, if◌then◌else◌, Option, Some, None, take, reverse, max}
 use mathlib.Core.List.{IsPrefix}
 use Rattle.std.specs.FinMap as map
 use Rattle.cm_nmt.specs.Listing.{Listing}
@@ -13,13 +13,13 @@ use Rattle.cm_past.specs.declared.log_item.LogItem.TheVariants as item
 abbrev pub entries_in : List LogItem → List Entry
 entries_in [] = []
 entries_in (item.Entry e ∷ is) = e ∷ entries_in is
-entries_in (item.Unmoved e n ∷ is) = e ∷ entries_in is
+entries_in (item.Moved e n k ∷ is) = e ∷ entries_in is
 entries_in (_ ∷ is) = entries_in is
 
--- up to so many entries the words of all nodes are right
+-- up to so many entries the words of all nodes are right, but for the one whose state the first word has
 abbrev pub done_in : List LogItem → ℕ
 done_in [] = 0
-done_in (item.Unmoved e n ∷ is) = max n (done_in is)
+done_in (item.Moved e n k ∷ is) = max n (done_in is)
 done_in (item.Shown n ∷ is) = max n (done_in is)
 done_in (_ ∷ is) = done_in is
 
@@ -28,6 +28,21 @@ abbrev pub since_in : List LogItem → ℕ → ℕ
 since_in [] t = 0
 since_in (item.Stored node n ∷ is) t = if node == t then max n (since_in is t) else since_in is t
 since_in (_ ∷ is) t = since_in is t
+
+-- the number of a node, 0 for none
+abbrev pub number_of : Option ℕ → ℕ
+number_of None = 0
+number_of (Some t) = t
+
+-- the node whose state the first word has after these items, where it had this one's before them; 0 for none
+abbrev pub current_from : ℕ → List LogItem → ℕ
+current_from k [] = k
+current_from k (item.Entry e ∷ is) = current_from 0 is
+current_from k (item.Moved e n t ∷ is) = current_from (number_of t) is
+current_from k (_ ∷ is) = current_from k is
+
+abbrev pub current_in : List LogItem → ℕ
+current_in log = current_from 0 log
 
 -- the log is that of a history of this network
 abbrev pub IsOf : Network → List LogItem → Type 0

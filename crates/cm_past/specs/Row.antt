@@ -4,15 +4,18 @@ use mathlib.Core.List.{IsPrefix}
 use Rattle.logbook.specs.Pages.{Book, Cell, cell, Named, Step, View}
 use Rattle.cm_nmt.specs.Listing.{Listing}
 use Rattle.cm_netlist.specs.Network.{Network, listing}
+use Rattle.cm_history.specs.History.{shown}
 use Rattle.cm_history.specs.Legal.{IsLegal, most_entries}
 use Rattle.cm_history.specs.declared.call.Entry.{Entry}
+use Rattle.cm_past.specs.declared.current.Current.{Current}
 use Rattle.cm_past.specs.declared.log_item.LogItem.{LogItem}
-use Rattle.cm_past.specs.Changes.{IsChange}
-use Rattle.cm_past.specs.Items.{IsOf, IsSame, done_in, entries_in, shown_at, since_in}
+use Rattle.cm_past.specs.Changes.{IsChange, OthersStay}
+use Rattle.cm_past.specs.Items.{IsOf, IsSame, current_in, done_in, entries_in, number_of, shown_at, since_in}
 
--- the first word: how many entries there are, and up to how many the words of all nodes are right
-abbrev pub status_word : ℕ → ℕ → ℕ
-status_word count done = count * 4294967296 + done
+-- the first word: how many entries there are; up to how many the words of all nodes are right, but for one; and this
+-- one, 0 where there is none, with its state with so many
+abbrev pub status_word : ℕ → ℕ → ℕ → ℕ → ℕ
+status_word count done node state = count * 137438953472 + done * 65536 + node * 256 + state
 
 -- the first word where the history is shown no more
 abbrev pub gone_word : ℕ
@@ -24,19 +27,28 @@ abbrev pub IsWord : ℕ → ℕ → ℕ → ℕ → Type 0
 IsWord n since state before =
     ((since ≡ 0) × (n ≡ 0)) ⊎ ((0 < since) × (n ≡ since * 65536 + state * 256 + before) × (state < 256) × (before < 256))
 
--- the entries are a legal history, and what was stored of each node is what it shows, up to where the words are right
+-- the entries are a legal history, and what was stored of each node but one is what it shows, up to where the words are
+-- right
 pub record IsRight (net : Listing) (log : List LogItem) : Type 0 where
   pub legal : IsLegal net (reverse (entries_in log))
   pub few : length (entries_in log) ≤ most_entries
   pub done : done_in log ≤ length (entries_in log)
   pub since : (t : ℕ) → 1 ≤ t → t < 128 → since_in log t ≤ length (entries_in log)
-  pub same : (t : ℕ) → 1 ≤ t → t < 128 → IsSame net log (done_in log) t
+  pub same : (t : ℕ) → 1 ≤ t → t < 128 → (t ≡ current_in log → ⊥) → IsSame net log (done_in log) t
+
+-- what the first word says of a node is what is shown of it, up to where the words are right
+pub record IsFirst (net : Listing) (log : List LogItem) (state : ℕ) : Type 0 where
+  pub node : current_in log < 128
+  pub byte : state < 256
+  pub shown : 1 ≤ current_in log → state ≡ shown_at net (entries_in log) (done_in log) (current_in log)
 
 -- the words are those of the log
 pub record IsRow (net : Network) (cells : List Cell) (log : List LogItem) : Type 0 where
   pub of : IsOf net log
   pub long : length cells ≡ 128
-  pub status : (cell cells 0 ≡ (status_word (length (entries_in log)) (done_in log), true)) ⊎ (cell cells 0 ≡ (gone_word, true))
+  pub state : ℕ
+  pub first : IsFirst (listing net) log state
+  pub status : (cell cells 0 ≡ (status_word (length (entries_in log)) (done_in log) (current_in log) state, true)) ⊎ (cell cells 0 ≡ (gone_word, true))
   pub home : (t : ℕ) → 1 ≤ t → t < 128 → (cell cells t).1 ≡ true
   pub words : (t : ℕ) → 1 ≤ t → t < 128 → IsWord (cell cells t).0 (since_in log t) (shown_at (listing net) (entries_in log) (since_in log t) t) (shown_at (listing net) (entries_in log) (since_in log t - 1) t)
   pub right : IsRight (listing net) log
@@ -77,13 +89,30 @@ pub record IsPending (net : Listing) (log : List LogItem) (count : ℕ) (e : Ent
   pub there : count + 1 ≤ length (entries_in log)
   pub same : (t : ℕ) → 1 ≤ t → t < 128 → IsSame net log count t
 
--- the log is that of the network, its first entries are so many, with which all words are right, and the change is that
--- of the entry that is next
-pub record IsNext (net : Network) (log : List LogItem) (count : ℕ) (e : Entry) (node value own own_value : ℕ) : Type 0 where
-  pub of : IsOf net log
-  pub there : count ≤ length (entries_in log)
-  pub same : (t : ℕ) → 1 ≤ t → t < 128 → IsSame (listing net) log count t
-  pub change : IsChange (listing net) (take count (entries_in log)) e node value own own_value
+-- the entry was added to so many
+pub record IsAdded (log : List LogItem) (count : ℕ) (e : Entry) : Type 0 where
+  pub next : take (count + 1) (entries_in log) ≡ take count (entries_in log) ++ e ∷ []
+  pub there : count + 1 ≤ length (entries_in log)
+
+-- with so many entries the first word has this node's state, which was shown first with so many, and before it this;
+-- the words of all others are right
+pub record IsCurrent (net : Listing) (log : List LogItem) (count : ℕ) (c : Current) : Type 0 where
+  pub node : number_of c.node < 128
+  pub since : c.since ≤ count
+  pub now : 1 ≤ number_of c.node → (m : ℕ) → c.since ≤ m → m ≤ count → shown_at net (entries_in log) m (number_of c.node) ≡ c.state
+  pub before : 1 ≤ number_of c.node → 0 < c.since → shown_at net (entries_in log) (c.since - 1) (number_of c.node) ≡ c.before
+  pub same : (t : ℕ) → 1 ≤ t → t < 128 → (t ≡ number_of c.node → ⊥) → IsSame net log count t
+
+-- the entry can be added to so many in one step, with which the first word has this node's state: the words of all
+-- others are right with it
+pub record IsReady (net : Listing) (log : List LogItem) (count : ℕ) (e : Entry) (c : Current) : Type 0 where
+  pub node : number_of c.node < 128
+  pub since : c.since ≤ count + 1
+  pub now : 1 ≤ number_of c.node → (m : ℕ) → c.since ≤ m → m ≤ count → shown_at net (entries_in log) m (number_of c.node) ≡ c.state
+  pub next : 1 ≤ number_of c.node → c.state ≡ shown net (e ∷ reverse (take count (entries_in log))) (number_of c.node)
+  pub before : 1 ≤ number_of c.node → 0 < c.since → shown_at net (entries_in log) (c.since - 1) (number_of c.node) ≡ c.before
+  pub same : (t : ℕ) → 1 ≤ t → t < 128 → (t ≡ number_of c.node → ⊥) → IsSame net log count t
+  pub others : OthersStay net (take count (entries_in log)) e (number_of c.node)
 
 -- the log is that of the network, and the change is that of the entry that was added to so many
 pub record IsMoving (net : Network) (log : List LogItem) (count : ℕ) (e : Entry) (node value own own_value : ℕ) : Type 0 where

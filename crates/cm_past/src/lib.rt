@@ -13,6 +13,7 @@
 #![tactic(auto)]
 
 mod change;
+mod current;
 mod history_name;
 mod log_item;
 mod past;

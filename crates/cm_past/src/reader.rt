@@ -61,9 +61,12 @@ fn see<K: HistoryName>(
     if status == GONE {
         return None;
     }
+    let done = status / 65_536 % 2_097_152;
+    if status / 256 % 256 == u64::from(id.get()) {
+        return Some((done, (status % 256) as u8));
+    }
     let word = row.look(usize::from(id.get()), seen);
     let (since, state, before) = split(word, id == own);
-    let done = status % 4_294_967_296;
     if since <= done {
         Some((done, state))
     } else {

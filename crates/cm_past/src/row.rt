@@ -4,15 +4,15 @@ ghost use mathlib.Core.List.{IsPrefix};
 ghost use Rattle.logbook.specs.Pages.{Cell, cell};
 ghost use Rattle.cm_netlist.specs.Network.{listing};
 ghost use Rattle.cm_history.specs.Legal.{IsAnswered, most_entries};
-ghost use Rattle.cm_past.specs.Changes.{IsUnmoved};
-ghost use Rattle.cm_past.specs.Items.{IsOf, IsSame, entries_in, shown_at};
-ghost use Rattle.cm_past.specs.Row.{AreWords, Found, HasRow, IsPending, status_word};
+ghost use Rattle.cm_past.specs.Items.{IsOf, IsSame, entries_in, number_of, shown_at, since_in};
+ghost use Rattle.cm_past.specs.Row.{AreWords, Found, HasRow, IsAdded, IsPending, IsReady, status_word};
 ghost use Rattle.cm_past.specs.declared.log_item.LogItem.{LogItem as Item};
 
+use crate::current::Current;
 use crate::history_name::HistoryName;
 use crate::log_item::LogItem;
 use crate::row_rule::{
-    Adding, AskEntry, AskShown, AskStored, AskUnmoved, End, Look, NoGain, Put, RowRule, SeenLog,
+    Adding, AskEntry, AskMoved, AskShown, AskStored, End, Look, NoGain, Put, RowRule, SeenLog,
     Storing,
 };
 use cm_history::Entry;
@@ -26,13 +26,27 @@ pub(crate) const GONE: u64 = u64::MAX;
 /// The words of a row.
 pub(crate) type Words = Vec<Word<LogItem, u64, RowRule>>;
 
-/// The first word: how many entries there are, and up to how many the words of all nodes are right.
+/// The number of a node, 0 for none.
 #[inline(always)]
-fn status(count: u64, done: u64) -> u64
-    requires { (count ≤ most_entries) × (done ≤ most_entries) }
-    ensures { result ≡ status_word count done }
+fn number(node: Option<NodeId>) -> u64
+    ensures value { result ≡ number_of node }
+    ensures range { result < 128 }
 {
-    count * 4_294_967_296 + done
+    match node {
+        Some(id) => u64::from(id.get()),
+        None => 0,
+    }
+}
+
+/// The first word: how many entries there are, up to how many the words of all nodes but one are right, and this
+/// one with its state.
+#[inline(always)]
+fn status(count: u64, done: u64, node: Option<NodeId>, state: u8) -> u64
+    requires { (count ≤ most_entries) × (done ≤ most_entries) }
+    ensures value { result ≡ status_word count done (number_of node) state }
+    ensures range { (number_of node < 128) × (state < 256) }
+{
+    count * 137_438_953_472 + done * 65_536 + number(node) * 256 + u64::from(state)
 }
 
 /// A word for the status, and one for each node, under the node's ID.
@@ -93,61 +107,63 @@ impl<K: HistoryName> Row<K> {
         found == old
     }
 
-    /// Adds the next entry to the log, where the history has so many and all of them are shown.
+    /// Adds the next entry to the log, where the history has so many, and the first word is this. The words of all
+    /// nodes are right with so many, and the first word has no node's state then.
     #[inline(always)]
-    pub(crate) fn announce(&self, count: u64, entry: &Entry, seen: &mut SeenLog) -> bool
+    pub(crate) fn announce(
+        &self,
+        count: u64,
+        entry: &Entry,
+        from: &Current,
+        seen: &mut SeenLog,
+    ) -> bool
         requires of { (seen.old.book ≡ K.log) × IsOf K.net seen.old.log }
         requires count { (count < most_entries) × (count ≤ length (entries_in seen.old.log)) }
         requires answered { IsAnswered (listing K.net) entry.now
             (reverse (take count (entries_in seen.old.log))) }
+        requires same { (t : ℕ) → 1 ≤ t → t < 128 → IsSame (listing K.net) seen.old.log count t }
         ensures book { seen.new.book ≡ seen.old.book }
         ensures later { IsPrefix seen.old.log seen.new.log }
         ensures next { IsTrue result → IsPending (listing K.net) seen.new.log count entry.now }
     {
         self.put::<Entry, AskEntry>(
             0,
-            status(count, count),
-            status(count + 1, count),
+            status(count, count, from.node, from.state),
+            status(count + 1, count, None, 0),
             entry,
             seen,
         )
     }
 
-    /// Whether the history has so many entries, and the words of all nodes are right with them.
+    /// Adds the next entry to the log, with which nothing else is shown of any node but one, where the history has
+    /// so many, and the first word is this. Readers see it from then on.
     #[inline(always)]
-    pub(crate) fn shows(&self, count: u64, seen: &mut SeenLog) -> bool
-        requires of { (seen.old.book ≡ K.log) × IsOf K.net seen.old.log }
-        requires few { count ≤ most_entries }
-        ensures book { seen.new.book ≡ seen.old.book }
-        ensures later { IsPrefix seen.old.log seen.new.log }
-        ensures same { IsTrue result → (t : ℕ) → 1 ≤ t → t < 128
-            → IsSame (listing K.net) seen.new.log count t }
-    {
-        let status_now = self.look(0, seen);
-        status_now == status(count, count)
-    }
-
-    /// Adds the next entry to the log, with which nothing else is shown of any node, where the history has so
-    /// many and all of them are shown: they are with it too.
-    #[inline(always)]
-    pub(crate) fn add_unmoved(&self, count: u64, entry: &Entry, seen: &mut SeenLog) -> bool
+    pub(crate) fn add(
+        &self,
+        count: u64,
+        entry: &Entry,
+        from: &Current,
+        to: &Current,
+        seen: &mut SeenLog,
+    ) -> bool
         requires of { (seen.old.book ≡ K.log) × IsOf K.net seen.old.log }
         requires count { (count < most_entries) × (count ≤ length (entries_in seen.old.log)) }
         requires answered { IsAnswered (listing K.net) entry.now
             (reverse (take count (entries_in seen.old.log))) }
-        requires unmoved { IsUnmoved (listing K.net) (take count (entries_in seen.old.log)) entry.now }
+        requires ready { IsReady (listing K.net) seen.old.log count entry.now to.now }
         ensures book { seen.new.book ≡ seen.old.book }
         ensures later { IsPrefix seen.old.log seen.new.log }
-        ensures next { IsTrue result → IsPending (listing K.net) seen.new.log count entry.now }
+        ensures added { IsTrue result → IsAdded seen.new.log count entry.now }
     {
         let adding = Adding {
             entry,
             count: count + 1,
+            node: to.node,
         };
-        self.put::<Adding<'_>, AskUnmoved>(
+        self.put::<Adding<'_>, AskMoved>(
             0,
-            status(count, count),
-            status(count + 1, count + 1),
+            status(count, count, from.node, from.state),
+            status(count + 1, count + 1, to.node, to.state),
             &adding,
             seen,
         )
@@ -172,7 +188,7 @@ impl<K: HistoryName> Row<K> {
         requires before { before ≡ shown_at (listing K.net) (entries_in seen.old.log) (count - 1) id }
         ensures book { seen.new.book ≡ seen.old.book }
         ensures later { IsPrefix seen.old.log seen.new.log }
-        ensures same { IsTrue result → IsSame (listing K.net) seen.new.log count id }
+        ensures stored { IsTrue result → count ≤ since_in seen.new.log id }
     {
         let about = Storing {
             node: id,
@@ -184,7 +200,7 @@ impl<K: HistoryName> Row<K> {
 
     /// Says that the words of all nodes are right with so many entries, where they were with one less.
     #[inline(always)]
-    pub(crate) fn show(&self, count: u64, seen: &mut SeenLog)
+    pub(crate) fn show(&self, count: u64, seen: &mut SeenLog) -> bool
         requires of { (seen.old.book ≡ K.log) × IsOf K.net seen.old.log }
         requires count { (0 < count) × (count ≤ most_entries)
             × (count ≤ length (entries_in seen.old.log)) }
@@ -193,8 +209,13 @@ impl<K: HistoryName> Row<K> {
         ensures book { seen.new.book ≡ seen.old.book }
         ensures later { IsPrefix seen.old.log seen.new.log }
     {
-        let old = status(count, count - 1);
-        let _shown = self.put::<u64, AskShown>(0, old, status(count, count), &count, seen);
+        self.put::<u64, AskShown>(
+            0,
+            status(count, count - 1, None, 0),
+            status(count, count, None, 0),
+            &count,
+            seen,
+        )
     }
 
     /// Says that the history is shown no more.

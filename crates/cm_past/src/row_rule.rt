@@ -83,21 +83,22 @@ impl Plain<Entry, LogItem, u64> for AskEntry {
     ghost state = { λ entry. None };
 }
 
-/// An entry that is added, and how many there are with it.
+/// An entry that is added, how many there are with it, and the node whose state the first word has then.
 #[derive(Clone, Copy)]
 pub struct Adding<'e> {
     pub entry: &'e Entry,
     pub count: u64,
+    pub node: Option<NodeId>,
 }
 
 /// Asks for an entry with which no node's word changes.
-pub struct AskUnmoved;
+pub struct AskMoved;
 
-impl<'e> Plain<Adding<'e>, LogItem, u64> for AskUnmoved {
+impl<'e> Plain<Adding<'e>, LogItem, u64> for AskMoved {
     ghost use Rattle.std.specs.Prelude.{None};
     ghost use Rattle.cm_past.specs.declared.log_item.LogItem.TheVariants as item;
 
-    ghost ask = { λ a. item.Unmoved a.entry.now a.count };
+    ghost ask = { λ a. item.Moved a.entry.now a.count a.node };
 
     ghost state = { λ a. None };
 }

@@ -1,12 +1,14 @@
+use Rattle.cm_past.specs.Items.{number_of}
 use Rattle.cm_past.proofs.RowSteps.{adds_entry, pending_now}
 use Rattle.cm_past.proofs.row.Row.announce.Goals as goal
 
 pub put-requires-clause-keeps : goal.put-requires-clause-keeps
 put-requires-clause-keeps g c =
-    λ cells log row pre found. rw c.status-2.ensures (adds_entry g.K.HistoryName.net c.args.seen.now.log c.args.entry.now c.args.count cells log
-    c.requires.of.1 c.requires.count.1 c.requires.count.0 c.requires.answered row pre (rw (← c.status.ensures) found))
+    λ cells log row pre found. rw c.status-2.ensures.value (adds_entry g.K.HistoryName.net c.args.seen.now.log c.args.entry.now c.args.count (number_of c.args.from.now.node) c.args.from.now.state cells log
+    c.requires.of.1 c.requires.count.1 c.requires.count.0 c.requires.answered c.requires.same c.status.ensures.range.0 c.status.ensures.range.1 row pre (rw (← c.status.ensures.value) found))
 
 pub returns-clause-next : goal.returns-clause-next
 returns-clause-next g c = λ t.
     let told = c.put.ensures.added t in
-    pending_now g.K.HistoryName.net c.args.seen.now.log told.0 c.put.new.seen.log c.args.entry.now c.args.count c.requires.of.1 c.requires.count.0 told.2 (rw (← c.status.ensures) told.1) told.3
+    pending_now g.K.HistoryName.net c.args.seen.now.log told.0 c.put.new.seen.log c.args.entry.now c.args.count (number_of c.args.from.now.node) c.args.from.now.state
+    c.requires.count.0 c.requires.count.1 c.status.ensures.range.0 c.status.ensures.range.1 c.requires.same told.2 (rw (← c.status.ensures.value) told.1) told.3

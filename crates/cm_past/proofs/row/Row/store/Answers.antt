@@ -1,6 +1,5 @@
 use Rattle.std.proofs.Common.{arith}
-use Rattle.cm_netlist.specs.Network.{listing}
-use Rattle.cm_past.proofs.RowSteps.{same_now, stores}
+use Rattle.cm_past.proofs.RowSteps.{stored_now, stores}
 use Rattle.cm_past.proofs.row.Row.store.Goals as goal
 
 pub put-requires-clause-keeps : goal.put-requires-clause-keeps
@@ -9,7 +8,7 @@ put-requires-clause-keeps g c =
     c.requires.of.1 (omega (arith, c.get.ensures.value, c.get.ensures.range)) (omega (arith, c.get.ensures.value, c.get.ensures.range)) c.requires.count.1 c.requires.count.0 c.requires.older c.ranges.state.fits c.ranges.before.fits c.requires.state c.requires.before
     row pre (rw (← c.get.ensures.value, ← c.from-3.ensures) found))
 
-pub returns-clause-same : goal.returns-clause-same
-returns-clause-same g c = λ t.
+pub returns-clause-stored : goal.returns-clause-stored
+returns-clause-stored g c = λ t.
     let told = c.put.ensures.added t in
-    same_now (listing g.K.HistoryName.net) told.0 c.put.new.seen.log c.args.id c.args.count told.3
+    stored_now told.0 c.put.new.seen.log c.args.id c.args.count told.3

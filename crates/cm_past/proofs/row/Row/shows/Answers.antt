@@ -1,2 +1,0 @@
-use Rattle.cm_past.proofs.RowSteps.{same_all}
-use Rattle.cm_past.proofs.row.Row.shows.Goals as goal

@@ -1,0 +1,63 @@
+//! Of which node the first word of a row has the state.
+ghost use Rattle.std.specs.Prelude.{◌≡◌, ◌<◌, ◌+◌, ◌⊎◌, ◌↔◌, None, IsTrue};
+ghost use Rattle.cm_history.specs.Legal.{most_entries};
+ghost use Rattle.cm_past.specs.Items.{number_of};
+
+use cm_nmt::NodeId;
+
+/// The node whose state the first word has, and what its own word has to say before another takes its place.
+#[derive(Clone, Copy)]
+pub(crate) struct Current {
+    /// `None` where the first word has no node's state.
+    pub node: Option<NodeId>,
+    /// With so many entries the state was shown first.
+    pub since: u64,
+    pub state: u8,
+    /// What was shown with one entry less than that.
+    pub before: u8,
+}
+
+impl Current {
+    /// Of no node.
+    pub(crate) fn none() -> Current
+        ensures { (result.node ≡ None) × (result.since ≡ 0) }
+    {
+        Current {
+            node: None,
+            since: 0,
+            state: 0,
+            before: 0,
+        }
+    }
+
+    /// Whether it is this node's state.
+    #[inline(always)]
+    pub(crate) fn is_of(&self, id: NodeId) -> bool
+        ensures { IsTrue result ↔ (id ≡ number_of self.now.node) }
+    {
+        match self.node {
+            Some(node) => node == id,
+            None => false,
+        }
+    }
+
+    /// The same node's, where this state is shown of it with one entry more than so many.
+    #[inline(always)]
+    pub(crate) fn with(&self, count: u64, state: u8) -> Current
+        requires { count < most_entries }
+        ensures node { result.node ≡ self.now.node }
+        ensures state { result.state ≡ state }
+        ensures cases { (result ≡ self.now)
+            ⊎ ((result.since ≡ count + 1) × (result.before ≡ self.now.state)) }
+    {
+        if state == self.state {
+            return *self;
+        }
+        Current {
+            node: self.node,
+            since: count + 1,
+            state,
+            before: self.state,
+        }
+    }
+}
