@@ -80,26 +80,24 @@ all_but_one net before e node own others that t low small away = elim (cases_eq 
 -- the change is of the node whose state the first word has
 pub ready_same : (net : Listing) (log : List LogItem) (c : ℕ) (e : Entry) (node value own own_value : ℕ) (cur to : Current)
     → IsChange net (take c (entries_in log)) e node value own own_value → Stays net (take c (entries_in log)) e node own → StaysShown net (take c (entries_in log)) e own
-    → IsCurrent net log c cur → node ≡ number_of cur.node → to.node ≡ cur.node → to.state ≡ value → (to ≡ cur) ⊎ ((to.since ≡ c + 1) × (to.before ≡ cur.state)) → IsReady net log c e to
-ready_same net log c e node value own own_value cur to change others that was is same state (inl kept) = record {
-  node = rw kept was.node;
-  since = omega (arith, was.since, ap (λ (x : Current). x.since) kept);
-  now = rw kept was.now;
-  next = λ some. state ∙ change.of_node ∙ ap (shown net (e ∷ reverse (take c (entries_in log)))) (is ∙ ap number_of (sym same));
-  before = rw kept was.before;
-  same = rw kept was.same;
-  others = rw (same, ← is) (all_but_one net (take c (entries_in log)) e node own others that);
-}
-ready_same net log c e node value own own_value cur to change others that was is same state (inr moved) = record {
+    → IsCurrent net log c cur → node ≡ number_of cur.node → to.node ≡ cur.node → to.state ≡ value → to.since ≡ c + 1 → to.before ≡ cur.state → IsReady net log c e to
+ready_same net log c e node value own own_value cur to change others that was is same state since before = record {
   node = rw same was.node;
-  since = omega (arith, moved.0);
-  now = λ some m low high. absurd (omega (arith, low, high, moved.0));
+  since = omega (arith, since);
+  now = λ some m low high. absurd (omega (arith, low, high, since));
   next = λ some. state ∙ change.of_node ∙ ap (shown net (e ∷ reverse (take c (entries_in log)))) (is ∙ ap number_of (sym same));
-  before = λ some since. let last : to.since - 1 ≡ c = omega (arith, moved.0) in
-      rw (last, moved.1, same) (was.now (rw (← same) some) c was.since (omega arith));
+  before = λ some some_since. let last : to.since - 1 ≡ c = omega (arith, since) in
+      rw (last, before, same) (was.now (rw (← same) some) c was.since (omega arith));
   same = rw same was.same;
   others = rw (same, ← is) (all_but_one net (take c (entries_in log)) e node own others that);
 }
+
+-- the change is of the node whose state the first word has, and its state stays
+pub stays_current : (net : Listing) (log : List LogItem) (c : ℕ) (e : Entry) (node value own own_value : ℕ) (cur : Current)
+    → IsChange net (take c (entries_in log)) e node value own own_value → IsCurrent net log c cur → 1 ≤ node → node ≡ number_of cur.node → cur.state ≡ value
+    → StaysShown net (take c (entries_in log)) e node
+stays_current net log c e node value own own_value cur change was low is same =
+    sym change.of_node ∙ sym same ∙ sym (was.now (omega (arith, low, is)) c was.since (omega arith)) ∙ ap (shown_at net (entries_in log) c) (sym is)
 
 -- what is shown of no node changes
 pub ready_kept : (net : Listing) (log : List LogItem) (c : ℕ) (e : Entry) (node own : ℕ) (cur : Current)

@@ -1,5 +1,5 @@
 //! Of which node the first word of a row has the state.
-ghost use Rattle.std.specs.Prelude.{◌≡◌, ◌<◌, ◌+◌, ◌⊎◌, ◌↔◌, None, IsTrue};
+ghost use Rattle.std.specs.Prelude.{◌≡◌, ◌<◌, ◌+◌, ◌↔◌, None, IsTrue};
 ghost use Rattle.cm_history.specs.Legal.{most_entries};
 ghost use Rattle.cm_past.specs.Items.{number_of};
 
@@ -47,12 +47,8 @@ impl Current {
         requires { count < most_entries }
         ensures node { result.node ≡ self.now.node }
         ensures state { result.state ≡ state }
-        ensures cases { (result ≡ self.now)
-            ⊎ ((result.since ≡ count + 1) × (result.before ≡ self.now.state)) }
+        ensures since { (result.since ≡ count + 1) × (result.before ≡ self.now.state) }
     {
-        if state == self.state {
-            return *self;
-        }
         Current {
             node: self.node,
             since: count + 1,
