@@ -1,5 +1,5 @@
 -- The node whose state the first word has, from one entry to the next.
-use Rattle.std.proofs.Common.{◌≡◌, ℕ, ◌+◌, ◌-◌, ◌<◌, ◌≤◌, ◌⊎◌, inl, inr, List, ◌∷◌, length, take, ap, sym, subst, ◌∙◌, arith}
+use Rattle.std.proofs.Common.{◌≡◌, ℕ, ◌+◌, ◌-◌, ◌<◌, ◌≤◌, inl, inr, List, ◌∷◌, length, take, ap, sym, subst, ◌∙◌, arith}
 use Rattle.std.specs.Prelude.{reverse}
 use Rattle.std.proofs.lemmas.Bool.{cases_eq, ne_eqb}
 use mathlib.Core.List.{IsPrefix}
@@ -10,9 +10,9 @@ use Rattle.cm_past.specs.declared.current.Current.{Current}
 use Rattle.cm_past.specs.declared.log_item.LogItem.{LogItem}
 use Rattle.cm_past.specs.Changes.{IsChange, OthersStay, Stays, StaysShown}
 use Rattle.cm_past.specs.Items.{IsSame, entries_in, number_of, shown_at, since_in}
-use Rattle.cm_past.specs.Row.{IsAdded, IsCurrent, IsReady}
+use Rattle.cm_past.specs.Row.{IsAdded, IsCurrent, IsFound, IsReady}
 use Rattle.cm_past.proofs.Items.{same_later, shown_same, take_same}
-use Rattle.cm_past.proofs.Refreshing.{below, same_stays, shown_next}
+use Rattle.cm_past.proofs.Refreshing.{below, same_stays, shown_before, shown_next}
 
 -- what is known of it stays while no entry is added
 pub current_later : (net : Listing) (xs ys : List LogItem) (c : ℕ) (cur : Current) → IsPrefix xs ys → c ≤ length (entries_in xs) → IsCurrent net xs c cur → IsCurrent net ys c cur
@@ -23,6 +23,13 @@ current_later net xs ys c cur p there was = record {
   before = λ some since. sym (shown_same net xs ys (cur.since - 1) (number_of cur.node) p (omega (arith, was.since, there))) ∙ was.before some since;
   same = λ t low small away. same_later net xs ys c t p there (was.same t low small away);
 }
+
+-- what was found in the word of another node is what is shown of it
+pub found_shown : (net : Listing) (xs ys : List LogItem) (c t : ℕ) (cur : Current) (word since state : ℕ) → IsPrefix xs ys → c ≤ length (entries_in xs) → IsCurrent net xs c cur
+    → IsFound net ys t word since state → (t ≡ number_of cur.node → ⊥) → since ≤ c → state ≡ shown net (reverse (take c (entries_in ys))) t
+found_shown net xs ys c t cur word since state p there was found away near =
+    let now = current_later net xs ys c cur p there was in
+    shown_before net ys c t state (now.same t found.low found.small away) (omega (arith, near, found.stored)) found.shown
 
 -- it is right with the entry that was found right to add
 pub current_next : (net : Listing) (xs ys : List LogItem) (c : ℕ) (e : Entry) (to : Current) → IsPrefix xs ys → c ≤ length (entries_in xs) → IsReady net xs c e to → IsAdded ys c e

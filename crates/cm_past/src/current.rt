@@ -8,10 +8,10 @@ use cm_nmt::NodeId;
 /// The node whose state the first word has, and what its own word has to say before another takes its place.
 #[derive(Clone, Copy)]
 pub(crate) struct Current {
-    /// `None` where the first word has no node's state.
-    pub node: Option<NodeId>,
     /// With so many entries the state was shown first.
     pub since: u64,
+    /// `None` where the first word has no node's state.
+    pub node: Option<NodeId>,
     pub state: u8,
     /// What was shown with one entry less than that.
     pub before: u8,
@@ -23,8 +23,8 @@ impl Current {
         ensures { (result.node ≡ None) × (result.since ≡ 0) }
     {
         Current {
-            node: None,
             since: 0,
+            node: None,
             state: 0,
             before: 0,
         }
@@ -50,8 +50,8 @@ impl Current {
         ensures since { (result.since ≡ count + 1) × (result.before ≡ self.now.state) }
     {
         Current {
-            node: self.node,
             since: count + 1,
+            node: self.node,
             state,
             before: self.state,
         }

@@ -6,8 +6,9 @@
 //!
 //! A [`HistoryWriter`], of which each history has one, makes the history longer by an entry and shows what
 //! is changed by it: in a row of words that threads share, one for each node, with the node's state as a
-//! read of it is answered. A [`HistoryReader`] looks at a node's word. It takes no lock, no memory and
-//! doesn't wait, and what it sees has all that it knew before as its beginning.
+//! read of it is answered, and a first one, which has how many entries there are and the state of the node
+//! that changed last. A [`HistoryReader`] looks at the first word and at a node's. It takes no lock, no
+//! memory and doesn't wait, and what it sees has all that it knew before as its beginning.
 //!
 //! [`UnnamedHistory::new`] makes the row, and [`UnnamedHistory::named`] gives the writer.
 #![tactic(auto)]

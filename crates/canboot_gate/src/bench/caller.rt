@@ -62,18 +62,56 @@ impl Caller {
     /// Goes on after this reply.
     #[inline(always)]
     pub fn go_on(&mut self, reply: &Reply) {
+        self.note(reply);
+        self.step = self.step.saturating_add(1) % ROUND;
+        if self.step == 0 {
+            self.go_to_next();
+        }
+    }
+
+    /// Takes the session from the reply to a begin.
+    #[inline(always)]
+    fn note(&mut self, reply: &Reply) {
         if let Reply::Begun(number) = reply {
             self.session = *number;
         }
-        self.step = self.step.saturating_add(1) % ROUND;
-        if self.step == 0 {
-            let next = self.place.saturating_add(self.threads);
-            self.place = if next < usize::from(SLAVES) {
-                next
-            } else {
-                self.first
-            };
+    }
+
+    fn go_to_next(&mut self) {
+        let next = self.place.saturating_add(self.threads);
+        self.place = if next < usize::from(SLAVES) {
+            next
+        } else {
+            self.first
+        };
+    }
+
+    /// Makes the calls of one boot. Each stands for itself, so that no more is written of a call than it has.
+    #[inline(always)]
+    fn boot<W: Wire, K: RunName, R: Wait>(
+        &mut self,
+        rt: &R,
+        register: &Register<W, K>,
+        seat: &mut Seat<K>,
+        terms: &[Terms],
+    ) -> Option<()> {
+        let id = self.slave()?;
+        let listed = self.listed(terms)?;
+        let begun = register.call(rt, seat, Call::Begin(id)).ok()?;
+        self.note(&begun.reply);
+        let report = Call::Report(id, self.session, agreeing(listed));
+        register.call(rt, seat, report).ok()?;
+        register.call(rt, seat, Call::Read(id.get())).ok()?;
+        register.call(rt, seat, Call::Signal(id, 5)).ok()?;
+        register.call(rt, seat, Call::Request(id.get(), 127)).ok()?;
+        register.call(rt, seat, Call::Elapsed(1)).ok()?;
+        if self.place % 2 == 0 {
+            register.call(rt, seat, Call::Signal(id, 0)).ok()?;
+        } else {
+            register.call(rt, seat, Call::Lost(id)).ok()?;
         }
+        self.go_to_next();
+        Some(())
     }
 }
 
@@ -86,7 +124,10 @@ pub fn call_often<W: Wire, K: RunName, R: Wait>(
     mut caller: Caller,
     count: u32,
 ) -> Option<()> {
-    for _ in 0..count {
+    for _ in 0..count / ROUND as u32 {
+        caller.boot(rt, register, seat, terms)?;
+    }
+    for _ in 0..count % ROUND as u32 {
         let id = caller.slave()?;
         let listed = caller.listed(terms)?;
         let receipt = register.call(rt, seat, caller.next_call(id, listed)).ok()?;
