@@ -1,0 +1,140 @@
+//! How the words of nodes are looked at and stored.
+ghost use Rattle.std.specs.Prelude.{◌≡◌, ◌≤◌, ◌<◌, ◌+◌, ℕ, length, IsTrue};
+ghost use mathlib.Core.List.{IsPrefix};
+ghost use Rattle.cm_netlist.specs.Network.{listing};
+ghost use Rattle.cm_history.specs.Legal.{most_entries};
+ghost use Rattle.cm_past.specs.Items.{IsOf, IsSame, entries_in};
+ghost use Rattle.cm_past.specs.Row.{IsCurrent, IsFound, IsMoving};
+
+use crate::change::Change;
+use crate::current::Current;
+use crate::history_name::HistoryName;
+use crate::reader::split;
+use crate::row::Row;
+use crate::row_rule::SeenLog;
+use cm_nmt::NodeId;
+
+/// What is in a node's word: the number, with how many entries it was stored, and the state.
+#[inline(always)]
+pub(crate) fn find<K: HistoryName>(
+    row: &Row<K>,
+    own: NodeId,
+    id: NodeId,
+    seen: &mut SeenLog,
+) -> (u64, u64, u8)
+    requires of { (seen.old.book ≡ K.log) × IsOf K.net seen.old.log }
+    requires own { own ≡ K.net.own }
+    ensures book { seen.new.book ≡ seen.old.book }
+    ensures later { IsPrefix seen.old.log seen.new.log }
+    ensures found { IsFound (listing K.net) seen.new.log id result.0 result.1 result.2 }
+{
+    let word = row.look(usize::from(id.get()), seen);
+    let (since, state, _before) = split(word, id == own);
+    (word, since, state)
+}
+
+/// Stores the word of the node whose state the first word has: the words of all nodes are right then. `false` where
+/// it isn't as it was found.
+pub(crate) fn put_away<K: HistoryName>(
+    row: &Row<K>,
+    own: NodeId,
+    count: u64,
+    current: &Current,
+    seen: &mut SeenLog,
+) -> bool
+    requires of { (seen.old.book ≡ K.log) × IsOf K.net seen.old.log }
+    requires own { own ≡ K.net.own }
+    requires count { (count ≤ most_entries) × (count ≤ length (entries_in seen.old.log)) }
+    requires current { IsCurrent (listing K.net) seen.old.log count current.now }
+    ensures book { seen.new.book ≡ seen.old.book }
+    ensures later { IsPrefix seen.old.log seen.new.log }
+    ensures same { IsTrue result → (t : ℕ) → 1 ≤ t → t < 128
+        → IsSame (listing K.net) seen.new.log count t }
+{
+    let Some(id) = current.node else {
+        return true;
+    };
+    let (found, since, _state) = find(row, own, id, seen);
+    if current.since <= since {
+        return true;
+    }
+    row.store(
+        id,
+        found,
+        current.since,
+        current.state,
+        current.before,
+        seen,
+    )
+}
+
+/// Stores what is shown of a node with the entry, where it was another before. `false` where its word
+/// isn't as it was found.
+#[inline(always)]
+fn refresh<K: HistoryName>(
+    row: &Row<K>,
+    change: &Change<'_>,
+    id: NodeId,
+    seen: &mut SeenLog,
+) -> bool
+    requires book { seen.old.book ≡ K.log }
+    requires moving { IsMoving K.net seen.old.log change.now.count change.now.entry.now change.now.node
+        change.now.value change.now.own change.now.own_value }
+    ensures book { seen.new.book ≡ seen.old.book }
+    ensures later { IsPrefix seen.old.log seen.new.log }
+    ensures same { IsTrue result → IsSame (listing K.net) seen.new.log (change.now.count + 1) id }
+{
+    let (found, since, before) = find(row, change.own, id, seen);
+    if since > change.count {
+        return true;
+    }
+    let state = change.state(id, before);
+    if state == before {
+        return true;
+    }
+    row.store(id, found, change.count + 1, state, before, seen)
+}
+
+/// [`refresh`] for every node.
+#[inline(never)]
+fn refresh_all<K: HistoryName>(row: &Row<K>, change: &Change<'_>, seen: &mut SeenLog) -> bool
+    requires book { seen.old.book ≡ K.log }
+    requires moving { IsMoving K.net seen.old.log change.now.count change.now.entry.now change.now.node
+        change.now.value change.now.own change.now.own_value }
+    ensures book { seen.new.book ≡ seen.old.book }
+    ensures later { IsPrefix seen.old.log seen.new.log }
+    ensures same { IsTrue result → (t : ℕ) → 1 ≤ t → t < 128
+        → IsSame (listing K.net) seen.new.log (change.now.count + 1) t }
+{
+    for number in 1..128 {
+        let Some(id) = NodeId::new(number) else {
+            return false;
+        };
+        if !refresh(row, change, id, seen) {
+            return false;
+        }
+    }
+    true
+}
+
+/// Stores what is shown with the entry of each node of which another state was shown before. `false`
+/// where a word isn't as it was found.
+#[inline(always)]
+pub(crate) fn store_states<K: HistoryName>(
+    row: &Row<K>,
+    change: &Change<'_>,
+    seen: &mut SeenLog,
+) -> bool
+    requires book { seen.old.book ≡ K.log }
+    requires moving { IsMoving K.net seen.old.log change.now.count change.now.entry.now change.now.node
+        change.now.value change.now.own change.now.own_value }
+    ensures book { seen.new.book ≡ seen.old.book }
+    ensures later { IsPrefix seen.old.log seen.new.log }
+    ensures same { IsTrue result → (t : ℕ) → 1 ≤ t → t < 128
+        → IsSame (listing K.net) seen.new.log (change.now.count + 1) t }
+{
+    if change.is_of_all() {
+        return refresh_all(row, change, seen);
+    }
+    refresh(row, change, change.node, seen) && refresh(row, change, change.own, seen)
+}
