@@ -292,7 +292,6 @@ impl Manager {
     }
 
     /// The answer to a hold.
-    #[inline(always)]
     fn answer_hold(&self, id: NodeId) -> (Reply, Orders)
         ensures { IsAnswer self.now (call.Hold id) result.0 result.1 }
     {
@@ -310,7 +309,6 @@ impl Manager {
     }
 
     /// The answer to a release.
-    #[inline(always)]
     fn answer_release(&self, id: NodeId) -> (Reply, Orders)
         ensures { IsAnswer self.now (call.Release id) result.0 result.1 }
     {
