@@ -1,4 +1,6 @@
 ghost use Rattle.std.specs.Prelude.{◌≡◌, ◌≤◌, length, map, vec_capacity, vec_len, IfOk, IfErr};
+ghost use Rattle.cm_netlist.specs.Network.{listing};
+ghost use Rattle.cm_history.specs.Legal.{IsHistory};
 ghost use Rattle.cm_seat.specs.Handing.{calls_by, calls_in, count_calls};
 ghost use Rattle.cm_register.specs.BookInvariant.{MayClose};
 ghost use Rattle.cm_register.specs.Closing.{IsCloseCause, IsClosed, close_number};
@@ -6,6 +8,7 @@ ghost use Rattle.cm_register.specs.Closing.{IsCloseCause, IsClosed, close_number
 use crate::book::Book;
 use cm_history::Entry;
 use cm_nmt::Wire;
+use cm_recorder::{Recorder, Unrecorded};
 use cm_seat::{RunName, Seat, SeatList, are_apart, are_known};
 use cm_sequential::Manager;
 use std::sync::ledger::Share;
@@ -52,9 +55,9 @@ impl CloseKind {
 
 /// Why a book isn't closed, with the book and the seats, which go on working.
 #[derive(Drop)]
-pub struct BookFault<'n, W: Wire, K: RunName> {
+pub struct BookFault<'n, W: Wire, K: RunName, J: Recorder = Unrecorded> {
     pub kind: CloseKind,
-    pub book: Book<'n, W, K>,
+    pub book: Book<'n, W, K, J>,
     pub seats: Vec<Seat<K>>,
 }
 
@@ -77,7 +80,7 @@ fn gather<K: RunName>(
     lists
 }
 
-impl<'n, W: Wire, K: RunName> Book<'n, W, K> {
+impl<'n, W: Wire, K: RunName, J: Recorder> Book<'n, W, K, J> {
     /// Why this book can't be closed with these seats, if anything is in the way. This and the two below
     /// stand apart: a book has over 7 KB, and LLVM takes a minute for a caller that it reads them into.
     #[inline(never)]
@@ -101,10 +104,11 @@ impl<'n, W: Wire, K: RunName> Book<'n, W, K> {
 
     /// Takes the book apart, and the seats.
     #[inline(never)]
-    fn finish(self, seats: Vec<Seat<K>>) -> Closed<W>
+    fn finish(self, seats: Vec<Seat<K>>) -> (Closed<W>, J)
         requires may { MayClose self.history K.seats seats.items }
-        ensures history { result.history.items ≡ self.entry.history }
-        ensures closed { IsClosed W.sent K.net K.seats K.limit seats.items result }
+        ensures history { result.0.history.items ≡ self.entry.history }
+        ensures closed { IsClosed W.sent K.net K.seats K.limit seats.items result.0 }
+        ensures recorded { J.has_recorded result.1 result.0.history.items }
     {
         let Book {
             net: _,
@@ -115,27 +119,50 @@ impl<'n, W: Wire, K: RunName> Book<'n, W, K> {
             history,
             counts: _,
             wire,
+            recorder,
             mut ledger,
             mut rest,
             lists,
         } = self;
         let lists = gather(lists, seats, &mut rest);
         ledger.audit(&mut rest);
-        Closed {
-            history,
-            lists,
-            wire,
-            manager,
-        }
+        (
+            Closed {
+                history,
+                lists,
+                wire,
+                manager,
+            },
+            recorder,
+        )
     }
 
     /// Closes the book of one thread, as [`crate::Register::close`] closes that of several. It is
     /// refused just where a seat is missing, where what a seat knows isn't found to be of the history,
     /// and where a number comes twice.
-    #[inline(never)]
-    pub fn close(self, seats: Vec<Seat<K>>) -> Result<Closed<W>, BookFault<'n, W, K>>
+    pub fn close(self, seats: Vec<Seat<K>>) -> Result<Closed<W>, BookFault<'n, W, K, J>>
         ensures history { IfOk result (λ c. c.history.items ≡ self.entry.history) }
         ensures closed { IfOk result (IsClosed W.sent K.net K.seats K.limit seats.items) }
+        ensures fault { IfErr result
+            (λ f. IsCloseCause K.seats seats.items f.kind) }
+        ensures back { IfErr result
+            (λ f. (f.book ≡ self.entry) × (f.seats.items ≡ seats.items)) }
+    {
+        match self.close_recorded(seats) {
+            Ok((closed, _recorder)) => Ok(closed),
+            Err(fault) => Err(fault),
+        }
+    }
+
+    /// The same, with the recorder, which has recorded the whole history.
+    #[inline(never)]
+    pub fn close_recorded(
+        self,
+        seats: Vec<Seat<K>>,
+    ) -> Result<(Closed<W>, J), BookFault<'n, W, K, J>>
+        ensures history { IfOk result (λ c. c.0.history.items ≡ self.entry.history) }
+        ensures closed { IfOk result (λ c. IsClosed W.sent K.net K.seats K.limit seats.items c.0) }
+        ensures recorded { IfOk result (λ c. J.has_recorded c.1 c.0.history.items) }
         ensures fault { IfErr result
             (λ f. IsCloseCause K.seats seats.items f.kind) }
         ensures back { IfErr result
@@ -149,5 +176,29 @@ impl<'n, W: Wire, K: RunName> Book<'n, W, K> {
                 seats,
             }),
         }
+    }
+
+    /// Takes the book apart without its seats, for a run that ends where it can't be closed: the history,
+    /// and the recorder, which has recorded it.
+    #[inline(never)]
+    pub fn abandon(self) -> (Vec<Entry>, J)
+        ensures history { IsHistory (listing K.net) K.seats K.limit result.0.items }
+        ensures recorded { J.has_recorded result.1 result.0.items }
+    {
+        let Book {
+            net: _,
+            seats: _,
+            limit: _,
+            manager: _,
+            writer: _,
+            history,
+            counts: _,
+            wire: _,
+            recorder,
+            ledger: _,
+            rest: _,
+            lists: _,
+        } = self;
+        (history, recorder)
     }
 }

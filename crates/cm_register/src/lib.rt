@@ -19,6 +19,7 @@ mod register;
 pub use book::{Book, SoFar};
 pub use closing::{BookFault, CloseKind, Closed};
 pub use cm_nmt::Wire;
+pub use cm_recorder::{Recorder, Unrecorded};
 pub use cm_seat::{
     CallFault, Made, ReadFault, Receipt, RunName, Seat, SeatList, Seen, SharedManager,
 };
