@@ -1,19 +1,16 @@
 -- What the run of a network list does.
-use Rattle.std.specs.Prelude.{◌≡◌, ◌⊎◌, ◌+◌, ℕ, List, Option, Some, None, false}
+use Rattle.std.specs.Prelude.{◌≡◌, ◌⊎◌, ◌+◌, ℕ, Bool, List, Option, Some, None, false}
 use Rattle.std.specs.Io.KnownBytes.{Appends}
 use Rattle.cm_nmt.specs.Bits.{has_bit}
 use Rattle.cm_netlist.specs.Network.{Network}
-use Rattle.cm_format.specs.Text.{JournalView, text}
+use Rattle.cm_format.specs.Text.{JournalView, journal_of, text}
 use Rattle.cm_format.specs.declared.version.Version.TheVariants.{Two}
 use Rattle.cm_format.specs.Journals.{IsJournal}
 use Rattle.cm_format.specs.Report.{report_text}
+use Rattle.cm_history.specs.declared.call.Entry.{Entry}
+use Rattle.cm_format.specs.Unended.{unended_text}
+pub use Rattle.cm_recording.specs.Recorded.{AppendsIfThere, IsWritten}
 use Rattle.canboot_check.specs.Check.{IsFaultyText, IsList}
-
--- just these bytes were written to an output that may be absent: where it is there, they were
-abbrev pub AppendsIfThere : Option (Option (List ℕ)) → Option (Option (List ℕ)) → List ℕ → Type 0
-AppendsIfThere (Some old) (Some new) bytes = Appends old new bytes
-AppendsIfThere None None bytes = Unit {0}
-AppendsIfThere _ _ bytes = ⊥
 
 -- the input was read to its end and is the network list of this journal, which is of version 2, whose entries are legal,
 -- and which has a seat for each of this many workers and one more, and this limit
@@ -48,3 +45,22 @@ pub record RefusesRun (input input' output output' : Option (List ℕ)) (journal
 abbrev pub FailsToRun : ℕ → ℕ → Option (List ℕ) → Option (List ℕ) → Option (List ℕ) → Option (List ℕ) → Option (Option (List ℕ)) → Option (Option (List ℕ)) → Type 0
 FailsToRun workers limit input input' output output' journal journal' =
     ((output' ≡ output) × (journal' ≡ journal)) ⊎ ((j : JournalView) × IsRun workers limit input input' j)
+
+-- of the text of a journal of this network the beginning was written, and all of it, but for its last line, where no write has
+-- failed: its entries are a legal history
+abbrev pub BeginsJournal : Network → ℕ → ℕ → Option (Option (List ℕ)) → Option (Option (List ℕ)) → Bool → Type 0
+BeginsJournal net seats limit journal journal' failed =
+    (entries : List Entry) × IsJournal (journal_of Two net seats limit entries)
+    × IsWritten journal journal' failed (unended_text (journal_of Two net seats limit entries))
+
+-- of the journal of a live run, whose history is legal, the beginning of the text was written to its output, if there is one,
+-- and all of it where no write has failed, but for its last line where the history isn't closed
+pub record RecordsLive (workers limit : ℕ) (input input' : Option (List ℕ)) (journal journal' : Option (Option (List ℕ))) (failed : Bool) : Type 0 where
+  pub of : JournalView
+  pub run : IsRun workers limit input input' of
+  pub recorded : IsWritten journal journal' failed (text of) ⊎ IsWritten journal journal' failed (unended_text of)
+
+-- nothing was written; or the beginning of the journal of a live run
+abbrev pub FailsToLive : ℕ → ℕ → Option (List ℕ) → Option (List ℕ) → Option (List ℕ) → Option (List ℕ) → Option (Option (List ℕ)) → Option (Option (List ℕ)) → Bool → Type 0
+FailsToLive workers limit input input' output output' journal journal' failed =
+    ((output' ≡ output) × (journal' ≡ journal)) ⊎ RecordsLive workers limit input input' journal journal' failed

@@ -2,15 +2,17 @@
 
 ghost use Rattle.std.specs.Prelude.{◌≤◌};
 
+use crate::journal_file::make_journal;
 use crate::live::{LiveEnds, LiveOptions, live_text};
-use crate::program::{make, write_fault};
+use crate::program::write_fault;
 use crate::timed::Timed;
-use canboot_check::read_fault;
+use canboot_check::{CheckFault, LONGEST_LIST, read_fault, read_list, refuse};
 use canboot_words::BusPaths;
 use cm_live::Format;
+use cm_text::{InputFault, read_input};
 use std::alloc::Global;
 use std::fs::{self, File, OpenOptions};
-use std::io::{self, BufWriter, StdinLock, Write};
+use std::io::{self, BufWriter, ErrorKind, StdinLock, Write};
 use std::rt::Files;
 use std::sync::Wait;
 use std::thread::Threads;
@@ -63,8 +65,32 @@ fn writers_to(alloc: Global, file: &File, count: u8) -> io::Result<Vec<BufWriter
     Ok(writers)
 }
 
-/// `canboot live`, over the files of these paths. The list is opened first, then the bus; then the journal's file is made,
-/// if there is one, before the list is read. Where `err` is a terminal, its lines have the time since the start.
+/// What a live run writes its journal to, and how.
+#[derive(Clone, Copy, Debug, PartialEq, Eq)]
+pub(crate) struct JournalPath<'a> {
+    /// The path of its file, if it is written.
+    pub(crate) path: Option<&'a str>,
+    /// Whether each line is put on the disk before the next step.
+    pub(crate) is_synced: bool,
+}
+
+/// The bytes of the file of this path.
+fn read_file<R: Files + AllocGlobal>(rt: &R, path: &str) -> Result<Vec<u8>, CheckFault> {
+    match fs::open(rt, path) {
+        Ok(mut file) => match read_input(rt.alloc(), &mut file, LONGEST_LIST) {
+            Ok(text) => Ok(text),
+            Err(fault) => Err(CheckFault::Input(fault)),
+        },
+        Err(error) => Err(CheckFault::Input(match error.kind() {
+            ErrorKind::OutOfMemory => InputFault::Memory,
+            _ => InputFault::Read,
+        })),
+    }
+}
+
+/// `canboot live`, over the files of these paths. The list is read first; where it has no fault the bus is opened, and then
+/// the journal's file is made, if there is one, before a byte goes to the bus. Where `err` is a terminal, its lines have the
+/// time since the start.
 pub(crate) fn live_file<
     R: Files<File = File>
         + Input<Reader = StdinLock<'static>>
@@ -84,16 +110,20 @@ pub(crate) fn live_file<
     path: &str,
     bus: &BusPaths<'_>,
     options: LiveOptions,
-    journal: Option<&str>,
+    journal: JournalPath<'_>,
     out: &mut O,
     err: &mut E,
     is_terminal: bool,
 ) -> u8
     requires workers { (1 ≤ options.workers) × (options.workers ≤ 16) }
 {
-    let mut list = match fs::open(rt, path) {
-        Ok(file) => file,
-        Err(error) => return read_fault(err, error.kind()),
+    let text = match read_file(rt, path) {
+        Ok(text) => text,
+        Err(fault) => return refuse(err, fault),
+    };
+    let is_master = match read_list(rt.alloc(), &mut text.as_slice()) {
+        Ok(network) => network.startup().is_master(),
+        Err(fault) => return refuse(err, fault),
     };
     let (received, mut sent) = match open_bus(rt, bus) {
         Ok(files) => files,
@@ -103,8 +133,10 @@ pub(crate) fn live_file<
         Ok(writers) => writers,
         Err(error) => return write_fault(err, error.kind()),
     };
-    let mut journal = match make(rt, journal) {
-        Ok(file) => file,
+    // Where the start will be refused, nothing is written.
+    let path = if is_master { journal.path } else { None };
+    let mut journal = match make_journal(rt, path, journal.is_synced, err) {
+        Ok(output) => output,
         Err(error) => return write_fault(err, error.kind()),
     };
     let ends = LiveEnds {
@@ -117,7 +149,7 @@ pub(crate) fn live_file<
     let status = live_text(
         rt,
         rt.alloc(),
-        &mut list,
+        &mut text.as_slice(),
         options,
         ends,
         out,

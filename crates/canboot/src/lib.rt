@@ -3,6 +3,7 @@
 #![tactic(auto)]
 
 mod bus_files;
+mod journal_file;
 mod live;
 mod live_inputs;
 mod live_team;

@@ -6,7 +6,7 @@ use crate::rounds::live_round;
 use cm_can::CanFrame;
 use cm_live::{Announcing, Happening, LiveBus, LivePort, LiveWire, Outlet, Tried};
 use cm_nmt::NodeId;
-use cm_register::{Register, RunName, Seat};
+use cm_register::{Recorder, Register, RunName, Seat};
 use cm_run::{Last, Outcome};
 use crossbeam_channel::{Receiver, Sender};
 use std::alloc::{AllocError, Global};
@@ -36,9 +36,16 @@ fn tried_of(outcome: &Outcome) -> Tried {
 }
 
 /// Boots the slaves that are handed to a worker, and tells what came of each, until the run is over.
-fn boot_handed<'n, R: Wait + Clock + Drop, K: RunName, N: Write + Drop, W: Write + Drop>(
+fn boot_handed<
+    'n,
+    R: Wait + Clock + Drop,
+    K: RunName,
+    N: Write + Drop,
+    W: Write + Drop,
+    J: Recorder,
+>(
     rt: &R,
-    announcing: &Announcing<'_, Register<'n, LiveWire<N>, K>>,
+    announcing: &Announcing<'_, Register<'n, LiveWire<N>, K, J>>,
     seat: &mut Seat<K>,
     bus: &mut LiveBus<'n, LivePort<R, W>>,
     jobs: &Receiver<NodeId>,
@@ -61,9 +68,9 @@ fn boot_handed<'n, R: Wait + Clock + Drop, K: RunName, N: Write + Drop, W: Write
 }
 
 /// What one worker does: rounds of the slaves that it is handed, until the run is over. Its seat comes back.
-fn work<'n, R: Wait + Clock + Drop, K: RunName, N: Write + Drop, W: Write + Drop>(
+fn work<'n, R: Wait + Clock + Drop, K: RunName, N: Write + Drop, W: Write + Drop, J: Recorder>(
     rt: &R,
-    register: &Register<'n, LiveWire<N>, K>,
+    register: &Register<'n, LiveWire<N>, K, J>,
     worker: Worker<'n, R, K, W>,
     over: &AtomicBool,
 ) -> Seat<K> {
@@ -188,10 +195,11 @@ fn start_worker<
     R: Wait + Threads + Clock + Send + Sync + Drop + 's,
     K: RunName + Send + Sync + 's,
     W: Write + Drop + Send + 's,
+    J: Recorder + Send + 's,
 >(
     scope: &Scope<'s, V>,
     rt: &'s R,
-    register: &'s Register<'n, LiveWire<W>, K>,
+    register: &'s Register<'n, LiveWire<W>, K, J>,
     worker: Worker<'n, R, K, W>,
     over: &'s AtomicBool,
     handles: &mut Vec<JoinHandle<Seat<K>>>,
@@ -210,10 +218,11 @@ pub(crate) fn start_workers<
     R: Wait + Threads + Clock + Send + Sync + Drop + 's,
     K: RunName + Send + Sync + 's,
     W: Write + Drop + Send + 's,
+    J: Recorder + Send + 's,
 >(
     scope: &Scope<'s, V>,
     rt: &'s R,
-    register: &'s Register<'n, LiveWire<W>, K>,
+    register: &'s Register<'n, LiveWire<W>, K, J>,
     workers: Vec<Worker<'n, R, K, W>>,
     over: &'s AtomicBool,
     handles: &mut Vec<JoinHandle<Seat<K>>>,

@@ -6,7 +6,7 @@ use crate::watching::{Ending, Watcher};
 use cm_history::{Call, Reply};
 use cm_journal::report_of;
 use cm_nmt::{Answers, NmtState, NodeId, Status, Wire};
-use cm_register::{Receipt, RunName};
+use cm_register::{Receipt, Recorder, RunName};
 use std::alloc::Global;
 use std::io::Write;
 use std::sync::Wait;
@@ -15,7 +15,7 @@ use std::time::Clock;
 /// The target of a request to all nodes.
 const ALL: u8 = 128;
 
-impl<'w, 'n, R: Wait + Clock + Drop, K: RunName, W: Wire> Watcher<'w, 'n, R, K, W> {
+impl<'w, 'n, R: Wait + Clock + Drop, K: RunName, W: Wire, J: Recorder> Watcher<'w, 'n, R, K, W, J> {
     /// What a worker's call came to, in words.
     pub(crate) fn tell_call<E: Write>(&mut self, err: &mut E, call: &Call, reply: Reply) {
         let Some(id) = node_of(call) else {

@@ -1,7 +1,7 @@
 ghost use Rattle.std.specs.Prelude.{◌≡◌, ◌≤◌, ◌⊎◌};
 ghost use Rattle.canboot.specs.Program.{EndsWithout};
 
-use crate::bus_files::{format_of, live_file};
+use crate::bus_files::{JournalPath, format_of, live_file};
 use crate::live::LiveOptions;
 use crate::running::run_text;
 use crate::simulation::Options;
@@ -12,6 +12,7 @@ use canboot_words::{Action, NoAction, read_words};
 use std::alloc::Global;
 use std::fs::File;
 use std::io::{self, BufWriter, IsTerminal, Read, StdinLock, Write};
+use std::os::unix::fs::MetadataExt;
 use std::process::ExitCode;
 use std::rt::{Env, Files};
 use std::sync::Wait;
@@ -125,6 +126,7 @@ pub fn run_words<
                 settle_ms,
                 seconds,
                 journal,
+                is_synced,
             },
         ) => {
             let options = LiveOptions {
@@ -134,6 +136,10 @@ pub fn run_words<
                 settle_ms,
                 seconds: seconds.unwrap_or(0),
                 format: format_of(&bus),
+            };
+            let journal = JournalPath {
+                path: journal,
+                is_synced,
             };
             live_file(rt, network, &bus, options, journal, out, err, is_terminal)
         }
@@ -163,7 +169,7 @@ fn show<W: Write>(text: &str, out: &mut W) -> io::Result<()> {
 }
 
 /// `canboot run`, over the file of this path. The journal's file, if there is one, is made before the
-/// list is read.
+/// list is read, but where it is the list itself: then nothing is done.
 fn run_file<R: Files + AllocGlobal + Wait + Threads + Send + Sync, W: Write, E: Write>(
     rt: &R,
     path: &str,
@@ -179,6 +185,9 @@ fn run_file<R: Files + AllocGlobal + Wait + Threads + Send + Sync, W: Write, E: 
         Ok(file) => file,
         Err(error) => return read_fault(err, error.kind()),
     };
+    if journal.is_some_and(|journal| is_same_file(rt, path, journal)) {
+        return fault_line(err, MISUSED, "the file of the journal is the network list");
+    }
     let mut journal = match make(rt, journal) {
         Ok(file) => file,
         Err(error) => return write_fault(err, error.kind()),
@@ -186,8 +195,16 @@ fn run_file<R: Files + AllocGlobal + Wait + Threads + Send + Sync, W: Write, E: 
     run_text(rt, rt.alloc(), &mut list, options, out, err, &mut journal)
 }
 
+/// Whether there is a file at both paths, and it is the same.
+fn is_same_file<R: Files>(rt: &R, path: &str, other: &str) -> bool {
+    let (Ok(here), Ok(there)) = (fs::metadata(rt, path), fs::metadata(rt, other)) else {
+        return false;
+    };
+    here.dev() == there.dev() && here.ino() == there.ino()
+}
+
 /// Makes the file of this path, if there is one.
-pub(crate) fn make<R: Files + AllocGlobal>(
+fn make<R: Files + AllocGlobal>(
     rt: &R,
     path: Option<&str>,
 ) -> io::Result<Option<BufWriter<R::File>>> {

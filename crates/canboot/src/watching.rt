@@ -5,7 +5,7 @@ use crate::watched::{Watched, slaves_of};
 use cm_history::{Call, Phase, Reply};
 use cm_live::{Happening, Heartbeats, Tried};
 use cm_nmt::{NodeId, Wire};
-use cm_register::{CallFault, Receipt, Register, RunName, Seat};
+use cm_register::{CallFault, Receipt, Recorder, Register, RunName, Seat};
 use crossbeam_channel::{Receiver, Sender};
 use std::alloc::{AllocError, Global};
 use std::io::Write;
@@ -31,15 +31,17 @@ pub(crate) enum Ending {
 
 /// What a live run is watched with.
 #[derive(Drop)]
-pub(crate) struct Watcher<'w, 'n, R: Wait + Clock + Drop, K: RunName, W: Wire> {
+pub(crate) struct Watcher<'w, 'n, R: Wait + Clock + Drop, K: RunName, W: Wire, J: Recorder> {
     pub(crate) rt: &'w R,
-    pub(crate) register: &'w Register<'n, W, K>,
+    pub(crate) register: &'w Register<'n, W, K, J>,
     pub(crate) operator: Seat<K>,
     slaves: Vec<Watched>,
     /// The slaves that each worker is to boot.
     jobs: Vec<Sender<NodeId>>,
     heartbeats: Arc<Heartbeats>,
     broken: Arc<AtomicBool>,
+    /// Set once a line of the journal couldn't be written.
+    unrecorded: Arc<AtomicBool>,
     start: Instant,
     pub(crate) settle_ms: u64,
     /// How long the run goes on behind the end of what the operator types, in ms.
@@ -50,28 +52,31 @@ pub(crate) struct Watcher<'w, 'n, R: Wait + Clock + Drop, K: RunName, W: Wire> {
     is_time_told: bool,
     /// The time was told with which the network was ready, or all slaves were tried.
     is_end_told: bool,
+    /// It was told that a line of the journal couldn't be written.
+    is_unrecorded_told: bool,
 }
 
 /// What a watcher is made of.
 #[derive(Drop)]
-pub(crate) struct Watching<'w, 'n, R: Wait + Clock + Drop, K: RunName, W: Wire> {
+pub(crate) struct Watching<'w, 'n, R: Wait + Clock + Drop, K: RunName, W: Wire, J: Recorder> {
     pub(crate) rt: &'w R,
-    pub(crate) register: &'w Register<'n, W, K>,
+    pub(crate) register: &'w Register<'n, W, K, J>,
     pub(crate) operator: Seat<K>,
     pub(crate) jobs: Vec<Sender<NodeId>>,
     pub(crate) heartbeats: Arc<Heartbeats>,
     pub(crate) broken: Arc<AtomicBool>,
+    pub(crate) unrecorded: Arc<AtomicBool>,
     pub(crate) start: Instant,
     pub(crate) settle_ms: u64,
     pub(crate) rest_ms: u64,
 }
 
-impl<'w, 'n, R: Wait + Clock + Drop, K: RunName, W: Wire> Watcher<'w, 'n, R, K, W> {
+impl<'w, 'n, R: Wait + Clock + Drop, K: RunName, W: Wire, J: Recorder> Watcher<'w, 'n, R, K, W, J> {
     /// A watcher of the register's network, which was started.
     pub(crate) fn new(
         alloc: Global,
-        of: Watching<'w, 'n, R, K, W>,
-    ) -> Result<Watcher<'w, 'n, R, K, W>, AllocError> {
+        of: Watching<'w, 'n, R, K, W, J>,
+    ) -> Result<Watcher<'w, 'n, R, K, W, J>, AllocError> {
         let slaves = slaves_of(alloc, of.register.network(), of.settle_ms)?;
         let Watching {
             rt,
@@ -80,6 +85,7 @@ impl<'w, 'n, R: Wait + Clock + Drop, K: RunName, W: Wire> Watcher<'w, 'n, R, K, 
             jobs,
             heartbeats,
             broken,
+            unrecorded,
             start,
             settle_ms,
             rest_ms,
@@ -92,6 +98,7 @@ impl<'w, 'n, R: Wait + Clock + Drop, K: RunName, W: Wire> Watcher<'w, 'n, R, K, 
             jobs,
             heartbeats,
             broken,
+            unrecorded,
             start,
             settle_ms,
             rest_ms,
@@ -99,6 +106,7 @@ impl<'w, 'n, R: Wait + Clock + Drop, K: RunName, W: Wire> Watcher<'w, 'n, R, K, 
             phase: Phase::Booting,
             is_time_told: false,
             is_end_told: false,
+            is_unrecorded_told: false,
         })
     }
 
@@ -335,6 +343,15 @@ impl<'w, 'n, R: Wait + Clock + Drop, K: RunName, W: Wire> Watcher<'w, 'n, R, K, 
         self.tell_elapsed(now)
     }
 
+    /// Says once that a line of the journal couldn't be written.
+    fn tell_unrecorded<E: Write>(&mut self, err: &mut E) {
+        if self.is_unrecorded_told || !self.unrecorded.load(Ordering::SeqCst) {
+            return;
+        }
+        self.is_unrecorded_told = true;
+        let _ = writeln!(err, "journal: write failed; what follows isn't recorded");
+    }
+
     /// One turn: takes what happens next, if something does in time, and then looks at the time.
     fn turn<E: Write>(
         &mut self,
@@ -367,7 +384,9 @@ impl<'w, 'n, R: Wait + Clock + Drop, K: RunName, W: Wire> Watcher<'w, 'n, R, K, 
         happenings: &Receiver<Happening>,
     ) -> Ending {
         for _ in self.rt.forever() {
-            if let Err(ending) = self.turn(alloc, err, happenings) {
+            let turned = self.turn(alloc, err, happenings);
+            self.tell_unrecorded(err);
+            if let Err(ending) = turned {
                 return ending;
             }
         }

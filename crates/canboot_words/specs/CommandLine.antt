@@ -7,6 +7,6 @@ use Rattle.canboot_words.specs.declared.command_line.Action.TheVariants as actio
 abbrev pub IsInRange : Action → Type 0
 IsInRange (action.Check n) = Unit {0}
 IsInRange (action.Run n workers attempts silent journal) = (1 ≤ workers) × (workers ≤ 16) × (1 ≤ attempts) × (attempts ≤ 10)
-IsInRange (action.Live n bus workers attempts answer settle seconds journal) =
+IsInRange (action.Live n bus workers attempts answer settle seconds journal synced) =
     (1 ≤ workers) × (workers ≤ 16) × (1 ≤ attempts) × (attempts ≤ 10) × (1 ≤ answer) × (answer ≤ 60000)
 IsInRange action.Replay = Unit {0}

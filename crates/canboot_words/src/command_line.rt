@@ -55,6 +55,8 @@ pub enum Action<'a> {
         /// 31,536,000; none: it ends there.
         seconds: Option<u32>,
         journal: Option<&'a str>,
+        /// Whether each line of the journal is put on the disk before its frames are sent.
+        is_synced: bool,
     },
     /// Read a journal, and print its report.
     Replay,

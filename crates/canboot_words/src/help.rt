@@ -158,9 +158,9 @@ Any failed boot but one with status B, of a mandatory slave, halts the network: 
 'halted', and slaves whose boot hasn't begun by then aren't booted. So it is with a mandatory slave \
 that has bits 2 and 5 of its assignment, whose boot fails with status G.
 
-FILE is made once NET is open, and before NET is read; what FILE had before is lost. So with the \
-path of NET for FILE the list is lost, and after a list that is refused, or a start that is refused, \
-an empty FILE stays. 'canboot replay < FILE' accepts the journal, and prints the same report.
+FILE is made once NET is open, and before NET is read; what FILE had before is lost. After a list \
+that is refused, or a start that is refused, an empty FILE stays. FILE can't be NET itself: then \
+nothing is made. 'canboot replay < FILE' accepts the journal, and prints the same report.
 
 With one worker the output and the journal of a list are always the same. With several workers the \
 order of the entries may differ from run to run, and with it the numbers of the sessions and what \
@@ -171,7 +171,7 @@ Exit statuses:
 a slave failed, or the network didn't become ready, as the report says
   1  the list has a fault ('canboot check --help' names them), or the start is refused, since bit 0 \
 of startup is clear ('start refused: 1 NotMaster'); nothing is printed
-  2  the command line is wrong
+  2  the command line is wrong, or FILE is NET itself
   3  NET can't be opened or read, or is too long; FILE can't be made; a failed write; want of \
 memory; or 'no worker', where a thread couldn't be made
 
@@ -251,8 +251,16 @@ differed, as in 'node 7: status M (product code 00000457, expected 00000456)'.
 
 The run ends with 'quit'; at the end of the operator's input, or --for SECONDS behind it; or \
 where no more frames can be received or sent. Then the workers finish, the report is printed on \
-standard output, and the journal is written to FILE, if --journal names one; what FILE had before \
-is lost. 'canboot replay < FILE' accepts the journal, and prints the same report.
+standard output, and the last line of the journal is written, if --journal names a FILE. 'canboot \
+replay < FILE' accepts the journal, and prints the same report.
+
+The journal is written while the run goes on: the line of each call before the frames that follow \
+from it are sent. So where the run is killed, FILE has each call whose frames left, and 'canboot mend' \
+makes a whole journal of it. With --journal-sync each line is on the disk before its frames are sent, \
+so that it outlives the machine's power too; that takes some 0.1 ms a call or more, as the disk is. \
+FILE is a new file, made once NET is found without a fault: where FILE is there, it is FILE.1, or the \
+first up to FILE.999 that isn't there, which is told. Where a line can't be written (a full disk), \
+that is told at once, nothing more is written to it, the run goes on, and it ends with status 3.
 
 Exit statuses:
   0  the report is printed, and the journal is written, if one is asked for; also where the boot \
@@ -263,7 +271,7 @@ of a slave failed, or the network didn't become ready, as the report says
   3  a file or a device can't be opened or made; a failed read; a failed write; want of memory; \
 or 'no worker', where a thread couldn't be made. A bus that ends is a failed read, and one that \
 can't be written a failed write: the report and the journal of what was done are written all the \
-same
+same. A failed write of the journal ends no run, and the report is printed
 
 Examples, of which the last has no operator, and ends by itself after 10 seconds:
   canboot live NET --receive <(candump -L can0) --send >(canplayer -t can0=can0)

@@ -6,7 +6,7 @@ use crate::command_line::{
     workers_argument,
 };
 use crate::help::{ABOUT_LIVE, HELP_LIVE, USAGE_LIVE};
-use clap::{Arg, ArgGroup, ArgMatches, Command, value_parser};
+use clap::{Arg, ArgAction, ArgGroup, ArgMatches, Command, value_parser};
 use std::alloc::{AllocError, Global};
 
 fn receive_argument<'a>(alloc: Global) -> Result<Arg<'a>, AllocError> {
@@ -70,10 +70,19 @@ fn seconds_argument<'a>(alloc: Global) -> Arg<'a> {
         .value_parser(value_parser!(u32).range(0..31_536_001))
 }
 
+fn sync_argument<'a>(alloc: Global) -> Result<Arg<'a>, AllocError> {
+    Arg::new(alloc, "journal-sync")
+        .long("journal-sync")
+        .help("Puts each line of the journal on the disk before its frames are sent")
+        .action(ArgAction::SetTrue)
+        .requires_arg("journal")
+}
+
 fn arguments<'a>(alloc: Global) -> Result<Vec<Arg<'a>>, AllocError> {
     let receive = receive_argument(alloc)?;
     let send = send_argument(alloc)?;
     let adapter = adapter_argument(alloc)?;
+    let sync = sync_argument(alloc)?;
     Ok(vec![in alloc;
         network_argument(alloc),
         receive,
@@ -85,6 +94,7 @@ fn arguments<'a>(alloc: Global) -> Result<Vec<Arg<'a>>, AllocError> {
         settle_argument(alloc),
         seconds_argument(alloc),
         journal_argument(alloc),
+        sync,
     ]?)
 }
 
@@ -135,5 +145,6 @@ pub(crate) fn live_action<'a>(given: &ArgMatches<'a>) -> Action<'a>
         settle_ms: milliseconds_of(given, "settle", 0, 600_000),
         seconds: given.get_one::<u32>("for"),
         journal: given.get_str("journal"),
+        is_synced: given.get_flag("journal-sync"),
     }
 }

@@ -1,28 +1,45 @@
-use Rattle.std.proofs.Common.{ℕ, ◌+◌, ap, inr, refl}
-use Rattle.std.specs.Prelude.{Err}
+use Rattle.std.proofs.Common.{◌≡◌, ℕ, ◌+◌, ◌∙◌, Result, Ok, Err, true, false, is_ok, OnOk, IsOk, ap, inl, inr, refl, sym}
 use Rattle.cm_format.specs.Text.{journal_of}
 use Rattle.cm_format.specs.declared.version.Version.TheVariants.{Two}
-use Rattle.canboot_check.proofs.OutputStatus.{done_written}
+use Rattle.canboot.proofs.Begins.{contents_of, failed_after, same_journal, written_alike}
 use Rattle.canboot.proofs.live.live_text.Goals as goal
 
+-- what holds where the call succeeds, and it did
+of_ok : {A E : Type 0} (r : Result A E) (P : Type 0) → OnOk r P → IsOk r → P
+of_ok (Ok x) P h is = h
+of_ok (Err e) P h is = absurd (let p : false ≡ true = is in cc)
+
 pub returns-in-Ok-live-clause-done : goal.returns-in-Ok-live-clause-done
-returns-in-Ok-live-clause-done g c = λ e. record {
-  of = journal_of Two c.in-Ok.network (c.from-seats.result + 1) 1048576 c.as_slice-entries.result.now;
-  run = record { list = c.in-Ok.ensures.list; version = refl; journal = c.is_journal.ensures; seats = ap (λ (n : ℕ). n + 1) c.from-seats.ensures; most = refl };
-  reported = done_written c.put_run-written.result _ c.output_status-status.result c.put_run-written.ensures.report c.output_status-status.ensures (c.ending_status.ensures.done e);
-  recorded = done_written c.put_run-written.result _ c.output_status-status.result c.put_run-written.ensures.journal c.output_status-status.ensures (c.ending_status.ensures.done e);
-}
+returns-in-Ok-live-clause-done g c = λ e.
+    let w = written_alike _ _ _ _ _ _
+    (same_journal c.in-Ok.network c.in-Ok.network (c.args.options.workers + 1) (c.from-seats.result + 1) 1048576 1048576 c.in-Ok-live.field-0.recorded.history.items c.as_slice-entries.result.now
+    refl (sym (ap (λ (n : ℕ). n + 1) c.from-seats.ensures)) refl (sym c.as_slice-entries.ensures.value)) refl c.in-Ok-live.ensures.written in
+    record {
+      of = journal_of Two c.in-Ok.network (c.from-seats.result + 1) 1048576 c.as_slice-entries.result.now;
+      run = record { list = c.in-Ok.ensures.list; version = refl; journal = c.is_journal.ensures; seats = ap (λ (n : ℕ). n + 1) c.from-seats.ensures; most = refl };
+      reported = of_ok c.put_report-written.result _ c.put_report-written.ensures (c.both_status-status.ensures.report (c.ending_status.ensures.done e));
+      recorded = w.all (sym c.has_failed.ensures ∙ c.both_status-status.ensures.journal (c.ending_status.ensures.done e));
+    }
 
 pub returns-in-Ok-live-clause-failed : goal.returns-in-Ok-live-clause-failed
-returns-in-Ok-live-clause-failed g c = λ e.
-    inr (
-      journal_of Two c.in-Ok.network (c.from-seats.result + 1) 1048576 c.as_slice-entries.result.now,
-      record { list = c.in-Ok.ensures.list; version = refl; journal = c.is_journal.ensures; seats = ap (λ (n : ℕ). n + 1) c.from-seats.ensures; most = refl },
-    )
+returns-in-Ok-live-clause-failed g c = λ e. inr (record {
+  of = journal_of Two c.in-Ok.network (c.from-seats.result + 1) 1048576 c.as_slice-entries.result.now;
+  run = record { list = c.in-Ok.ensures.list; version = refl; journal = c.is_journal.ensures; seats = ap (λ (n : ℕ). n + 1) c.from-seats.ensures; most = refl };
+  recorded = inl (written_alike _ _ _ _ _ _
+      (same_journal c.in-Ok.network c.in-Ok.network (c.args.options.workers + 1) (c.from-seats.result + 1) 1048576 1048576 c.in-Ok-live.field-0.recorded.history.items c.as_slice-entries.result.now
+      refl (sym (ap (λ (n : ℕ). n + 1) c.from-seats.ensures)) refl (sym c.as_slice-entries.ensures.value)) refl c.in-Ok-live.ensures.written);
+})
+
+pub returns-clause-failed : goal.returns-clause-failed
+returns-clause-failed g c = λ e.
+    failed_after c.args.options.workers 1048576 _ _ _ c.in-Ok.network (contents_of g.J.Write.contents) c.args.journal.now c.live.new.journal _
+    c.in-Ok.ensures.list c.in-Err-live.ensures.begun
 
 pub returns-clause-refused : goal.returns-clause-refused
-returns-clause-refused g c = λ e. record {
-  cause = inr (c.in-Ok.network, c.in-Ok.ensures.list, c.in-Err-live.ensures.refused (ap Err (c.no_history_line.ensures.refused e)));
-  kept = refl;
-  unwritten = refl;
-}
+returns-clause-refused g c = λ e.
+    let h = c.in-Err-live.ensures.refused (ap Err (c.no_history_line.ensures.refused e)) in
+    record {
+      cause = inr (c.in-Ok.network, c.in-Ok.ensures.list, h.0);
+      kept = refl;
+      unwritten = ap (contents_of g.J.Write.contents) h.1;
+    }
