@@ -1,1 +1,5 @@
 pub mod OutputStatus
+pub mod LineFeeds
+pub mod EntryCount
+pub mod MendLaws
+pub mod Reread
