@@ -302,5 +302,6 @@ Examples, of which the last has no operator, and ends by itself after 10 seconds
 
 pub(crate) const AFTER: &str =
     "'canboot check --help' says what a network list holds, 'canboot replay --help' what a journal \
-holds, 'canboot mend --help' what becomes of a torn one, 'canboot run --help' what is simulated, 'canboot live --help' how a CAN bus is reached and \
-what an operator types, and each what the exit statuses mean.";
+holds, 'canboot mend --help' what becomes of a torn one, 'canboot run --help' what is simulated, \
+'canboot live --help' how a CAN bus is reached and what an operator types, and each what the exit \
+statuses mean.";
