@@ -10,7 +10,7 @@ mod replay;
 mod status;
 
 pub use check::{CheckFault, LONGEST_LIST, check_text, read_list, refuse};
-pub use mend::{mend_text, mends_torn};
+pub use mend::{mend_text, mends_one, mends_torn};
 pub use program::{check_file, read_fault, run, run_words};
 pub use replay::{LONGEST_JOURNAL, replay_text};
 pub use status::{DONE, FAILED, MISUSED, REFUSED, fault_line, output_status};

@@ -9,7 +9,8 @@ use std::test::Fail;
 
 const NO_KEY: &[u8] = b"canboot: network: missing key\n";
 
-const NO_COMMAND: &[u8] = b"canboot: this program has no command but 'replay', 'mend' and 'check NET'\n";
+const NO_COMMAND: &[u8] =
+    b"canboot: this program has no command but 'replay', 'mend' and 'check NET'\n";
 
 /// Makes sure of what these words come to: the exit status, what is printed, the line of fault.
 fn comes_to<R: Files + AllocGlobal + Abort>(
