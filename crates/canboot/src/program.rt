@@ -6,7 +6,7 @@ use crate::live::LiveOptions;
 use crate::running::run_text;
 use crate::simulation::Options;
 use canboot_check::{
-    FAILED, MISUSED, check_file, fault_line, output_status, read_fault, replay_text,
+    FAILED, MISUSED, check_file, fault_line, mend_text, output_status, read_fault, replay_text,
 };
 use canboot_words::{Action, NoAction, read_words};
 use std::alloc::Global;
@@ -144,6 +144,7 @@ pub fn run_words<
             live_file(rt, network, &bus, options, journal, out, err, is_terminal)
         }
         Ok(Action::Replay) => replay_text(rt.alloc(), input, out, err),
+        Ok(Action::Mend) => mend_text(rt.alloc(), input, out, err),
         Err(none) => say(&none, out, err),
     }
 }

@@ -1,2 +1,4 @@
 pub mod Check
+pub mod Ended
+pub mod Mend
 pub mod Replay

@@ -1,6 +1,7 @@
 ghost use Rattle.std.specs.Prelude.{◌≡◌};
 
 use crate::check::check_text;
+use crate::mend::mend_text;
 use crate::replay::replay_text;
 use crate::status::{FAILED, MISUSED, fault_line};
 use std::alloc::Global;
@@ -8,8 +9,8 @@ use std::io::{self, BufWriter, Read, Write};
 use std::rt::{Env, Files};
 use std::{env, fs};
 
-/// Runs `canboot replay` or `canboot check NET` on the words of the command line and the standard
-/// input and output, with `err` for what goes to standard error, and gives the exit status.
+/// Runs `canboot replay`, `canboot mend` or `canboot check NET` on the words of the command line and the
+/// standard input and output, with `err` for what goes to standard error, and gives the exit status.
 pub fn run<R: Env + Files + Print + Input + AllocGlobal, E: Write>(rt: &R, err: &mut E) -> u8 {
     let args = match env::args(rt) {
         Ok(args) => args,
@@ -24,9 +25,9 @@ pub fn run<R: Env + Files + Print + Input + AllocGlobal, E: Write>(rt: &R, err: 
     run_words(rt, words.as_slice(), &mut rt.reader(), &mut out, err)
 }
 
-/// Runs `canboot replay` or `canboot check NET` on these words, of which the first is the program's
-/// name, with these streams, and gives the exit status: that of [`replay_text`] or [`check_text`], 3
-/// for a file that can't be opened, 2 for any other words.
+/// Runs `canboot replay`, `canboot mend` or `canboot check NET` on these words, of which the first is the
+/// program's name, with these streams, and gives the exit status: that of [`replay_text`], [`mend_text`]
+/// or [`check_text`], 3 for a file that can't be opened, 2 for any other words.
 pub fn run_words<R: Files + AllocGlobal, I: Read, W: Write, E: Write>(
     rt: &R,
     words: &[String],
@@ -36,13 +37,14 @@ pub fn run_words<R: Files + AllocGlobal, I: Read, W: Write, E: Write>(
 ) -> u8 {
     match words {
         [_, command] if command.as_str() == "replay" => replay_text(rt.alloc(), input, out, err),
+        [_, command] if command.as_str() == "mend" => mend_text(rt.alloc(), input, out, err),
         [_, command, network] if command.as_str() == "check" => {
             check_file(rt, network.as_str(), out, err)
         }
         _ => fault_line(
             err,
             MISUSED,
-            "this program has no command but 'replay' and 'check NET'",
+            "this program has no command but 'replay', 'mend' and 'check NET'",
         ),
     }
 }

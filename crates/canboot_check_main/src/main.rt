@@ -1,5 +1,6 @@
-//! `canboot replay` and `canboot check NET`, as a program of their own: it is proved sooner than the
-//! whole of canboot, which also boots networks. Its output and its exit statuses are the same.
+//! `canboot replay`, `canboot mend` and `canboot check NET`, as a program of their own: it is proved
+//! sooner than the whole of canboot, which also boots networks. Its output and its exit statuses are the
+//! same.
 #![tactic(auto)]
 
 use std::process::ExitCode;

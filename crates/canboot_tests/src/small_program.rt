@@ -1,4 +1,4 @@
-//! The command line of the program that has `replay` and `check` alone.
+//! The command line of the program that has `replay`, `mend` and `check` alone.
 
 use crate::streams::{JOURNAL, READ_FAILED, REPORT};
 use canboot_check::run_words;
@@ -9,7 +9,8 @@ use std::test::Fail;
 
 const NO_KEY: &[u8] = b"canboot: network: missing key\n";
 
-const NO_COMMAND: &[u8] = b"canboot: this program has no command but 'replay' and 'check NET'\n";
+const NO_COMMAND: &[u8] =
+    b"canboot: this program has no command but 'replay', 'mend' and 'check NET'\n";
 
 /// Makes sure of what these words come to: the exit status, what is printed, the line of fault.
 fn comes_to<R: Files + AllocGlobal + Abort>(
@@ -38,6 +39,7 @@ fn comes_to<R: Files + AllocGlobal + Abort>(
 #[test]
 fn the_small_program_replays_and_checks(rt: HostRuntime) -> Result<(), Fail> {
     comes_to(&rt, &["canboot", "replay"], 0, REPORT, b"")?;
+    comes_to(&rt, &["canboot", "mend"], 0, JOURNAL, b"")?;
     // An empty text is TOML, and lacks the keys of a list.
     comes_to(&rt, &["canboot", "check", "/dev/null"], 1, b"", NO_KEY)?;
     comes_to(

@@ -10,3 +10,4 @@ IsInRange (action.Run n workers attempts silent journal) = (1 ≤ workers) × (w
 IsInRange (action.Live n bus workers attempts answer settle seconds journal synced) =
     (1 ≤ workers) × (workers ≤ 16) × (1 ≤ attempts) × (attempts ≤ 10) × (1 ≤ answer) × (answer ≤ 60000)
 IsInRange action.Replay = Unit {0}
+IsInRange action.Mend = Unit {0}

@@ -2,7 +2,8 @@ ghost use Rattle.std.specs.Prelude.{◌≤◌, IfOk};
 ghost use Rattle.canboot_words.specs.CommandLine.{IsInRange};
 
 use crate::help::{
-    ABOUT, ABOUT_CHECK, ABOUT_REPLAY, ABOUT_RUN, AFTER, HELP_CHECK, HELP_REPLAY, HELP_RUN,
+    ABOUT, ABOUT_CHECK, ABOUT_MEND, ABOUT_REPLAY, ABOUT_RUN, AFTER, HELP_CHECK, HELP_MEND,
+    HELP_REPLAY, HELP_RUN,
 };
 use crate::live::{live_action, live_command};
 use clap::error::ErrorKind;
@@ -60,6 +61,8 @@ pub enum Action<'a> {
     },
     /// Read a journal, and print its report.
     Replay,
+    /// Read a journal that a crash may have torn, and print it whole.
+    Mend,
 }
 
 /// Why a command line asks for no run.
@@ -149,11 +152,18 @@ fn replay_command<'a>(alloc: Global) -> Command<'a> {
         .long_about(HELP_REPLAY)
 }
 
+fn mend_command<'a>(alloc: Global) -> Command<'a> {
+    Command::new(alloc, "mend")
+        .about(ABOUT_MEND)
+        .long_about(HELP_MEND)
+}
+
 fn subcommands<'a>(alloc: Global) -> Result<Vec<Command<'a>>, AllocError> {
     let check = check_command(alloc)?;
     let run = run_command(alloc)?;
     let live = live_command(alloc)?;
-    Ok(vec![in alloc; check, run, live, replay_command(alloc)]?)
+    let replay = replay_command(alloc);
+    Ok(vec![in alloc; check, run, live, replay, mend_command(alloc)]?)
 }
 
 fn command<'a>(alloc: Global) -> Result<Command<'a>, AllocError> {
@@ -199,6 +209,7 @@ fn action_of<'a>(matches: &ArgMatches<'a>) -> Action<'a>
         },
         Some(("run", given)) => run_action(given),
         Some(("live", given)) => live_action(given),
+        Some(("mend", _)) => Action::Mend,
         _ => Action::Replay,
     }
 }

@@ -41,6 +41,35 @@ Nothing is printed on standard output where the journal is refused or can't be r
 
 Example: canboot replay < examples/one-slave.journal";
 
+pub(crate) const ABOUT_MEND: &str =
+    "Reads a journal that a crash tore on standard input and prints it whole";
+
+pub(crate) const HELP_MEND: &str =
+    "Reads a journal (version 1 or 2, at most 268,435,456 bytes) on standard input to its end, and \
+prints on standard output the longest legal journal that it begins with: its lines up to the last \
+entry, and the line 'end N' with the number of its entries.
+
+A run that goes on writes the lines of its journal one by one, and 'end N' when it ends. So where it \
+was killed, or the machine lost its power, the journal is torn: it has no last line, and the line \
+before may have lost its end. 'canboot replay' refuses such a journal; what this command makes of \
+it, 'canboot replay' accepts.
+
+At most one line is cut, the last one, torn or whole, where it is none that can stand there. Then \
+standard error has a line that says how much it was, as 'canboot: cut 17 bytes, 1 line'. A journal \
+that is whole is printed as it is. The number of slaves stands in no line: where the journal was \
+torn before its first entry, slaves whose lines aren't there aren't missed.
+
+Exit statuses:
+  0  the journal is printed
+  1  the lines before the entries aren't whole, or a line that isn't the last one is no legal entry; \
+the fault line on standard error names the first line with a fault, as 'canboot replay' does
+  2  the command line is wrong
+  3  a failed read (an input that is too long among them), a failed write, or want of memory
+
+Nothing is printed on standard output where nothing is mended, or the input can't be read.
+
+Example: canboot mend < torn.journal > whole.journal";
+
 pub(crate) const ABOUT_CHECK: &str =
     "Reads a network list in TOML and prints how many slaves it lists";
 
@@ -281,5 +310,6 @@ Examples, of which the last has no operator, and ends by itself after 10 seconds
 
 pub(crate) const AFTER: &str =
     "'canboot check --help' says what a network list holds, 'canboot replay --help' what a journal \
-holds, 'canboot run --help' what is simulated, 'canboot live --help' how a CAN bus is reached and \
-what an operator types, and each what the exit statuses mean.";
+holds, 'canboot mend --help' what becomes of a torn one, 'canboot run --help' what is simulated, \
+'canboot live --help' how a CAN bus is reached and what an operator types, and each what the exit \
+statuses mean.";
