@@ -46,6 +46,10 @@ abbrev pub FailsToRun : ℕ → ℕ → Option (List ℕ) → Option (List ℕ) 
 FailsToRun workers limit input input' output output' journal journal' =
     ((output' ≡ output) × (journal' ≡ journal)) ⊎ ((j : JournalView) × IsRun workers limit input input' j)
 
+-- of the text of the journal of this history the beginning was written, and all of it where no write has failed
+abbrev pub WritesJournal : Network → ℕ → ℕ → List Entry → Option (Option (List ℕ)) → Option (Option (List ℕ)) → Bool → Type 0
+WritesJournal net seats limit entries journal journal' failed = IsWritten journal journal' failed (text (journal_of Two net seats limit entries))
+
 -- of the text of a journal of this network the beginning was written, and all of it, but for its last line, where no write has
 -- failed: its entries are a legal history
 abbrev pub BeginsJournal : Network → ℕ → ℕ → Option (Option (List ℕ)) → Option (Option (List ℕ)) → Bool → Type 0

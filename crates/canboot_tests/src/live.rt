@@ -5,7 +5,7 @@ ghost use Rattle.std.specs.Prelude.{◌≡◌, ◌≤◌, length};
 
 use crate::runs::full_list;
 use crate::streams::{READ_FAILED, WRITE_FAILED};
-use canboot::{LiveEnds, LiveOptions, live_text, replay_text};
+use canboot::{JournalOutput, LiveEnds, LiveOptions, live_text, replay_text};
 use cm_can::{CanFrame, Kind, read_log_line};
 use cm_live::Format;
 use crossbeam_channel::{Receiver, Sender};
@@ -321,7 +321,7 @@ fn lives<R: Wait + Threads + Clock + Clone + Abort + Send + Sync + Drop + 'stati
     let mut input = list.as_slice();
     let mut out: Vec<u8> = Vec::new(alloc);
     let mut err: Vec<u8> = Vec::new(alloc);
-    let mut journal: Option<Vec<u8>> = Some(Vec::new(alloc));
+    let mut journal: JournalOutput<Vec<u8>> = JournalOutput::new(Some(Vec::new(alloc)));
     let options = four_workers();
     let Bus { ends } = bus;
     let status = live_text(
@@ -334,7 +334,7 @@ fn lives<R: Wait + Threads + Clock + Clone + Abort + Send + Sync + Drop + 'stati
         &mut err,
         &mut journal,
     );
-    let Some(journal) = journal else {
+    let Some(journal) = journal.into_writer() else {
         return Err(Fail::from("no journal"));
     };
     has_report(rt, alloc, journal.as_slice(), out.as_slice());

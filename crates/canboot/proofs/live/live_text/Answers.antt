@@ -1,7 +1,8 @@
 use Rattle.std.proofs.Common.{◌≡◌, ℕ, ◌+◌, ◌∙◌, Result, Ok, Err, true, false, is_ok, OnOk, IsOk, ap, inl, inr, refl, sym}
 use Rattle.cm_format.specs.Text.{journal_of}
 use Rattle.cm_format.specs.declared.version.Version.TheVariants.{Two}
-use Rattle.canboot.proofs.Begins.{contents_of, failed_after, same_journal, written_alike}
+use Rattle.cm_recording.specs.Recorded.{contents_of}
+use Rattle.canboot.proofs.Begins.{failed_after, same_journal, written_alike}
 use Rattle.canboot.proofs.live.live_text.Goals as goal
 
 -- what holds where the call succeeds, and it did
