@@ -177,12 +177,12 @@ class Adapter:
 
 
 def members(group):
-    """The names of what runs in a group of processes."""
+    """What runs in a group of processes: the number and the name of each."""
     for it in pathlib.Path('/proc').glob('[0-9]*/stat'):
         with contextlib.suppress(OSError):
             name, state, rest = re.fullmatch(r'\d+ \((.*)\) (.) \d+ (.*)\n', it.read_text(), re.DOTALL).groups()
             if rest.split()[0] == str(group) and state != 'Z':
-                yield name
+                yield int(it.parent.name), name
 
 
 class Group:
@@ -235,9 +235,11 @@ def read_report(lines):
 class Live(Group):
     """canboot on the bus of a scene, over can-utils, or over an SLCAN adapter."""
 
-    def __init__(self, scene, slaves, *words, startup=1, own=1, adapter=None):
+    def __init__(self, scene, slaves, *words, startup=1, own=1, adapter=None, journal=None):
         self.scene, self.start, self.asked = scene, len(scene.bus.lines), []
-        network, self.journal = scene.folder / 'network.toml', scene.folder / 'day.journal'
+        # each run of a scene has a journal of its own, unless it is to take one that is there
+        self.journal = journal or scene.folder / f'day-{len(scene.groups)}.journal'
+        network = scene.folder / 'network.toml'
         text = f'own = {own}\nstartup = {startup}\n'
         for it in slaves:
             text += '\n[[slave]]\n' + ''.join(f'{key} = {value}\n' for key, value in it.items())
@@ -275,8 +277,15 @@ class Live(Group):
         self.tell('quit')
         return self.ended()
 
-    def ended(self, status=0):
-        """Waits for its end, and makes sure of what holds of any run; its report."""
+    def kill(self):
+        """Kills canboot itself, and waits for the end of what runs with it."""
+        for process, name in members(self.process.pid):
+            if name == pathlib.Path(CANBOOT).name[:15]:
+                os.kill(process, signal.SIGKILL)
+        self.gone(status=128 + signal.SIGKILL)
+
+    def gone(self, status):
+        """Waits for its end."""
         try:
             found = self.process.wait(PATIENCE)
         except subprocess.TimeoutExpired:
@@ -284,6 +293,10 @@ class Live(Group):
         want(found == status, f'exit status {found}, and not {status}')
         left = list(members(self.process.pid))
         want(not left, f'still running: {left}')
+
+    def ended(self, status=0):
+        """Waits for its end, and makes sure of what holds of any run; its report."""
+        self.gone(status)
         end = time.monotonic() + 10
         while not self.out.ended and time.monotonic() < end:
             time.sleep(0.05)
