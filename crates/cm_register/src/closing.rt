@@ -1,6 +1,7 @@
 ghost use Rattle.std.specs.Prelude.{◌≡◌, ◌≤◌, length, map, vec_capacity, vec_len, IfOk, IfErr};
 ghost use Rattle.cm_netlist.specs.Network.{listing};
 ghost use Rattle.cm_history.specs.Legal.{IsHistory};
+ghost use Rattle.cm_history.specs.OrderFrames.{frames_in};
 ghost use Rattle.cm_seat.specs.Handing.{calls_by, calls_in, count_calls};
 ghost use Rattle.cm_register.specs.BookInvariant.{MayClose};
 ghost use Rattle.cm_register.specs.Closing.{IsCloseCause, IsClosed, close_number};
@@ -22,6 +23,15 @@ pub struct Closed<W: Wire> {
     pub lists: Vec<SeatList>,
     pub wire: W,
     pub manager: Manager,
+}
+
+/// What a register leaves that is taken apart without its seats: the history of all calls, the wire, and the
+/// recorder, which has recorded the history.
+#[derive(Drop)]
+pub struct Abandoned<W: Wire, J: Recorder> {
+    pub history: Vec<Entry>,
+    pub wire: W,
+    pub recorder: J,
 }
 
 /// Why a register isn't closed, the first that applies.
@@ -178,12 +188,13 @@ impl<'n, W: Wire, K: RunName, J: Recorder> Book<'n, W, K, J> {
         }
     }
 
-    /// Takes the book apart without its seats, for a run that ends where it can't be closed: the history,
-    /// and the recorder, which has recorded it.
+    /// Takes the book apart without its seats, for a run that ends where it can't be closed: the wire has sent just
+    /// the frames of the history, and the recorder has recorded it.
     #[inline(never)]
-    pub fn abandon(self) -> (Vec<Entry>, J)
-        ensures history { IsHistory (listing K.net) K.seats K.limit result.0.items }
-        ensures recorded { J.has_recorded result.1 result.0.items }
+    pub fn abandon(self) -> Abandoned<W, J>
+        ensures history { IsHistory (listing K.net) K.seats K.limit result.history.items }
+        ensures frames { W.sent result.wire ≡ frames_in (listing K.net) result.history.items }
+        ensures recorded { J.has_recorded result.recorder result.history.items }
     {
         let Book {
             net: _,
@@ -193,12 +204,16 @@ impl<'n, W: Wire, K: RunName, J: Recorder> Book<'n, W, K, J> {
             writer: _,
             history,
             counts: _,
-            wire: _,
+            wire,
             recorder,
             ledger: _,
             rest: _,
             lists: _,
         } = self;
-        (history, recorder)
+        Abandoned {
+            history,
+            wire,
+            recorder,
+        }
     }
 }

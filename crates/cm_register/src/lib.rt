@@ -17,12 +17,12 @@ mod opened;
 mod register;
 
 pub use book::{Book, SoFar};
-pub use closing::{BookFault, CloseKind, Closed};
+pub use closing::{Abandoned, BookFault, CloseKind, Closed};
 pub use cm_nmt::Wire;
 pub use cm_recorder::{Recorder, Unrecorded};
 pub use cm_seat::{
     CallFault, Made, ReadFault, Receipt, RunName, Seat, SeatList, Seen, SharedManager,
 };
 pub use fault::OpenFault;
-pub use opened::Opened;
+pub use opened::{NotOpened, Opened};
 pub use register::{CloseFault, Register};

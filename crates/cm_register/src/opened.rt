@@ -2,7 +2,7 @@ ghost use Rattle.std.specs.Prelude.{◌≡◌, ◌<◌, ◌≤◌, [], vec_capac
 ghost use Rattle.cm_history.specs.Legal.{most_entries};
 ghost use Rattle.cm_seat.specs.Opening.{fresh_seats};
 ghost use Rattle.cm_past.specs.Unnamed.{net_of};
-ghost use Rattle.cm_register.specs.Opening.{IsNameCause};
+ghost use Rattle.cm_register.specs.Opening.{IsNameCause, IsOpenCause, MayOpen};
 
 use crate::book::Book;
 use crate::fault::OpenFault;
@@ -41,9 +41,15 @@ pub struct Opened<'n, W: Wire> {
     ghost empty: { (vec_len history ≡ 0) × (vec_len lists ≡ 0) },
 }
 
+/// Why a register isn't opened or named, with its wire.
+#[derive(Drop)]
+pub struct NotOpened<W: Wire> {
+    pub fault: OpenFault,
+    pub wire: W,
+}
+
 impl<'n, W: Wire> Book<'n, W, Brand> {
     ghost use Rattle.cm_register.specs.Naming.{IsOpened};
-    ghost use Rattle.cm_register.specs.Opening.{IsOpenCause};
 
     /// Opens a register for one thread, which [`Opened::book`] then names: with this many seats, 1 to
     /// 64, and at most `limit` entries in its history, 1 to 1,048,576. After a refusal the wire is
@@ -58,23 +64,36 @@ impl<'n, W: Wire> Book<'n, W, Brand> {
         ensures opened { IfOk result (IsOpened net.now seats limit wire) }
         ensures fault { IfErr result (IsOpenCause seats limit (W.sent wire)) }
     {
-        if seats < 1 || seats > 64 {
-            return Err(OpenFault::BadSeats);
+        match Book::try_open(alloc, net, seats, limit, wire) {
+            Ok(opened) => Ok(opened),
+            Err(NotOpened { fault, wire: _ }) => Err(fault),
         }
-        if limit < 1 || limit > MOST_ENTRIES {
-            return Err(OpenFault::BadLimit);
+    }
+
+    /// The same; after a refusal the wire comes back as it was.
+    pub fn try_open(
+        alloc: Global,
+        net: &'n Network,
+        seats: u16,
+        limit: u32,
+        wire: W,
+    ) -> Result<Opened<'n, W>, NotOpened<W>>
+        ensures opened { IfOk result (IsOpened net.now seats limit wire) }
+        ensures fault { IfErr result (λ n. IsOpenCause seats limit (W.sent wire) n.fault) }
+        ensures back { IfErr result (λ n. n.wire ≡ wire) }
+    {
+        if let Err(fault) = may_open(seats, limit, &wire) {
+            return Err(NotOpened { fault, wire });
         }
-        if wire.used() {
-            return Err(OpenFault::WireUsed);
-        }
-        let Ok(history) = Vec::with_capacity(alloc, limit as usize) else {
-            return Err(OpenFault::OutOfMemory);
-        };
-        let Ok(lists) = Vec::with_capacity(alloc, usize::from(seats)) else {
-            return Err(OpenFault::OutOfMemory);
-        };
-        let Ok(log) = UnnamedHistory::new(alloc, net) else {
-            return Err(OpenFault::OutOfMemory);
+        let (Ok(history), Ok(lists), Ok(log)) = (
+            Vec::with_capacity(alloc, limit as usize),
+            Vec::with_capacity(alloc, usize::from(seats)),
+            UnnamedHistory::new(alloc, net),
+        ) else {
+            return Err(NotOpened {
+                fault: OpenFault::OutOfMemory,
+                wire,
+            });
         };
         Ok(Opened {
             net,
@@ -88,6 +107,23 @@ impl<'n, W: Wire> Book<'n, W, Brand> {
             lists,
         })
     }
+}
+
+/// Why a register can't be opened, whatever memory there is.
+fn may_open<W: Wire>(seats: u16, limit: u32, wire: &W) -> Result<(), OpenFault>
+    ensures may { IfOk result (λ u. MayOpen seats limit (W.sent wire.now)) }
+    ensures fault { IfErr result (IsOpenCause seats limit (W.sent wire.now)) }
+{
+    if seats < 1 || seats > 64 {
+        return Err(OpenFault::BadSeats);
+    }
+    if limit < 1 || limit > MOST_ENTRIES {
+        return Err(OpenFault::BadLimit);
+    }
+    if wire.used() {
+        return Err(OpenFault::WireUsed);
+    }
+    Ok(())
 }
 
 /// The seats in order, each with one part of the ledger and a reader of its own.
@@ -131,6 +167,21 @@ impl<'n, W: Wire> Opened<'n, W> {
         ensures seats { IfOk result (λ r. r.1.items ≡ fresh_seats K.seats) }
         ensures fault { IfErr result IsNameCause }
     {
+        match self.try_book::<K>() {
+            Ok(named) => Ok(named),
+            Err(NotOpened { fault, wire: _ }) => Err(fault),
+        }
+    }
+
+    /// The same; after a refusal the wire comes back as it was.
+    pub fn try_book<K: RunName>(self) -> Result<(Book<'n, W, K>, Vec<Seat<K>>), NotOpened<W>>
+        requires { Names K.RunName self }
+        ensures book { IfOk result (λ r. (r.0.history ≡ []) × (r.0.sent ≡ [])
+            × (r.0.room ≡ W.room_of self.entry.wire)) }
+        ensures seats { IfOk result (λ r. r.1.items ≡ fresh_seats K.seats) }
+        ensures fault { IfErr result (λ n. IsNameCause n.fault) }
+        ensures back { IfErr result (λ n. n.wire ≡ self.entry.wire) }
+    {
         let Opened {
             net,
             seats,
@@ -143,25 +194,21 @@ impl<'n, W: Wire> Opened<'n, W> {
             lists,
         } = self;
         let Ok(writer) = log.named::<K>(alloc) else {
-            return Err(OpenFault::OutOfMemory);
+            return Err(NotOpened {
+                fault: OpenFault::OutOfMemory,
+                wire,
+            });
         };
         let (ledger, mut rest) = blank.open::<K>();
-        let all = make_seats(alloc, seats, &writer, &mut rest)?;
-        Ok((
-            Book::fresh(
-                net,
-                seats,
-                limit,
-                Manager::new(net),
-                wire,
-                history,
-                lists,
-                ledger,
-                rest,
-                writer,
-            ),
-            all,
-        ))
+        let all = match make_seats(alloc, seats, &writer, &mut rest) {
+            Ok(all) => all,
+            Err(fault) => return Err(NotOpened { fault, wire }),
+        };
+        let manager = Manager::new(net);
+        let book = Book::fresh(
+            net, seats, limit, manager, wire, history, lists, ledger, rest, writer,
+        );
+        Ok((book, all))
     }
 
     /// The register, which threads share, and the seats in order, which have made no call and seen
