@@ -1,3 +1,4 @@
+mod Messages
 pub mod Talking
 pub mod Waiting
 pub mod HeardIdentity

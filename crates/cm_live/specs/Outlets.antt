@@ -1,5 +1,5 @@
 -- In what lines frames are written (own; can-utils, SLCAN).
-use Rattle.std.specs.Prelude.{◌≡◌, ℕ, List, [], ◌∷◌, ◌++◌, Option, codes}
+use Rattle.std.specs.Prelude.{◌≡◌, ℕ, Bool, false, List, [], ◌∷◌, ◌++◌, Option, Some, codes}
 use Rattle.std.specs.Io.KnownBytes.{Appends}
 use Rattle.cm_nmt.specs.declared.frame.Frame.{Frame}
 use Rattle.cm_nmt.specs.Frames.{frame_bytes}
@@ -7,6 +7,7 @@ use Rattle.cm_can.specs.declared.frame.CanFrame.{CanFrame}
 use Rattle.cm_can.specs.Frames.{IsData}
 use Rattle.cm_can.specs.Lines.{IsAdapterText, IsFrameText}
 use Rattle.cm_live.specs.declared.outlet.Format.{Format}
+use Rattle.cm_live.specs.declared.outlet.Outlet.{Outlet}
 use Rattle.cm_live.specs.declared.outlet.Format.TheVariants.{CanUtils, Adapter}
 
 -- a line that `canplayer` reads: a time, which it doesn't heed, an interface, and the text of a frame
@@ -29,3 +30,31 @@ Writes format f old new = (line : List ℕ) × IsLine format f line × Appends o
 -- just the line of the message that is the NMT frame was written (CiA 301: identifier 000h and its two bytes)
 abbrev pub WritesMessage : Format → Frame → Option (List ℕ) → Option (List ℕ) → Type 0
 WritesMessage format frame old new = (f : CanFrame) × IsData f 0 (frame_bytes frame) × Writes format f old new
+
+-- a text of lines, one for each frame, of the messages that are these NMT frames
+abbrev pub AreMessageLines : Format → List Frame → List ℕ → Type 0
+AreMessageLines format [] text = text ≡ []
+AreMessageLines format (frame ∷ frames) text =
+    (f : CanFrame) × (line : List ℕ) × (rest : List ℕ)
+    × IsData f 0 (frame_bytes frame) × IsLine format f line × AreMessageLines format frames rest × (text ≡ line ++ rest)
+
+-- just the lines of these messages were written, in their order
+abbrev pub WritesMessages : Format → List Frame → Option (List ℕ) → Option (List ℕ) → Type 0
+WritesMessages format frames old new = (text : List ℕ) × AreMessageLines format frames text × Appends old new text
+
+-- what contracts see of a wire to a bus: the frames sent, the room for more, and of its outlet what its writer has, in what
+-- lines frames are written, and whether a write has failed
+pub record LiveWireView : Type 0 where
+  pub sent : List Frame
+  pub room : ℕ
+  pub failed : Bool
+  pub format : Format
+  pub contents : Option (List ℕ)
+
+-- an outlet was there and is there; where no write of it has failed, just the lines of these messages were written to it
+pub record SendsMessages {W : Type 0} (contents : W → Option (List ℕ)) (frames : List Frame) (old new : Option (Outlet W)) : Type 0 where
+  pub first : Outlet W
+  pub last : Outlet W
+  pub had : old ≡ Some first
+  pub has : new ≡ Some last
+  pub written : last.failed ≡ false → WritesMessages first.format frames (contents first.writer) (contents last.writer)

@@ -11,6 +11,7 @@
 
 mod announcing;
 mod bus;
+mod bus_name;
 mod event;
 mod happening;
 mod heartbeats;
@@ -25,6 +26,7 @@ mod wire;
 
 pub use announcing::Announcing;
 pub use bus::LiveBus;
+pub use bus_name::BusName;
 pub use event::Event;
 pub use happening::{Happening, Tried};
 pub use heartbeats::Heartbeats;

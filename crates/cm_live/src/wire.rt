@@ -1,52 +1,78 @@
-ghost use Rattle.std.specs.Prelude.{◌≡◌, ◌+◌, ◌<◌, ◌≤◌, ◌++◌, ◌∷◌, [], false, IfOk, IsFalse, IsTrue};
+ghost use Rattle.std.specs.Prelude.{◌≡◌, ◌+◌, ◌<◌, ◌≤◌, ◌++◌, ◌∷◌, [], false, true};
 ghost use Rattle.cm_nmt.specs.Frames.{frame_bytes};
 ghost use Rattle.cm_can.specs.Frames.{IsData};
-ghost use Rattle.cm_live.specs.Outlets.{WritesMessage};
+ghost use Rattle.cm_live.specs.Outlets.{WritesMessage, WritesMessages};
 
+use crate::bus_name::BusName;
 use crate::outlet::Outlet;
 use cm_can::{CanFrame, nmt_frame};
 use cm_nmt::{Frame, Wire};
 use cm_simulated::SimWire;
-use std::alloc::{AllocError, Global};
 use std::io::Write;
+use std::marker::{Model, PhantomData};
 use std::sync::Arc;
 use std::sync::atomic::{AtomicBool, Ordering};
 
 /// A wire to a CAN bus: each NMT frame is written as the message with identifier 000h. The frames sent are
-/// kept, in memory that is taken when the wire is made. Once a write has failed nothing more is written, and
-/// frames are kept alone.
+/// kept, in memory that is taken before. Once a write has failed nothing more is written, and frames are kept
+/// alone. Contracts see the frames sent, the room for more, and the outlet; where no write has failed, its writer
+/// got just the lines of the frames sent since the wire was made.
 #[derive(Drop)]
-pub struct LiveWire<W: Write + Drop> {
+pub struct LiveWire<W: Write + Drop, B: BusName> {
     kept: SimWire,
     outlet: Outlet<W>,
     broken: Arc<AtomicBool>,
+    of: PhantomData<B>,
 }
 
-impl<W: Write + Drop> LiveWire<W> {
-    /// A wire on which nothing was sent, with room for this many frames. `broken` is set once a write has
-    /// failed.
-    pub fn new(
-        alloc: Global,
-        room: u32,
-        outlet: Outlet<W>,
-        broken: Arc<AtomicBool>,
-    ) -> Result<LiveWire<W>, AllocError>
-        ensures unused { IfOk result (λ w. w.kept.sent ≡ []) }
-        ensures room { IfOk result (λ w. w.kept.room ≡ room) }
+impl<W: Write + Drop, B: BusName> Model for LiveWire<W, B> {
+    ghost use Rattle.std.specs.Prelude.{◌≡◌, false};
+    ghost use Rattle.cm_live.specs.Outlets.{LiveWireView, WritesMessages};
+
+    ghost Value = { LiveWireView };
+
+    ghost view = { λ w. record {
+      sent = w.kept.sent;
+      room = w.kept.room;
+      failed = w.outlet.failed;
+      format = w.outlet.format;
+      contents = W.contents w.outlet.writer;
+    } };
+
+    ghost invariant = { λ w. w.outlet.failed ≡ false
+        → WritesMessages w.outlet.format w.kept.sent B.before (W.contents w.outlet.writer) };
+}
+
+impl<W: Write + Drop, B: BusName> LiveWire<W, B> {
+    /// A wire over these kept frames, of which there are none yet. `broken` is set once a write has failed. The
+    /// condition says that `B` knows what the writer has.
+    pub fn new(kept: SimWire, outlet: Outlet<W>, broken: Arc<AtomicBool>) -> LiveWire<W, B>
+        requires unused { kept.sent ≡ [] }
+        requires before { W.contents outlet.writer ≡ B.before }
+        ensures { (result.sent ≡ []) × (result.room ≡ kept.room) × (result.format ≡ outlet.format) }
     {
-        let kept = SimWire::new(alloc, room)?;
-        Ok(LiveWire {
+        LiveWire {
             kept,
             outlet,
             broken,
-        })
+            of: PhantomData,
+        }
     }
 
     /// Whether a write has failed.
     pub fn has_failed(&self) -> bool
-        ensures { result ≡ self.now.outlet.failed }
+        ensures { result ≡ self.now.failed }
     {
         self.outlet.has_failed()
+    }
+
+    /// The outlet: where no write has failed, its writer got just the lines of the frames sent.
+    pub fn into_outlet(self) -> Outlet<W>
+        ensures format { result.format ≡ self.format }
+        ensures written { result.failed ≡ false
+            → WritesMessages result.format self.sent B.before (W.contents result.writer) }
+    {
+        self.outlet
     }
 }
 
@@ -57,10 +83,10 @@ fn message_of(frame: &Frame) -> CanFrame
     nmt_frame(*frame)
 }
 
-impl<W: Write + Drop> Wire for LiveWire<W> {
-    ghost sent = { λ w. w.kept.sent };
+impl<W: Write + Drop, B: BusName> Wire for LiveWire<W, B> {
+    ghost sent = { λ w. w.sent };
 
-    ghost room_of = { λ w. w.kept.room };
+    ghost room_of = { λ w. w.room };
 
     fn room(&self) -> u32 {
         self.kept.room()
@@ -71,14 +97,14 @@ impl<W: Write + Drop> Wire for LiveWire<W> {
     }
 
     fn send(&mut self, frame: Frame)
-        requires { 0 < self.old.kept.room }
-        ensures sent { self.new.kept.sent ≡ self.old.kept.sent ++ frame ∷ [] }
-        ensures room { self.old.kept.room ≤ self.new.kept.room + 1 }
-        ensures written { IsFalse self.new.outlet.failed
-            → WritesMessage self.old.outlet.format frame (W.contents self.old.outlet.writer)
-            (W.contents self.new.outlet.writer) }
-        ensures stopped { IsTrue self.old.outlet.failed
-            → self.new.outlet ≡ self.old.outlet }
+        requires { 0 < self.old.room }
+        ensures sent { self.new.sent ≡ self.old.sent ++ frame ∷ [] }
+        ensures room { self.old.room ≤ self.new.room + 1 }
+        ensures format { self.new.format ≡ self.old.format }
+        ensures written { self.new.failed ≡ false
+            → WritesMessage self.old.format frame self.old.contents self.new.contents }
+        ensures stopped { self.old.failed ≡ true
+            → (self.new.failed ≡ true) × (self.new.contents ≡ self.old.contents) }
     {
         self.outlet.send(&message_of(&frame));
         // Taken apart and put together, since the check refuses the frame as it is.
