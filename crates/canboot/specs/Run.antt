@@ -1,13 +1,17 @@
 -- What the run of a network list does.
-use Rattle.std.specs.Prelude.{◌≡◌, ◌⊎◌, ◌+◌, ℕ, Bool, List, Option, Some, None, false}
+use Rattle.std.specs.Prelude.{◌≡◌, ◌⊎◌, ◌+◌, ℕ, Bool, List, [], Option, Some, None, false}
 use Rattle.std.specs.Io.KnownBytes.{Appends}
 use Rattle.cm_nmt.specs.Bits.{has_bit}
-use Rattle.cm_netlist.specs.Network.{Network}
+use Rattle.cm_nmt.specs.declared.frame.Frame.{Frame}
+use Rattle.cm_netlist.specs.Network.{Network, listing}
 use Rattle.cm_format.specs.Text.{JournalView, journal_of, text}
 use Rattle.cm_format.specs.declared.version.Version.TheVariants.{Two}
 use Rattle.cm_format.specs.Journals.{IsJournal}
 use Rattle.cm_format.specs.Report.{report_text}
 use Rattle.cm_history.specs.declared.call.Entry.{Entry}
+use Rattle.cm_history.specs.OrderFrames.{frames_in}
+use Rattle.cm_live.specs.Outlets.{HasSent, IsWell, SendsMessages}
+use Rattle.cm_live.specs.declared.outlet.Outlet.{Outlet}
 use Rattle.cm_format.specs.Unended.{unended_text}
 pub use Rattle.cm_recording.specs.Recorded.{AppendsIfThere, IsWritten}
 use Rattle.canboot_check.specs.Check.{IsFaultyText, IsList}
@@ -51,20 +55,48 @@ abbrev pub WritesJournal : Network → ℕ → ℕ → List Entry → Option (Op
 WritesJournal net seats limit entries journal journal' failed = IsWritten journal journal' failed (text (journal_of Two net seats limit entries))
 
 -- of the text of a journal of this network the beginning was written, and all of it, but for its last line, where no write has
--- failed: its entries are a legal history
-abbrev pub BeginsJournal : Network → ℕ → ℕ → Option (Option (List ℕ)) → Option (Option (List ℕ)) → Bool → Type 0
-BeginsJournal net seats limit journal journal' failed =
-    (entries : List Entry) × IsJournal (journal_of Two net seats limit entries)
-    × IsWritten journal journal' failed (unended_text (journal_of Two net seats limit entries))
+-- failed: its entries are a legal history; and of this history just the frames were sent
+pub record Begins (net : Network) (seats limit : ℕ) (journal journal' : Option (Option (List ℕ))) (failed : Bool) (Sends : List Frame → Type 0) : Type 0 where
+  pub entries : List Entry
+  pub legal : IsJournal (journal_of Two net seats limit entries)
+  pub recorded : IsWritten journal journal' failed (unended_text (journal_of Two net seats limit entries))
+  pub sent : Sends (frames_in (listing net) entries)
 
--- of the journal of a live run, whose history is legal, the beginning of the text was written to its output, if there is one,
--- and all of it where no write has failed, but for its last line where the history isn't closed
-pub record RecordsLive (workers limit : ℕ) (input input' : Option (List ℕ)) (journal journal' : Option (Option (List ℕ))) (failed : Bool) : Type 0 where
-  pub of : JournalView
-  pub run : IsRun workers limit input input' of
-  pub recorded : IsWritten journal journal' failed (text of) ⊎ IsWritten journal journal' failed (unended_text of)
+-- nothing was written and no frame was sent, or the journal of such a history was begun
+abbrev pub KeptOrBegins : {A : Type 0} → Network → ℕ → ℕ → (A → Option (Option (List ℕ))) → A → A → (A → Bool) → (List Frame → Type 0) → Type 0
+KeptOrBegins net seats limit contents journal journal' failed Sends =
+    ((journal' ≡ journal) × Sends []) ⊎ Begins net seats limit (contents journal) (contents journal') (failed journal') Sends
 
--- nothing was written; or the beginning of the journal of a live run
-abbrev pub FailsToLive : ℕ → ℕ → Option (List ℕ) → Option (List ℕ) → Option (List ℕ) → Option (List ℕ) → Option (Option (List ℕ)) → Option (Option (List ℕ)) → Bool → Type 0
-FailsToLive workers limit input input' output output' journal journal' failed =
-    ((output' ≡ output) × (journal' ≡ journal)) ⊎ RecordsLive workers limit input input' journal journal' failed
+module _ {W : Type 0} (contents : W → Option (List ℕ)) where
+  -- a live run that ended in order: of the legal history of a journal of the list just the report was written, to the
+  -- journal's output, if there is one, just the text of that journal, and to the outlet of messages, of which no write has
+  -- failed, just the lines of that history's frames
+  pub record RunsLive (workers limit : ℕ) (input input' output output' : Option (List ℕ)) (journal journal' : Option (Option (List ℕ)))
+      (messages messages' : Option (Outlet W)) : Type 0 where
+    pub of : JournalView
+    pub run : IsRun workers limit input input' of
+    pub reported : Appends output output' (report_text of.network of.entries)
+    pub recorded : AppendsIfThere journal journal' (text of)
+    pub sent : SendsMessages contents (frames_in (listing of.network) of.entries) messages messages'
+    pub well : IsWell messages'
+
+  -- of the journal of a live run, whose history is legal, the beginning of the text was written to its output, if there is one,
+  -- and all of it where no write has failed, but for its last line where the history isn't closed; and just the frames of
+  -- this history were sent
+  pub record RecordsLive (workers limit : ℕ) (input input' : Option (List ℕ)) (journal journal' : Option (Option (List ℕ))) (failed : Bool)
+      (messages messages' : Option (Outlet W)) : Type 0 where
+    pub of : JournalView
+    pub run : IsRun workers limit input input' of
+    pub recorded : IsWritten journal journal' failed (text of) ⊎ IsWritten journal journal' failed (unended_text of)
+    pub sent : SendsMessages contents (frames_in (listing of.network) of.entries) messages messages'
+
+  -- no message was sent
+  abbrev pub SendsNothing : Option (Outlet W) → Option (Outlet W) → Type 0
+  SendsNothing messages messages' = (messages' ≡ messages) ⊎ SendsMessages contents [] messages messages'
+
+  -- nothing was written or sent; or the beginning of the journal of a live run, just whose frames were sent
+  abbrev pub FailsToLive : ℕ → ℕ → Option (List ℕ) → Option (List ℕ) → Option (List ℕ) → Option (List ℕ) → Option (Option (List ℕ)) → Option (Option (List ℕ)) → Bool
+      → Option (Outlet W) → Option (Outlet W) → Type 0
+  FailsToLive workers limit input input' output output' journal journal' failed messages messages' =
+      ((output' ≡ output) × (journal' ≡ journal) × SendsNothing messages messages')
+      ⊎ RecordsLive workers limit input input' journal journal' failed messages messages'

@@ -8,7 +8,7 @@ use crate::program::write_fault;
 use crate::timed::Timed;
 use canboot_check::{CheckFault, LONGEST_LIST, read_fault, read_list, refuse};
 use canboot_words::BusPaths;
-use cm_live::Format;
+use cm_live::{Format, Outlet};
 use cm_text::{InputFault, read_input};
 use std::alloc::Global;
 use std::fs::{self, File, OpenOptions};
@@ -129,9 +129,14 @@ pub(crate) fn live_file<
         Ok(files) => files,
         Err(error) => return read_fault(err, error.kind()),
     };
-    let written = match writers_to(rt.alloc(), &sent, options.workers + 1) {
+    let made = writers_to(rt.alloc(), &sent, options.workers + 1);
+    let mut written = match made {
         Ok(writers) => writers,
         Err(error) => return write_fault(err, error.kind()),
+    };
+    let mut messages = match written.pop() {
+        Some(writer) => Some(Outlet::new(writer, options.format)),
+        None => None,
     };
     // Where the start will be refused, nothing is written.
     let path = if is_master { journal.path } else { None };
@@ -154,6 +159,7 @@ pub(crate) fn live_file<
         ends,
         out,
         &mut timed,
+        &mut messages,
         &mut journal,
     );
     close_channel(&mut sent, options.format);

@@ -24,6 +24,7 @@ pub use canboot_check::{
     DONE, FAILED, LONGEST_JOURNAL, LONGEST_LIST, MISUSED, REFUSED, check_text, replay_text,
 };
 pub use canboot_words::{Action, NoAction, read_words};
+pub use cm_live::Outlet;
 pub use cm_recording::JournalOutput;
 pub use live::{LONGEST_LIVE, LiveEnds, LiveOptions, live_text};
 pub use program::{run, run_words};

@@ -4,8 +4,8 @@ ghost use Rattle.std.specs.Prelude.{◌≤◌};
 use crate::live::Setting;
 use crate::rounds::live_round;
 use cm_can::CanFrame;
-use cm_live::{Announcing, Happening, LiveBus, LivePort, LiveWire, Outlet, Tried};
-use cm_nmt::NodeId;
+use cm_live::{Announcing, Happening, LiveBus, LivePort, Outlet, Tried};
+use cm_nmt::{NodeId, Wire};
 use cm_register::{Recorder, Register, RunName, Seat};
 use cm_run::{Last, Outcome};
 use crossbeam_channel::{Receiver, Sender};
@@ -36,16 +36,9 @@ fn tried_of(outcome: &Outcome) -> Tried {
 }
 
 /// Boots the slaves that are handed to a worker, and tells what came of each, until the run is over.
-fn boot_handed<
-    'n,
-    R: Wait + Clock + Drop,
-    K: RunName,
-    N: Write + Drop,
-    W: Write + Drop,
-    J: Recorder,
->(
+fn boot_handed<'n, R: Wait + Clock + Drop, K: RunName, N: Wire, W: Write + Drop, J: Recorder>(
     rt: &R,
-    announcing: &Announcing<'_, Register<'n, LiveWire<N>, K, J>>,
+    announcing: &Announcing<'_, Register<'n, N, K, J>>,
     seat: &mut Seat<K>,
     bus: &mut LiveBus<'n, LivePort<R, W>>,
     jobs: &Receiver<NodeId>,
@@ -68,9 +61,9 @@ fn boot_handed<
 }
 
 /// What one worker does: rounds of the slaves that it is handed, until the run is over. Its seat comes back.
-fn work<'n, R: Wait + Clock + Drop, K: RunName, N: Write + Drop, W: Write + Drop, J: Recorder>(
+fn work<'n, R: Wait + Clock + Drop, K: RunName, N: Wire, W: Write + Drop, J: Recorder>(
     rt: &R,
-    register: &Register<'n, LiveWire<N>, K, J>,
+    register: &Register<'n, N, K, J>,
     worker: Worker<'n, R, K, W>,
     over: &AtomicBool,
 ) -> Seat<K> {
@@ -194,12 +187,13 @@ fn start_worker<
     V,
     R: Wait + Threads + Clock + Send + Sync + Drop + 's,
     K: RunName + Send + Sync + 's,
+    N: Wire + Send + 's,
     W: Write + Drop + Send + 's,
     J: Recorder + Send + 's,
 >(
     scope: &Scope<'s, V>,
     rt: &'s R,
-    register: &'s Register<'n, LiveWire<W>, K, J>,
+    register: &'s Register<'n, N, K, J>,
     worker: Worker<'n, R, K, W>,
     over: &'s AtomicBool,
     handles: &mut Vec<JoinHandle<Seat<K>>>,
@@ -217,12 +211,13 @@ pub(crate) fn start_workers<
     V,
     R: Wait + Threads + Clock + Send + Sync + Drop + 's,
     K: RunName + Send + Sync + 's,
+    N: Wire + Send + 's,
     W: Write + Drop + Send + 's,
     J: Recorder + Send + 's,
 >(
     scope: &Scope<'s, V>,
     rt: &'s R,
-    register: &'s Register<'n, LiveWire<W>, K, J>,
+    register: &'s Register<'n, N, K, J>,
     workers: Vec<Worker<'n, R, K, W>>,
     over: &'s AtomicBool,
     handles: &mut Vec<JoinHandle<Seat<K>>>,

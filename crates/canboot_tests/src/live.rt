@@ -5,7 +5,7 @@ ghost use Rattle.std.specs.Prelude.{◌≡◌, ◌≤◌, length};
 
 use crate::runs::full_list;
 use crate::streams::{READ_FAILED, WRITE_FAILED};
-use canboot::{JournalOutput, LiveEnds, LiveOptions, live_text, replay_text};
+use canboot::{JournalOutput, LiveEnds, LiveOptions, Outlet, live_text, replay_text};
 use cm_can::{CanFrame, Kind, read_log_line};
 use cm_live::Format;
 use crossbeam_channel::{Receiver, Sender};
@@ -194,10 +194,11 @@ impl<R: Wait + Drop> Read for Typing<R> {
     }
 }
 
-/// The writers of a bus, one for each of four workers and one more, what is heard of it, and who types.
+/// The writers of a bus, one for each of four workers and one for messages, what is heard of it, and who types.
 #[derive(Drop)]
 struct Bus<R: Wait + Drop> {
     ends: LiveEnds<Answered<R>, Typing<R>, Devices<R>>,
+    messages: Outlet<Devices<R>>,
 }
 
 /// Devices that tell this sender their answers, and the other one which node was started.
@@ -221,7 +222,7 @@ fn make_devices<R: Wait + Clone + Drop>(
     })
 }
 
-/// A writer for each of four workers, and one more.
+/// A writer for each of four workers.
 fn writers<R: Wait + Clone + Drop>(
     rt: &R,
     alloc: Global,
@@ -230,7 +231,7 @@ fn writers<R: Wait + Clone + Drop>(
     left: u32,
 ) -> Result<Vec<Devices<R>>, Fail> {
     let mut written = Vec::new(alloc);
-    for _writer in 0..5u8 {
+    for _writer in 0..4u8 {
         written.push(make_devices(rt, alloc, answers, starts, left)?)?;
     }
     Ok(written)
@@ -263,6 +264,7 @@ fn bus_of<R: Wait + Clone + Drop>(
     let (answers, heard) = crossbeam_channel::unbounded(alloc)?;
     let (starts, started) = crossbeam_channel::unbounded(alloc)?;
     let written = writers(rt, alloc, &answers, &starts, written_at_most)?;
+    let sent = make_devices(rt, alloc, &answers, &starts, written_at_most)?;
     let received = reader(rt, alloc, heard, heard_at_most)?;
     let typed = Typing {
         rt: rt.clone()?,
@@ -276,6 +278,7 @@ fn bus_of<R: Wait + Clone + Drop>(
             typed,
             written,
         },
+        messages: Outlet::new(sent, Format::CanUtils),
     })
 }
 
@@ -323,7 +326,8 @@ fn lives<R: Wait + Threads + Clock + Clone + Abort + Send + Sync + Drop + 'stati
     let mut err: Vec<u8> = Vec::new(alloc);
     let mut journal: JournalOutput<Vec<u8>> = JournalOutput::new(Some(Vec::new(alloc)));
     let options = four_workers();
-    let Bus { ends } = bus;
+    let Bus { ends, messages } = bus;
+    let mut messages = Some(messages);
     let status = live_text(
         rt,
         alloc,
@@ -332,8 +336,10 @@ fn lives<R: Wait + Threads + Clock + Clone + Abort + Send + Sync + Drop + 'stati
         ends,
         &mut out,
         &mut err,
+        &mut messages,
         &mut journal,
     );
+    assert!(rt; messages.is_some());
     let Some(journal) = journal.into_writer() else {
         return Err(Fail::from("no journal"));
     };

@@ -42,19 +42,26 @@ AreMessageLines format (frame ∷ frames) text =
 abbrev pub WritesMessages : Format → List Frame → Option (List ℕ) → Option (List ℕ) → Type 0
 WritesMessages format frames old new = (text : List ℕ) × AreMessageLines format frames text × Appends old new text
 
--- what contracts see of a wire to a bus: the frames sent, the room for more, and of its outlet what its writer has, in what
--- lines frames are written, and whether a write has failed
+-- what contracts see of a wire to a bus: the frames sent, the room for more, whether a write has failed, and what the writer
+-- has
 pub record LiveWireView : Type 0 where
   pub sent : List Frame
   pub room : ℕ
   pub failed : Bool
-  pub format : Format
   pub contents : Option (List ℕ)
 
--- an outlet was there and is there; where no write of it has failed, just the lines of these messages were written to it
+-- an outlet is there, to which, where no write of it has failed, just the lines of these messages were written
+pub record HasSent {W : Type 0} (contents : W → Option (List ℕ)) (format : Format) (frames : List Frame) (before : Option (List ℕ)) (now : Option (Outlet W)) : Type 0 where
+  pub last : Outlet W
+  pub there : now ≡ Some last
+  pub written : last.failed ≡ false → WritesMessages format frames before (contents last.writer)
+
+-- an outlet was there, and is there, to which, where no write of it has failed, just the lines of these messages were written
 pub record SendsMessages {W : Type 0} (contents : W → Option (List ℕ)) (frames : List Frame) (old new : Option (Outlet W)) : Type 0 where
   pub first : Outlet W
-  pub last : Outlet W
   pub had : old ≡ Some first
-  pub has : new ≡ Some last
-  pub written : last.failed ≡ false → WritesMessages first.format frames (contents first.writer) (contents last.writer)
+  pub sent : HasSent contents first.format frames (contents first.writer) new
+
+-- no write of the outlet has failed, if there is one
+abbrev pub IsWell : {W : Type 0} → Option (Outlet W) → Type 0
+IsWell {W} now = (last : Outlet W) → now ≡ Some last → last.failed ≡ false

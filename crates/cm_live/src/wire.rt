@@ -35,21 +35,21 @@ impl<W: Write + Drop, B: BusName> Model for LiveWire<W, B> {
       sent = w.kept.sent;
       room = w.kept.room;
       failed = w.outlet.failed;
-      format = w.outlet.format;
       contents = W.contents w.outlet.writer;
     } };
 
-    ghost invariant = { λ w. w.outlet.failed ≡ false
-        → WritesMessages w.outlet.format w.kept.sent B.before (W.contents w.outlet.writer) };
+    ghost invariant = { λ w. (w.outlet.format ≡ B.format) × (w.outlet.failed ≡ false
+        → WritesMessages B.format w.kept.sent B.before (W.contents w.outlet.writer)) };
 }
 
 impl<W: Write + Drop, B: BusName> LiveWire<W, B> {
     /// A wire over these kept frames, of which there are none yet. `broken` is set once a write has failed. The
-    /// condition says that `B` knows what the writer has.
+    /// conditions say that `B` knows in what lines frames are written, and what the writer has.
     pub fn new(kept: SimWire, outlet: Outlet<W>, broken: Arc<AtomicBool>) -> LiveWire<W, B>
         requires unused { kept.sent ≡ [] }
+        requires format { outlet.format ≡ B.format }
         requires before { W.contents outlet.writer ≡ B.before }
-        ensures { (result.sent ≡ []) × (result.room ≡ kept.room) × (result.format ≡ outlet.format) }
+        ensures { (result.sent ≡ []) × (result.room ≡ kept.room) }
     {
         LiveWire {
             kept,
@@ -68,9 +68,9 @@ impl<W: Write + Drop, B: BusName> LiveWire<W, B> {
 
     /// The outlet: where no write has failed, its writer got just the lines of the frames sent.
     pub fn into_outlet(self) -> Outlet<W>
-        ensures format { result.format ≡ self.format }
+        ensures format { result.format ≡ B.format }
         ensures written { result.failed ≡ false
-            → WritesMessages result.format self.sent B.before (W.contents result.writer) }
+            → WritesMessages B.format self.sent B.before (W.contents result.writer) }
     {
         self.outlet
     }
@@ -100,9 +100,8 @@ impl<W: Write + Drop, B: BusName> Wire for LiveWire<W, B> {
         requires { 0 < self.old.room }
         ensures sent { self.new.sent ≡ self.old.sent ++ frame ∷ [] }
         ensures room { self.old.room ≤ self.new.room + 1 }
-        ensures format { self.new.format ≡ self.old.format }
         ensures written { self.new.failed ≡ false
-            → WritesMessage self.old.format frame self.old.contents self.new.contents }
+            → WritesMessage B.format frame self.old.contents self.new.contents }
         ensures stopped { self.old.failed ≡ true
             → (self.new.failed ≡ true) × (self.new.contents ≡ self.old.contents) }
     {

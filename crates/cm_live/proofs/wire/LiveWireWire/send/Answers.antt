@@ -1,4 +1,4 @@
-use Rattle.std.proofs.Common.{◌≡◌, List, sym, subst}
+use Rattle.std.proofs.Common.{◌≡◌, ◌∙◌, List, Option, ℕ, sym, subst}
 use Rattle.cm_nmt.specs.declared.frame.Frame.{Frame}
 use Rattle.cm_live.specs.declared.outlet.Format.{Format}
 use Rattle.cm_live.specs.Outlets.{LiveWireView, WritesMessage, WritesMessages}
@@ -6,13 +6,19 @@ use Rattle.cm_live.proofs.Messages.{message_more, was_well}
 use Rattle.cm_live.proofs.wire.LiveWireWire.send.Goals as goal
 
 pub invariant_of-self : goal.invariant_of-self
-invariant_of-self g c = λ h.
-    let o = c.self.inside.outlet in let contents = g.W.Write.contents c.send.new.self.writer in
-    let done = message_more o.format c.self.inside.kept.sent c.args.frame g.B.BusName.before (g.W.Write.contents o.writer) contents
-        (c.self.invariant (was_well o c.send.new.self c.send.ensures.stopped h)) (c.message_of.result, c.message_of.ensures, c.send.ensures.written h) in
-    subst (λ (f : Format). WritesMessages f c.send-2.new.self.sent g.B.BusName.before contents) (sym c.send.ensures.format)
-        (subst (λ (s : List Frame). WritesMessages o.format s g.B.BusName.before contents) (sym c.send-2.ensures.sent) done)
+invariant_of-self g c = (
+  c.send.ensures.format ∙ c.self.invariant.0,
+  λ h.
+      let o = c.self.inside.outlet in let contents = g.W.Write.contents c.send.new.self.writer in
+      let line = subst (λ (f : Format). WritesMessage f c.args.frame (g.W.Write.contents o.writer) contents) c.self.invariant.0
+      (c.message_of.result, c.message_of.ensures, c.send.ensures.written h) in
+      subst (λ (s : List Frame). WritesMessages g.B.BusName.format s g.B.BusName.before contents) (sym c.send-2.ensures.sent)
+      (message_more g.B.BusName.format c.self.inside.kept.sent c.args.frame g.B.BusName.before (g.W.Write.contents o.writer) contents
+      (c.self.invariant.1 (was_well o c.send.new.self c.send.ensures.stopped h)) line),
+)
 
 pub returns-clause-written : goal.returns-clause-written
-returns-clause-written g c = λ h. subst (λ (v : LiveWireView). WritesMessage v.format c.args.frame v.contents (g.W.Write.contents c.send.new.self.writer))
-    c.self.view_is (c.message_of.result, c.message_of.ensures, c.send.ensures.written h)
+returns-clause-written g c = λ h. subst (λ (v : LiveWireView). WritesMessage g.B.BusName.format c.args.frame v.contents (g.W.Write.contents c.send.new.self.writer))
+    c.self.view_is
+    (subst (λ (f : Format). WritesMessage f c.args.frame (g.W.Write.contents c.self.inside.outlet.writer) (g.W.Write.contents c.send.new.self.writer)) c.self.invariant.0
+    (c.message_of.result, c.message_of.ensures, c.send.ensures.written h))
