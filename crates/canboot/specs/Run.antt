@@ -1,5 +1,5 @@
 -- What the run of a network list does.
-use Rattle.std.specs.Prelude.{◌≡◌, ◌⊎◌, ◌+◌, ℕ, Bool, List, [], Option, Some, None, false}
+use Rattle.std.specs.Prelude.{◌≡◌, ◌⊎◌, ◌+◌, ℕ, Bool, List, [], Option, false}
 use Rattle.std.specs.Io.KnownBytes.{Appends}
 use Rattle.cm_nmt.specs.Bits.{has_bit}
 use Rattle.cm_nmt.specs.declared.frame.Frame.{Frame}
@@ -10,7 +10,7 @@ use Rattle.cm_format.specs.Journals.{IsJournal}
 use Rattle.cm_format.specs.Report.{report_text}
 use Rattle.cm_history.specs.declared.call.Entry.{Entry}
 use Rattle.cm_history.specs.OrderFrames.{frames_in}
-use Rattle.cm_live.specs.Outlets.{HasSent, IsWell, SendsMessages}
+use Rattle.cm_live.specs.Outlets.{IsWell, SendsMessages}
 use Rattle.cm_live.specs.declared.outlet.Outlet.{Outlet}
 use Rattle.cm_format.specs.Unended.{unended_text}
 pub use Rattle.cm_recording.specs.Recorded.{AppendsIfThere, IsWritten}

@@ -6,6 +6,7 @@ mod bus_files;
 mod journal_file;
 mod live;
 mod live_inputs;
+mod live_recorded;
 mod live_team;
 mod live_threads;
 mod opening;

@@ -1,11 +1,10 @@
 -- Where the answers of a boot were heard, the identity was.
-use Rattle.std.proofs.Common.{◌≡◌, ◌≢◌, ℕ, List, [], ◌∷◌, ◌++◌, refl, subst}
+use Rattle.std.proofs.Common.{◌≡◌, ℕ, List, [], ◌∷◌, ◌++◌, subst}
 use Rattle.std.specs.Prelude.{Option, Some, None, option_map}
 use Rattle.std.specs.List.{flat_map}
 use Rattle.cm_nmt.specs.Answers.{id_of}
 use Rattle.cm_nmt.specs.Fields.{fields}
 use Rattle.cm_nmt.specs.declared.answers.Answers.{Answers}
-use Rattle.cm_nmt.specs.declared.field.Field.{Field}
 use Rattle.cm_nmt.specs.declared.got.Got.{Got}
 use Rattle.cm_nmt.specs.declared.got.Got.TheVariants as got
 use Rattle.cm_nmt.specs.declared.terms.Terms.{Terms}

@@ -1,4 +1,4 @@
-use Rattle.std.proofs.Common.{List, [], subst}
+use Rattle.std.proofs.Common.{List, subst}
 use Rattle.cm_run.specs.Rounds.{HasRound}
 use Rattle.cm_live.specs.Talk.{IsAsked}
 use Rattle.cm_live.specs.declared.event.Event.{Event}

@@ -1,4 +1,4 @@
-use Rattle.std.proofs.Common.{◌∙◌, refl, arith}
+use Rattle.std.proofs.Common.{◌∙◌, arith}
 use Rattle.cm_live.proofs.Waiting.{passed_answered, passed_more}
 use Rattle.cm_live.proofs.bus.wait_for.Goals as goal
 

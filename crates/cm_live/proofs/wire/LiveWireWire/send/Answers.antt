@@ -1,4 +1,4 @@
-use Rattle.std.proofs.Common.{◌≡◌, ◌∙◌, List, Option, ℕ, sym, subst}
+use Rattle.std.proofs.Common.{◌∙◌, List, sym, subst}
 use Rattle.cm_nmt.specs.declared.frame.Frame.{Frame}
 use Rattle.cm_live.specs.declared.outlet.Format.{Format}
 use Rattle.cm_live.specs.Outlets.{LiveWireView, WritesMessage, WritesMessages}
