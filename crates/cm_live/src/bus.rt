@@ -1,7 +1,9 @@
 //! The bus of one worker.
 ghost use Rattle.std.specs.Prelude.{◌≡◌, ◌+◌, ◌<◌, ◌≤◌, ◌++◌, ◌∷◌, [], IfOk, IfSome, None, vec_capacity, vec_len};
 ghost use Rattle.cm_live.specs.Talk.{HasAsked, HasPut, HasWaited, IsAbortOf, IsAsking, IsClosing, answer_in};
+ghost use Rattle.cm_live.specs.Receiving.{IsGiven};
 
+use crate::bus_name::BusName;
 use crate::event::Event;
 use crate::port::Port;
 use cm_boot::{Answer, Bus, Question};
@@ -9,7 +11,7 @@ use cm_can::{CanFrame, NO_SEGMENTS, TIMED_OUT, abort_frame, answer_of, is_segmen
 use cm_netlist::Network;
 use cm_nmt::NodeId;
 use std::alloc::{AllocError, Global};
-use std::marker::Model;
+use std::marker::{Model, PhantomData};
 
 /// How many frames that don't answer a question are passed over at most; with more of them it isn't answered.
 const MOST_PASSED: u8 = 64;
@@ -25,20 +27,23 @@ const MOST_EVENTS: usize = 27_470;
 /// the log was emptied; a log that is full is emptied for the next question, and no round of a worker fills one.
 /// Contracts see the log.
 #[derive(Drop)]
-pub struct LiveBus<'n, P: Port> {
+pub struct LiveBus<'n, B: BusName, P: Port<B>> {
     network: &'n Network,
     answer_ms: u32,
     port: P,
+    /// The place of the frame that was heard last: others are heard behind it alone.
+    last: u64,
     log: Vec<Event>,
+    of: PhantomData<B>,
 }
 
-impl<'n, P: Port> Model for LiveBus<'n, P> {
-    ghost use Rattle.std.specs.Prelude.{◌≤◌, List, vec_capacity};
-    ghost use Rattle.cm_live.specs.declared.event.Event.{Event as AnEvent};
+impl<'n, B: BusName, P: Port<B>> Model for LiveBus<'n, B, P> {
+    ghost use Rattle.std.specs.Prelude.{◌≤◌, vec_capacity};
+    ghost use Rattle.cm_live.specs.Receiving.{BusView};
 
-    ghost Value = { List AnEvent };
+    ghost Value = { BusView };
 
-    ghost view = { λ b. b.log.items };
+    ghost view = { λ b. record { log = b.log.items; heard = b.last } };
 
     ghost invariant = { λ b. 27470 ≤ vec_capacity b.log };
 }
@@ -84,20 +89,29 @@ fn expire(log: &mut Vec<Event>) -> Option<Reply>
 
 /// Waits for the first frame that answers the question. `None` once the time is over, or where too many others
 /// came.
-fn wait_for<P: Port>(
+fn wait_for<B: BusName, P: Port<B>>(
     port: &mut P,
+    last: &mut u64,
     log: &mut Vec<Event>,
     id: NodeId,
     question: &Question,
 ) -> Option<Reply>
     requires room { vec_len log.old + 65 ≤ vec_capacity log.old }
     ensures waited { HasWaited id question.now result log.old.items log.new.items }
+    ensures given { IsGiven B.format B.text id question.now (answer_in result) last.old last.new }
     ensures capacity { vec_capacity log.new ≡ vec_capacity log.old }
 {
     for passed in 0..MOST_PASSED {
-        let Some(frame) = port.hear() else {
+        let Some(received) = port.hear() else {
             return expire(log);
         };
+        let place = received.place();
+        // The reader gives frames in their order, so that this never comes; no clause of a channel says so.
+        if place <= *last {
+            return expire(log);
+        }
+        *last = place;
+        let frame = received.frame();
         log.push_reserved(Event::Heard(frame));
         if let Some(answer) = answer_of(id, question, &frame) {
             return Some(Reply { frame, answer });
@@ -107,7 +121,7 @@ fn wait_for<P: Port>(
 }
 
 /// Sends a frame, and puts that into the log.
-fn send<P: Port>(port: &mut P, log: &mut Vec<Event>, frame: CanFrame)
+fn send<B: BusName, P: Port<B>>(port: &mut P, log: &mut Vec<Event>, frame: CanFrame)
     requires room { vec_len log.old < vec_capacity log.old }
     ensures log { log.new.items ≡ log.old.items ++ Event.Sent frame ∷ [] }
     ensures capacity { vec_capacity log.new ≡ vec_capacity log.old }
@@ -117,7 +131,12 @@ fn send<P: Port>(port: &mut P, log: &mut Vec<Event>, frame: CanFrame)
 }
 
 /// Sends the request of a question, if it has one.
-fn send_request<P: Port>(port: &mut P, log: &mut Vec<Event>, id: NodeId, question: &Question)
+fn send_request<B: BusName, P: Port<B>>(
+    port: &mut P,
+    log: &mut Vec<Event>,
+    id: NodeId,
+    question: &Question,
+)
     requires room { vec_len log.old < vec_capacity log.old }
     ensures asking { HasPut (IsAsking id question.now) log.old.items log.new.items }
     ensures capacity { vec_capacity log.new ≡ vec_capacity log.old }
@@ -129,7 +148,7 @@ fn send_request<P: Port>(port: &mut P, log: &mut Vec<Event>, id: NodeId, questio
 }
 
 /// Ends the transfer of a question, where it is to be ended.
-fn close_transfer<P: Port>(
+fn close_transfer<B: BusName, P: Port<B>>(
     port: &mut P,
     log: &mut Vec<Event>,
     id: NodeId,
@@ -161,13 +180,20 @@ fn answer_in(reply: Option<Reply>) -> Answer
 }
 
 /// Asks a question: sends its request, waits for the answer, and ends the transfer where it is to be ended.
-fn ask_by<P: Port>(port: &mut P, log: &mut Vec<Event>, id: NodeId, question: &Question) -> Answer
+fn ask_by<B: BusName, P: Port<B>>(
+    port: &mut P,
+    last: &mut u64,
+    log: &mut Vec<Event>,
+    id: NodeId,
+    question: &Question,
+) -> Answer
     requires room { vec_len log.old + 67 ≤ vec_capacity log.old }
     ensures asked { HasAsked id question.now result log.old.items log.new.items }
+    ensures given { IsGiven B.format B.text id question.now result last.old last.new }
     ensures capacity { vec_capacity log.new ≡ vec_capacity log.old }
 {
     send_request(port, log, id, question);
-    let reply = wait_for(port, log, id, question);
+    let reply = wait_for(port, last, log, id, question);
     close_transfer(port, log, id, question, &reply);
     answer_in(reply)
 }
@@ -185,7 +211,7 @@ fn make_room(log: &mut Vec<Event>)
     }
 }
 
-impl<'n, P: Port> LiveBus<'n, P> {
+impl<'n, B: BusName, P: Port<B>> LiveBus<'n, B, P> {
     /// A bus over this port, with an empty log. An SDO answer and the answer to a guard request are waited for so
     /// many ms, a heartbeat for its time in the network list. Refused where memory for the log is.
     pub fn new(
@@ -193,28 +219,31 @@ impl<'n, P: Port> LiveBus<'n, P> {
         network: &'n Network,
         answer_ms: u32,
         port: P,
-    ) -> Result<LiveBus<'n, P>, AllocError>
-        ensures { IfOk result (λ b. b ≡ []) }
+    ) -> Result<LiveBus<'n, B, P>, AllocError>
+        ensures { IfOk result (λ b. (b.log ≡ []) × (b.heard ≡ 0)) }
     {
         let log = Vec::with_capacity(alloc, MOST_EVENTS)?;
         Ok(LiveBus {
             network,
             answer_ms,
             port,
+            last: 0,
             log,
+            of: PhantomData,
         })
     }
 
     /// Empties the log.
     pub fn forget(&mut self)
-        ensures { self.new ≡ [] }
+        ensures log { self.new.log ≡ [] }
+        ensures heard { self.new.heard ≡ self.old.heard }
     {
         self.log.clear();
     }
 
     /// What went over the port, the first event first.
     pub fn log(&self) -> &[Event]
-        ensures { result.now ≡ self.now }
+        ensures { result.now ≡ self.now.log }
     {
         self.log.as_slice()
     }
@@ -230,15 +259,17 @@ impl<'n, P: Port> LiveBus<'n, P> {
     }
 }
 
-impl<'n, P: Port> Bus for LiveBus<'n, P> {
+impl<'n, B: BusName, P: Port<B>> Bus for LiveBus<'n, B, P> {
     ghost use Rattle.cm_live.specs.Talk.{IsAsked};
+    ghost use Rattle.cm_live.specs.Receiving.{IsGiven};
 
-    ghost step = { λ b id q x c. IsAsked id q x b c };
+    ghost step = { λ b id q x c. IsAsked id q x b.log c.log
+        × IsGiven B.format B.text id q x b.heard c.heard };
 
     fn ask(&mut self, id: NodeId, question: Question) -> Answer {
         make_room(&mut self.log);
         let wait = self.wait_of(id, &question);
         self.port.listen(id, &question, wait);
-        ask_by(&mut self.port, &mut self.log, id, &question)
+        ask_by(&mut self.port, &mut self.last, &mut self.log, id, &question)
     }
 }

@@ -1,12 +1,16 @@
 use std::marker::Brand;
 
-/// The name of a bus that a live run is on, by which types know in what lines its frames are written, and what the
-/// writer of its NMT messages had before.
+/// The name of a bus that a live run is on, by which types know what the reader of received frames holds, in what
+/// lines frames stand, and what the writer of NMT messages had before. A frame that was received on another bus has
+/// another type.
 pub trait BusName {
     ghost use Rattle.std.specs.Prelude.{ℕ, List, Option};
     ghost use Rattle.cm_live.specs.declared.outlet.Format.{Format as Lines};
 
-    /// In what lines frames are written.
+    /// What the reader of received frames holds, where that is known.
+    ghost text: { Option (List ℕ) };
+
+    /// In what lines frames stand there, and are written.
     ghost format: { Lines };
 
     /// What the writer of messages had.
@@ -16,6 +20,8 @@ pub trait BusName {
 impl BusName for Brand {
     ghost use Rattle.std.specs.Prelude.{None};
     ghost use Rattle.cm_live.specs.declared.outlet.Format.TheVariants.{CanUtils};
+
+    ghost text = { None };
 
     ghost format = { CanUtils };
 

@@ -21,6 +21,7 @@ mod listening;
 mod live_port;
 mod outlet;
 mod port;
+mod received;
 mod receiving;
 mod wire;
 
@@ -36,5 +37,6 @@ pub use listening::Listening;
 pub use live_port::LivePort;
 pub use outlet::{Format, Outlet};
 pub use port::Port;
-pub use receiving::Routes;
+pub use received::Received;
+pub use receiving::{FrameCutter, Routes, Source};
 pub use wire::LiveWire;

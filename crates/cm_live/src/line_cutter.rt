@@ -1,3 +1,7 @@
+ghost use Rattle.std.specs.Prelude.{◌≡◌, ◌++◌, ◌∷◌, ◌⊎◌, [], ℕ, List, IsTrue, IsFalse};
+ghost use Rattle.cm_live.specs.Places.{EndsLine, EndsWithLine};
+ghost use Rattle.cm_live.specs.Cutting.{IsCutting};
+
 use arrayvec::ArrayVec;
 
 /// Cuts bytes into lines, each of up to 128 bytes. A longer line is passed over, in the memory of a short one.
@@ -10,7 +14,9 @@ pub struct LineCutter {
 
 impl LineCutter {
     /// Nothing was read yet.
-    pub fn new() -> LineCutter {
+    pub fn new() -> LineCutter
+        ensures { IsCutting [] result }
+    {
         LineCutter {
             line: ArrayVec::new(),
             is_too_long: false,
@@ -18,26 +24,61 @@ impl LineCutter {
         }
     }
 
-    /// Takes the next byte. The answer is whether it ends a line that is read with [`LineCutter::line`]: a line
-    /// feed and a carriage return do.
-    pub fn take(&mut self, byte: u8) -> bool {
+    /// Begins the next line, where one was ended.
+    fn begin(&mut self)
+        ensures going { IsFalse self.new.is_ended }
+        ensures line { (taken : List ℕ) → IsCutting taken self.old → IsFalse self.new.is_too_long
+            → EndsWithLine taken self.new.line.items }
+    {
         if self.is_ended {
             self.line.clear();
             self.is_too_long = false;
             self.is_ended = false;
         }
+    }
+
+    /// Ends the line. The answer is whether it is to be read.
+    fn end(&mut self) -> bool
+        ensures ended { IsTrue self.new.is_ended }
+        ensures line { self.new.line.items ≡ self.old.line.items }
+        ensures whole { IsTrue result → IsFalse self.old.is_too_long }
+    {
+        self.is_ended = true;
+        !self.is_too_long && !self.line.is_empty()
+    }
+
+    /// Takes a byte of the line.
+    fn add(&mut self, byte: u8)
+        ensures going { self.new.is_ended ≡ self.old.is_ended }
+        ensures added { IsFalse self.new.is_too_long → IsFalse self.old.is_too_long
+            × (self.new.line.items ≡ self.old.line.items ++ byte ∷ []) }
+    {
+        match self.line.try_push(byte) {
+            Ok(()) => {}
+            Err(_) => self.is_too_long = true,
+        }
+    }
+
+    /// Takes the next byte. The answer is whether it ends a line that is read with [`LineCutter::line`]: a line
+    /// feed and a carriage return do.
+    pub fn take(&mut self, byte: u8) -> bool
+        ensures cutting { (taken : List ℕ) → IsCutting taken self.old
+            → IsCutting (taken ++ byte ∷ []) self.new }
+        ensures line { IsTrue result → (taken : List ℕ) → IsCutting taken self.old
+            → EndsLine byte × EndsWithLine taken self.new.line.items }
+    {
+        self.begin();
         if byte == b'\n' || byte == b'\r' {
-            self.is_ended = true;
-            return !self.is_too_long && !self.line.is_empty();
+            return self.end();
         }
-        if self.line.try_push(byte).is_err() {
-            self.is_too_long = true;
-        }
+        self.add(byte);
         false
     }
 
     /// The line that the last byte ended, without that byte.
-    pub fn line(&self) -> &[u8] {
+    pub fn line(&self) -> &[u8]
+        ensures { result.now ≡ self.now.line.items }
+    {
         self.line.as_slice()
     }
 }

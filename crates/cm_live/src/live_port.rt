@@ -1,6 +1,8 @@
+use crate::bus_name::BusName;
 use crate::listening::Listening;
 use crate::outlet::Outlet;
 use crate::port::Port;
+use crate::received::Received;
 use cm_boot::Question;
 use cm_can::CanFrame;
 use cm_nmt::NodeId;
@@ -16,11 +18,11 @@ const ENDLESS: u64 = u64::MAX;
 /// The port of one worker: its frames are written through an outlet, and those for it come from the reader of the
 /// bus.
 #[derive(Drop)]
-pub struct LivePort<R: Wait + Clock + Drop, W: Write + Drop> {
+pub struct LivePort<R: Wait + Clock + Drop, B: BusName, W: Write + Drop> {
     pub rt: R,
     /// Counted from 0.
     pub worker: usize,
-    pub heard: Receiver<CanFrame>,
+    pub heard: Receiver<Received<B>>,
     pub listening: Arc<Listening>,
     pub outlet: Outlet<W>,
     /// Set once a write has failed.
@@ -29,7 +31,7 @@ pub struct LivePort<R: Wait + Clock + Drop, W: Write + Drop> {
     pub deadline: Option<Instant>,
 }
 
-impl<R: Wait + Clock + Drop, W: Write + Drop> Port for LivePort<R, W> {
+impl<R: Wait + Clock + Drop, B: BusName, W: Write + Drop> Port<B> for LivePort<R, B, W> {
     fn listen(&mut self, node: NodeId, question: &Question, wait_ms: u32) {
         self.listening.listen(self.worker, node, question);
         for _forgotten in 0..ENDLESS {
@@ -51,7 +53,7 @@ impl<R: Wait + Clock + Drop, W: Write + Drop> Port for LivePort<R, W> {
         }
     }
 
-    fn hear(&mut self) -> Option<CanFrame> {
+    fn hear(&mut self) -> Option<Received<B>> {
         let deadline = self.deadline?;
         self.heard.recv_deadline(&self.rt, deadline).ok()
     }

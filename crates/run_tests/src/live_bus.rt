@@ -4,30 +4,44 @@
 use crate::support::{node, sure};
 use cm_boot::{Answer, Bus, Question};
 use cm_can::{CanFrame, read_frame};
-use cm_live::{Event, Heartbeats, LineCutter, LiveBus, Port};
+use cm_live::{Event, Format, FrameCutter, Heartbeats, LineCutter, LiveBus, Port, Received};
 use cm_netlist::Network;
 use cm_nmt::{NmtState, NodeId, Startup, Write};
-use std::alloc::Global;
+use std::alloc::{AllocError, Global};
+use std::collections::VecDeque;
+use std::marker::Brand;
 use std::process::Abort;
 use std::test::Fail;
 
 /// A port that hears these frames, in order, once a question is asked.
 #[derive(Drop)]
 struct Written {
-    frames: Vec<CanFrame>,
-    next: usize,
+    frames: VecDeque<Received<Brand>>,
 }
 
-impl Port for Written {
+impl Port<Brand> for Written {
     fn listen(&mut self, _node: NodeId, _question: &Question, _wait_ms: u32) {}
 
     fn send(&mut self, _frame: &CanFrame) {}
 
-    fn hear(&mut self) -> Option<CanFrame> {
-        let frame = self.frames.get(self.next).copied();
-        self.next = self.next.saturating_add(1);
-        frame
+    fn hear(&mut self) -> Option<Received<Brand>> {
+        self.frames.pop_front()
     }
+}
+
+/// The frames of these lines of can-utils, on a bus of which nothing is known.
+fn frames_in(alloc: Global, text: &[u8]) -> Result<VecDeque<Received<Brand>>, AllocError> {
+    let mut frames = VecDeque::new(alloc);
+    if text.len() > 65_536 {
+        return Err(AllocError);
+    }
+    let mut cutter = FrameCutter::<Brand>::new(Format::CanUtils);
+    for byte in text {
+        if let Some(received) = cutter.take(*byte) {
+            frames.push_back(received)?;
+        }
+    }
+    Ok(frames)
 }
 
 fn frame_of(rt: &impl Abort, text: &str) -> CanFrame {
@@ -45,12 +59,15 @@ fn is_answered<R: Abort>(
     before: usize,
     last: Event,
 ) -> Result<(), Fail> {
-    let mut frames = Vec::new(alloc);
+    let mut lines: Vec<u8> = Vec::new(alloc);
     for text in heard {
-        frames.push(frame_of(rt, text))?;
+        lines.extend_from_slice(b"(0.0) can0 ")?;
+        lines.extend_from_slice(text.as_bytes())?;
+        lines.push(b'\n')?;
     }
+    let frames = frames_in(alloc, lines.as_slice())?;
     let network = Network::new(alloc, node(rt, 1), Startup(1), 0);
-    let port = Written { frames, next: 0 };
+    let port = Written { frames };
     let mut bus = LiveBus::new(alloc, &network, 300, port)?;
     let given = bus.ask(node(rt, 2), question);
     sure(rt, given == answer);

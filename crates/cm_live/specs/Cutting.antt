@@ -1,0 +1,18 @@
+-- How the bytes that are received are cut into lines (a step of the code).
+use Rattle.std.specs.Prelude.{◌≡◌, ◌<◌, ◌+◌, ℕ, List, Option, Some, IsTrue, IsFalse, length, slice_get, drop}
+use Rattle.cm_live.specs.Places.{IsLineStart, EndsWithLine}
+use Rattle.cm_live.specs.declared.line_cutter.LineCutter.{LineCutter}
+
+-- how a cutter is that has taken these bytes: the last of them ended a line; or it is in a line, which it has whole unless it is
+-- too long
+pub record IsCutting (taken : List ℕ) (c : LineCutter) : Type 0 where
+  pub ended : IsTrue c.is_ended → IsLineStart taken
+  pub going : IsFalse c.is_ended → IsFalse c.is_too_long → EndsWithLine taken c.line.items
+
+-- in a text that may be unknown these bytes come next, at this place
+abbrev pub ComeNext : Option (List ℕ) → ℕ → List ℕ → Type 0
+ComeNext text place bytes = (t : List ℕ) → text ≡ Some t → (k : ℕ) (b : ℕ) → slice_get bytes k ≡ Some b → slice_get t (place + k) ≡ Some b
+
+-- of a text that may be unknown, this is left to be read behind the place
+abbrev pub IsLeft : Option (List ℕ) → ℕ → Option (List ℕ) → Type 0
+IsLeft text place left = (t : List ℕ) → text ≡ Some t → left ≡ Some (drop place t)
