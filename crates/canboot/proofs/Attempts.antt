@@ -16,10 +16,53 @@ use Rattle.cm_run.specs.declared.outcome.Attempt.{Attempt}
 use Rattle.cm_run.specs.declared.outcome.Attempt.TheVariants as attempt
 use Rattle.cm_run.specs.declared.outcome.Outcome.{Outcome}
 use Rattle.cm_run.specs.Rounds.{Boots, Fail, Gives, HasRound, calls_in}
+use Rattle.std.specs.Prelude.{Option}
+use Rattle.cm_boot.specs.Talk.{Talks}
+use Rattle.cm_live.specs.Receiving.{BusView, IsGiven}
+use Rattle.cm_live.specs.declared.outlet.Format.{Format}
 use Rattle.cm_live.specs.Talk.{IsAsked}
 use Rattle.cm_live.specs.Hearing.{AreHeard, HasHeardCalls, IsHeardCall}
 use Rattle.cm_live.specs.declared.event.Event.{Event}
 use Rattle.cm_live.proofs.Talking.{has_talked, heard_before}
+
+-- steps of one kind of bus, seen as steps of another
+module _ {B C : Type 0} (f : B → C) (s : B → ℕ → Question → Answer → B → Type 0) (t : C → ℕ → Question → Answer → C → Type 0) (k : (b : B) (n : ℕ) (q : Question) (x : Answer) (c : B) → s b n q x c → t (f b) n q x (f c)) (net : Network) (i : ℕ) where
+  seen_talks : (list : List (Question × Answer)) (b c : B) → Talks (λ b q x c. s b i q x c) b list c → Talks (λ b q x c. t b i q x c) (f b) list (f c)
+  seen_talks [] b c h = ap f h
+  seen_talks (qx ∷ rest) b c h = (f h.0, h.1, k b i qx.0 h.1 h.0 h.2, h.3, seen_talks rest h.0 c h.4)
+
+  seen_boots : (b : B) (a : Answers) (c : B) → Boots s net i b a c → Boots t net i (f b) a (f c)
+  seen_boots b a c h = record { lawful = h.lawful; talk = seen_talks (asked (entry net i) a) b c h.talk; few = h.few }
+
+  seen_gives : (b : B) (a : Attempt) (c : B) → Gives s net i b a c → Gives t net i (f b) a (f c)
+  seen_gives b (attempt.NotBegun e) c h = ap f h
+  seen_gives b (attempt.Refused r n) c h = (h.0, ap f h.1)
+  seen_gives b (attempt.NotReported r n a e) c h = (h.0, seen_boots b a c h.1)
+  seen_gives b (attempt.Ended r n a w l) c h = (h.0, seen_boots b a c h.1, h.2)
+
+  seen_fail : (b : B) (ts : List Attempt) (list : List Made) (c : B) → Fail s net i b ts list c → Fail t net i (f b) ts list (f c)
+  seen_fail b [] list c h = (h.0, ap f h.1)
+  seen_fail b (a ∷ ts) list c h = (h.0, f h.1, seen_gives b a h.1 h.2, h.3, seen_fail h.1 ts h.0 c h.4, h.5)
+
+  pub seen_round : (m : ℕ) (o : Outcome) (old new : List Made) (b c : B) → HasRound s net i m o old new b c → HasRound t net i m o old new (f b) (f c)
+  seen_round m o old new b c h = record {
+    added = h.added;
+    grown = h.grown;
+    round = record {
+      node = h.round.node;
+      failed = h.round.failed;
+      final = h.round.final;
+      before = h.round.before;
+      between = f h.round.between;
+      fails = seen_fail b h.round.failed h.round.before h.round.between h.round.fails;
+      gives = seen_gives h.round.between h.round.final c h.round.gives;
+      calls = h.round.calls;
+      attempts = h.round.attempts;
+      most = h.round.most;
+      stops = h.round.stops;
+      ends = h.round.ends;
+    };
+  }
 
 module _ (net : Network) (i : ℕ) where
   abbrev Step : List Event → ℕ → Question → Answer → List Event → Type 0
@@ -89,3 +132,19 @@ module _ (net : Network) (i : ℕ) where
         grown = r.grown;
         heard = subst (λ (l : List Made). AllHeard l log) (sym r.round.calls) (All-append (Heard log) r.round.before (calls_in i r.round.final) (subst (λ (l : List Event). AllHeard r.round.before l) (sym g.grown) (all_before r.round.before r.round.between g.more f.heard)) g.heard);
       }
+
+  -- of the bus of a worker, of which the log is a part
+  pub log_heard : (format : Format) (text : Option (List ℕ)) (m : ℕ) (o : Outcome) (old new : List Made) (at : ℕ) (c : BusView) → m ≤ 10
+      → HasRound (λ b n q x d. IsAsked n q x b.log d.log × IsGiven format text n q x b.heard d.heard) net i m o old new (record { log = []; heard = at }) c → HasHeardCalls net i old new c.log
+  log_heard format text m o old new at c few r =
+      round_heard m o old new c.log few
+      (seen_round (λ (b : BusView). b.log) (λ b n q x d. IsAsked n q x b.log d.log × IsGiven format text n q x b.heard d.heard) Step (λ b n q x d h. h.0) net i m o old new (record { log = []; heard = at }) c r)
+
+  -- a bus whose log was emptied
+  pub from_forgotten : (format : Format) (text : Option (List ℕ)) (m : ℕ) (o : Outcome) (old new : List Made) (b : BusView) (at : ℕ) (c : BusView)
+      → HasRound (λ b n q x d. IsAsked n q x b.log d.log × IsGiven format text n q x b.heard d.heard) net i m o old new b c → b.log ≡ [] → b.heard ≡ at
+      → HasRound (λ b n q x d. IsAsked n q x b.log d.log × IsGiven format text n q x b.heard d.heard) net i m o old new (record { log = []; heard = at }) c
+  from_forgotten format text m o old new b at c r log heard =
+      let P : List Event → Type 0 = λ (l : List Event). HasRound (λ b n q x d. IsAsked n q x b.log d.log × IsGiven format text n q x b.heard d.heard) net i m o old new (record { log = l; heard = b.heard }) c in
+      let Q : ℕ → Type 0 = λ (n : ℕ). HasRound (λ b n q x d. IsAsked n q x b.log d.log × IsGiven format text n q x b.heard d.heard) net i m o old new (record { log = []; heard = n }) c in
+      subst Q heard (subst P log r)

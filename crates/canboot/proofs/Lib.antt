@@ -1,3 +1,7 @@
 pub mod Seats
+pub mod ReceivedRounds
+pub mod Starts
+pub mod Lists
+pub mod Fresh
 pub mod Attempts
 pub mod Begins

@@ -1,4 +1,6 @@
 pub mod Run
 pub mod Causes
 pub mod Program
+pub mod Typing
+pub mod Heard
 pub use Rattle.canboot_check.specs.Check

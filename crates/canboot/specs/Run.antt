@@ -15,6 +15,8 @@ use Rattle.cm_live.specs.declared.outlet.Outlet.{Outlet}
 use Rattle.cm_format.specs.Unended.{unended_text}
 pub use Rattle.cm_recording.specs.Recorded.{AppendsIfThere, IsWritten}
 use Rattle.canboot_check.specs.Check.{IsFaultyText, IsList}
+use Rattle.canboot.specs.Heard.{IsAllHeard}
+use Rattle.cm_live.specs.declared.outlet.Format.{Format}
 
 -- the input was read to its end and is the network list of this journal, which is of version 2, whose entries are legal,
 -- and which has a seat for each of this many workers and one more, and this limit
@@ -30,6 +32,15 @@ pub record IsRun (workers limit : ℕ) (input input' : Option (List ℕ)) (j : J
 pub record Runs (workers limit : ℕ) (input input' output output' : Option (List ℕ)) (journal journal' : Option (Option (List ℕ))) : Type 0 where
   pub of : JournalView
   pub run : IsRun workers limit input input' of
+  pub reported : Appends output output' (report_text of.network of.entries)
+  pub recorded : AppendsIfThere journal journal' (text of)
+
+-- the same, and each report in the history whose orders start a slave has the slave's identity among the frames that stand in
+-- what the reader of received frames held
+pub record RunsHeard (format : Format) (received : Option (List ℕ)) (workers limit : ℕ) (input input' output output' : Option (List ℕ)) (journal journal' : Option (Option (List ℕ))) : Type 0 where
+  pub of : JournalView
+  pub run : IsRun workers limit input input' of
+  pub heard : IsAllHeard format received of.network of.entries
   pub reported : Appends output output' (report_text of.network of.entries)
   pub recorded : AppendsIfThere journal journal' (text of)
 
@@ -67,27 +78,30 @@ abbrev pub KeptOrBegins : {A : Type 0} → Network → ℕ → ℕ → (A → Op
 KeptOrBegins net seats limit contents journal journal' failed Sends =
     ((journal' ≡ journal) × Sends []) ⊎ Begins net seats limit (contents journal) (contents journal') (failed journal') Sends
 
-module _ {W : Type 0} (contents : W → Option (List ℕ)) where
+module _ {W : Type 0} (contents : W → Option (List ℕ)) (format : Format) (received : Option (List ℕ)) where
   -- a live run that ended in order: of the legal history of a journal of the list just the report was written, to the
   -- journal's output, if there is one, just the text of that journal, and to the outlet of messages, of which no write has
-  -- failed, just the lines of that history's frames
+  -- failed, just the lines of that history's frames; and in it each report whose orders start a slave has the slave's identity
+  -- among the frames that stand in what the reader of received frames held
   pub record RunsLive (workers limit : ℕ) (input input' output output' : Option (List ℕ)) (journal journal' : Option (Option (List ℕ)))
       (messages messages' : Option (Outlet W)) : Type 0 where
     pub of : JournalView
     pub run : IsRun workers limit input input' of
+    pub heard : IsAllHeard format received of.network of.entries
     pub reported : Appends output output' (report_text of.network of.entries)
     pub recorded : AppendsIfThere journal journal' (text of)
     pub sent : SendsMessages contents (frames_in (listing of.network) of.entries) messages messages'
     pub well : IsWell messages'
 
   -- of the journal of a live run, whose history is legal, the beginning of the text was written to its output, if there is one,
-  -- and all of it where no write has failed, but for its last line where the history isn't closed; and just the frames of
-  -- this history were sent
+  -- and all of it where no write has failed, but for its last line where the history isn't closed; where it is, the identity
+  -- of each slave that a report started was heard so; and just the frames of this history were sent
   pub record RecordsLive (workers limit : ℕ) (input input' : Option (List ℕ)) (journal journal' : Option (Option (List ℕ))) (failed : Bool)
       (messages messages' : Option (Outlet W)) : Type 0 where
     pub of : JournalView
     pub run : IsRun workers limit input input' of
-    pub recorded : IsWritten journal journal' failed (text of) ⊎ IsWritten journal journal' failed (unended_text of)
+    pub recorded : (IsWritten journal journal' failed (text of) × IsAllHeard format received of.network of.entries)
+        ⊎ IsWritten journal journal' failed (unended_text of)
     pub sent : SendsMessages contents (frames_in (listing of.network) of.entries) messages messages'
 
   -- no message was sent

@@ -2,11 +2,15 @@
 //! and `canboot check`, `canboot run` and `canboot replay` over any reader and writer. The program is `canboot_main`.
 #![tactic(auto)]
 
+mod booth;
 mod bus_files;
+mod closing;
+mod heard_seat;
 mod journal_file;
 mod live;
 mod live_inputs;
 mod live_recorded;
+mod live_register;
 mod live_team;
 mod live_threads;
 mod opening;

@@ -3,8 +3,7 @@ ghost use Rattle.std.specs.Prelude.{◌≡◌, Err};
 
 use crate::live::Setting;
 use crate::opening::NoHistory;
-use cm_can::CanFrame;
-use cm_live::{Format, Happening, LineCutter, Routes};
+use cm_live::{BusName, Happening, LineCutter, Received, Routes, Source};
 use crossbeam_channel::Sender;
 use std::alloc::{AllocError, Global};
 use std::io::Read;
@@ -16,10 +15,10 @@ use std::time::Clock;
 const ENDLESS: u64 = u64::MAX;
 
 /// Whom each frame is given to that is received.
-pub(crate) fn make_routes<'a, 'n, R>(
+pub(crate) fn make_routes<'a, 'n, R, B: BusName>(
     setting: &Setting<'a, 'n, R>,
-    workers: Vec<Sender<CanFrame>>,
-) -> Result<Routes, AllocError> {
+    workers: Vec<Sender<Received<B>>>,
+) -> Result<Routes<B>, AllocError> {
     let mut listed = Vec::new(setting.alloc);
     for id in setting.network.listed_ids().as_slice() {
         listed.push(*id)?;
@@ -69,14 +68,15 @@ fn tell_line<R: Wait>(rt: &R, alloc: Global, line: &[u8], happenings: &Sender<Ha
 /// ends.
 pub(crate) fn start_receiving<
     R: Wait + Threads + Clock + Clone + Send + Drop + 'static,
+    B: BusName + Send + Sync + 'static,
     I: Read + Send + Drop + 'static,
->(rt: &R, routes: Routes, mut received: I, format: Format) -> Result<(), NoHistory>
+>(rt: &R, routes: Routes<B>, source: Source<B, I>) -> Result<(), NoHistory>
     ensures { result ≡ Err NoHistory.NotMaster → ⊥ }
 {
     let Ok(theirs) = rt.clone() else {
         return Err(NoHistory::OutOfMemory);
     };
-    match thread::spawn(rt, move || routes.receive(&theirs, &mut received, format)) {
+    match thread::spawn(rt, move || source.receive(&theirs, &routes)) {
         Ok(_receiver) => Ok(()),
         Err(_) => Err(NoHistory::NoWorker),
     }

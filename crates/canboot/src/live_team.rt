@@ -1,12 +1,12 @@
 //! The workers of a live run: who they are, their threads, and what each does.
-ghost use Rattle.std.specs.Prelude.{◌≤◌};
+ghost use Rattle.std.specs.Prelude.{◌≡◌, ◌≤◌, [], All};
 
+use crate::booth::Booth;
+use crate::heard_seat::HeardSeat;
 use crate::live::Setting;
-use crate::rounds::live_round;
-use cm_can::CanFrame;
-use cm_live::{Announcing, Happening, LiveBus, LivePort, Outlet, Tried};
-use cm_nmt::{NodeId, Wire};
-use cm_register::{Recorder, Register, RunName, Seat};
+use cm_live::{Announcing, BusName, Happening, LiveBus, LivePort, Outlet, Received, Tried};
+use cm_nmt::NodeId;
+use cm_register::{RunName, Seat, SharedManager};
 use cm_run::{Last, Outcome};
 use crossbeam_channel::{Receiver, Sender};
 use std::alloc::{AllocError, Global};
@@ -18,9 +18,8 @@ use std::time::Clock;
 
 /// What one worker is made of.
 #[derive(Drop)]
-pub(crate) struct Worker<'n, R: Wait + Clock + Drop, K: RunName, W: Write + Drop> {
-    seat: Seat<K>,
-    bus: LiveBus<'n, LivePort<R, W>>,
+pub(crate) struct Worker<'n, R: Wait + Clock + Drop, K: RunName, B: BusName, W: Write + Drop> {
+    booth: Booth<'n, K, B, LivePort<R, B, W>>,
     jobs: Receiver<NodeId>,
     happenings: Sender<Happening>,
     attempts: u8,
@@ -36,11 +35,17 @@ fn tried_of(outcome: &Outcome) -> Tried {
 }
 
 /// Boots the slaves that are handed to a worker, and tells what came of each, until the run is over.
-fn boot_handed<'n, R: Wait + Clock + Drop, K: RunName, N: Wire, W: Write + Drop, J: Recorder>(
+fn boot_handed<
+    'n,
+    R: Wait + Clock + Drop,
+    K: RunName,
+    B: BusName,
+    M: SharedManager<K, R>,
+    W: Write + Drop,
+>(
     rt: &R,
-    announcing: &Announcing<'_, Register<'n, N, K, J>>,
-    seat: &mut Seat<K>,
-    bus: &mut LiveBus<'n, LivePort<R, W>>,
+    announcing: &Announcing<'_, M>,
+    booth: &mut Booth<'n, K, B, LivePort<R, B, W>>,
     jobs: &Receiver<NodeId>,
     happenings: &Sender<Happening>,
     attempts: u8,
@@ -55,21 +60,22 @@ fn boot_handed<'n, R: Wait + Clock + Drop, K: RunName, N: Wire, W: Write + Drop,
         if over.load(Ordering::SeqCst) {
             return;
         }
-        let outcome = live_round(rt, announcing, seat, bus, id, attempts);
+        let outcome = booth.boot(rt, announcing, id, attempts);
         let _ = happenings.send(rt, Happening::Ended(id, tried_of(&outcome)));
     }
 }
 
 /// What one worker does: rounds of the slaves that it is handed, until the run is over. Its seat comes back.
-fn work<'n, R: Wait + Clock + Drop, K: RunName, N: Wire, W: Write + Drop, J: Recorder>(
-    rt: &R,
-    register: &Register<'n, N, K, J>,
-    worker: Worker<'n, R, K, W>,
-    over: &AtomicBool,
-) -> Seat<K> {
+fn work<
+    'n,
+    R: Wait + Clock + Drop,
+    K: RunName,
+    B: BusName,
+    M: SharedManager<K, R>,
+    W: Write + Drop,
+>(rt: &R, register: &M, worker: Worker<'n, R, K, B, W>, over: &AtomicBool) -> HeardSeat<K, B> {
     let Worker {
-        mut seat,
-        mut bus,
+        mut booth,
         jobs,
         happenings,
         attempts,
@@ -79,33 +85,32 @@ fn work<'n, R: Wait + Clock + Drop, K: RunName, N: Wire, W: Write + Drop, J: Rec
         boot_handed(
             rt,
             &announcing,
-            &mut seat,
-            &mut bus,
+            &mut booth,
             &jobs,
             &happenings,
             attempts.clamp(1, 10),
             over,
         );
     }
-    seat
+    booth.into_seat()
 }
 
 /// The workers of a live run, with the ends of their channels.
 #[derive(Drop)]
-pub(crate) struct Staff<'n, R: Wait + Clock + Drop, K: RunName, W: Write + Drop> {
-    pub(crate) workers: Vec<Worker<'n, R, K, W>>,
+pub(crate) struct Staff<'n, R: Wait + Clock + Drop, K: RunName, B: BusName, W: Write + Drop> {
+    pub(crate) workers: Vec<Worker<'n, R, K, B, W>>,
     /// By which each worker gets frames.
-    pub(crate) hears: Vec<Sender<CanFrame>>,
+    pub(crate) hears: Vec<Sender<Received<B>>>,
     /// By which each worker gets slaves.
     pub(crate) jobs: Vec<Sender<NodeId>>,
 }
 
 /// The bus of one worker, and by what it gets frames.
-fn make_bus<'a, 'n, R: Wait + Clock + Clone + Drop, W: Write + Drop>(
+fn make_bus<'a, 'n, R: Wait + Clock + Clone + Drop, B: BusName, W: Write + Drop>(
     setting: &Setting<'a, 'n, R>,
     worker: usize,
     writer: W,
-) -> Result<(LiveBus<'n, LivePort<R, W>>, Sender<CanFrame>), AllocError> {
+) -> Result<(LiveBus<'n, B, LivePort<R, B, W>>, Sender<Received<B>>), AllocError> {
     let (hears, heard) = crossbeam_channel::unbounded(setting.alloc)?;
     let port = LivePort {
         rt: setting.rt.clone()?,
@@ -122,18 +127,19 @@ fn make_bus<'a, 'n, R: Wait + Clock + Clone + Drop, W: Write + Drop>(
 }
 
 /// A worker with this seat, and the ends of its channels by which it gets frames and slaves.
-fn make_worker<'a, 'n, R: Wait + Clock + Clone + Drop, K: RunName, W: Write + Drop>(
+fn make_worker<'a, 'n, R: Wait + Clock + Clone + Drop, K: RunName, B: BusName, W: Write + Drop>(
     setting: &Setting<'a, 'n, R>,
     place: usize,
     seat: Seat<K>,
     writer: W,
-) -> Result<(Worker<'n, R, K, W>, Sender<CanFrame>, Sender<NodeId>), AllocError> {
+) -> Result<(Worker<'n, R, K, B, W>, Sender<Received<B>>, Sender<NodeId>), AllocError>
+    requires { seat.list ≡ [] }
+{
     let happenings = setting.happenings.clone()?;
     let (tells, jobs) = crossbeam_channel::unbounded(setting.alloc)?;
     let (bus, hears) = make_bus(setting, place, writer)?;
     let worker = Worker {
-        seat,
-        bus,
+        booth: Booth::new(seat, bus),
         jobs,
         happenings,
         attempts: setting.options.attempts,
@@ -141,9 +147,9 @@ fn make_worker<'a, 'n, R: Wait + Clock + Clone + Drop, K: RunName, W: Write + Dr
     Ok((worker, hears, tells))
 }
 
-impl<'n, R: Wait + Clock + Drop, K: RunName, W: Write + Drop> Staff<'n, R, K, W> {
+impl<'n, R: Wait + Clock + Drop, K: RunName, B: BusName, W: Write + Drop> Staff<'n, R, K, B, W> {
     /// Nobody.
-    fn new(alloc: Global) -> Staff<'n, R, K, W> {
+    fn new(alloc: Global) -> Staff<'n, R, K, B, W> {
         Staff {
             workers: Vec::new(alloc),
             hears: Vec::new(alloc),
@@ -154,8 +160,8 @@ impl<'n, R: Wait + Clock + Drop, K: RunName, W: Write + Drop> Staff<'n, R, K, W>
     /// Takes in a worker, with the ends of its channels.
     fn take(
         &mut self,
-        worker: Worker<'n, R, K, W>,
-        hears: Sender<CanFrame>,
+        worker: Worker<'n, R, K, B, W>,
+        hears: Sender<Received<B>>,
         jobs: Sender<NodeId>,
     ) -> Result<(), AllocError> {
         self.workers.push(worker)?;
@@ -166,13 +172,26 @@ impl<'n, R: Wait + Clock + Drop, K: RunName, W: Write + Drop> Staff<'n, R, K, W>
 }
 
 /// The workers, one for each seat, and the channels to them.
-pub(crate) fn make_staff<'a, 'n, R: Wait + Clock + Clone + Drop, K: RunName, W: Write + Drop>(
+pub(crate) fn make_staff<
+    'a,
+    'n,
+    R: Wait + Clock + Clone + Drop,
+    K: RunName,
+    B: BusName,
+    W: Write + Drop,
+>(
     setting: &Setting<'a, 'n, R>,
-    seats: Vec<Seat<K>>,
+    mut seats: Vec<Seat<K>>,
     written: Vec<W>,
-) -> Result<Staff<'n, R, K, W>, AllocError> {
+) -> Result<Staff<'n, R, K, B, W>, AllocError>
+    requires { All (λ s. s.list ≡ []) seats.items }
+{
     let mut staff = Staff::new(setting.alloc);
-    for (seat, writer) in seats.into_iter().zip(written.into_iter()) {
+    for writer in written {
+        if seats.is_empty() {
+            break;
+        }
+        let seat = seats.remove(0);
         let place = staff.workers.len();
         let (worker, hears, jobs) = make_worker(setting, place, seat, writer)?;
         staff.take(worker, hears, jobs)?;
@@ -187,16 +206,16 @@ fn start_worker<
     V,
     R: Wait + Threads + Clock + Send + Sync + Drop + 's,
     K: RunName + Send + Sync + 's,
-    N: Wire + Send + 's,
+    B: BusName + Send + Sync + 's,
+    M: SharedManager<K, R> + Sync + 's,
     W: Write + Drop + Send + 's,
-    J: Recorder + Send + 's,
 >(
     scope: &Scope<'s, V>,
     rt: &'s R,
-    register: &'s Register<'n, N, K, J>,
-    worker: Worker<'n, R, K, W>,
+    register: &'s M,
+    worker: Worker<'n, R, K, B, W>,
     over: &'s AtomicBool,
-    handles: &mut Vec<JoinHandle<Seat<K>>>,
+    handles: &mut Vec<JoinHandle<HeardSeat<K, B>>>,
 ) -> bool {
     match scope.spawn(move || work(rt, register, worker, over)) {
         Ok(handle) => handles.push(handle).is_ok(),
@@ -211,16 +230,16 @@ pub(crate) fn start_workers<
     V,
     R: Wait + Threads + Clock + Send + Sync + Drop + 's,
     K: RunName + Send + Sync + 's,
-    N: Wire + Send + 's,
+    B: BusName + Send + Sync + 's,
+    M: SharedManager<K, R> + Sync + 's,
     W: Write + Drop + Send + 's,
-    J: Recorder + Send + 's,
 >(
     scope: &Scope<'s, V>,
     rt: &'s R,
-    register: &'s Register<'n, N, K, J>,
-    workers: Vec<Worker<'n, R, K, W>>,
+    register: &'s M,
+    workers: Vec<Worker<'n, R, K, B, W>>,
     over: &'s AtomicBool,
-    handles: &mut Vec<JoinHandle<Seat<K>>>,
+    handles: &mut Vec<JoinHandle<HeardSeat<K, B>>>,
 ) -> bool {
     for worker in workers {
         if !start_worker(scope, rt, register, worker, over, handles) {
@@ -231,10 +250,10 @@ pub(crate) fn start_workers<
 }
 
 /// Waits for the workers, and puts their seats behind the others.
-pub(crate) fn join_workers<R: Threads, K: RunName>(
+pub(crate) fn join_workers<R: Threads, K: RunName, B: BusName>(
     rt: &R,
-    handles: Vec<JoinHandle<Seat<K>>>,
-    seats: &mut Vec<Seat<K>>,
+    handles: Vec<JoinHandle<HeardSeat<K, B>>>,
+    seats: &mut Vec<HeardSeat<K, B>>,
 ) -> Result<(), AllocError> {
     for handle in handles {
         seats.push(handle.join(rt))?;

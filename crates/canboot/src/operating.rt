@@ -1,12 +1,16 @@
 //! What the watcher of a live run says of its workers' calls, and what it does for its operator.
 
+ghost use Rattle.cm_live.specs.Receiving.{IsNoReport};
+
+use crate::live_register::LiveRegister;
 use crate::progress::{Judged, Replied, node_of};
 use crate::typing::{Command, TYPING, read_line};
 use crate::watching::{Ending, Watcher};
 use cm_history::{Call, Reply};
 use cm_journal::report_of;
-use cm_nmt::{Answers, NmtState, NodeId, Status, Wire};
-use cm_register::{Receipt, Recorder, RunName};
+use cm_live::BusName;
+use cm_nmt::{Answers, NmtState, NodeId, Status};
+use cm_register::{Receipt, RunName};
 use std::alloc::Global;
 use std::io::Write;
 use std::sync::Wait;
@@ -15,7 +19,13 @@ use std::time::Clock;
 /// The target of a request to all nodes.
 const ALL: u8 = 128;
 
-impl<'w, 'n, R: Wait + Clock + Drop, K: RunName, W: Wire, J: Recorder> Watcher<'w, 'n, R, K, W, J> {
+impl<'w, R: Wait + Clock + Drop, K: RunName, B: BusName, M: LiveRegister<K, R>> Watcher<
+    'w,
+    R,
+    K,
+    B,
+    M,
+> {
     /// What a worker's call came to, in words.
     pub(crate) fn tell_call<E: Write>(&mut self, err: &mut E, call: &Call, reply: Reply) {
         let Some(id) = node_of(call) else {
@@ -80,7 +90,9 @@ impl<'w, 'n, R: Wait + Clock + Drop, K: RunName, W: Wire, J: Recorder> Watcher<'
         err: &mut E,
         call: &Call,
         now: u64,
-    ) -> Result<Receipt, Ending> {
+    ) -> Result<Receipt, Ending>
+        requires { IsNoReport call.now }
+    {
         if let Call::Lost(id) = call {
             return self.lose(err, *id, now);
         }
@@ -88,7 +100,9 @@ impl<'w, 'n, R: Wait + Clock + Drop, K: RunName, W: Wire, J: Recorder> Watcher<'
     }
 
     /// Makes a call of the operator, says what it was answered, and takes in what it does to the slaves.
-    fn make<E: Write>(&mut self, err: &mut E, call: &Call, now: u64) -> Result<(), Ending> {
+    fn make<E: Write>(&mut self, err: &mut E, call: &Call, now: u64) -> Result<(), Ending>
+        requires { IsNoReport call.now }
+    {
         let receipt = self.call_typed(err, call, now)?;
         let position = receipt.position;
         let replied = Replied(receipt.reply);

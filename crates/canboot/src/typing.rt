@@ -1,5 +1,8 @@
 //! What an operator types.
 
+ghost use Rattle.std.specs.Prelude.{IfOk};
+ghost use Rattle.canboot.specs.Typing.{IsOfOperator};
+
 use cm_history::Call;
 use cm_nmt::NodeId;
 
@@ -68,7 +71,9 @@ fn node_of(field: &str) -> Result<NodeId, BadLine> {
 }
 
 /// The call of a word and the fields behind it.
-fn call_of(word: &str, first: Option<&str>, second: Option<&str>) -> Result<Command, BadLine> {
+fn call_of(word: &str, first: Option<&str>, second: Option<&str>) -> Result<Command, BadLine>
+    ensures { IfOk result IsOfOperator }
+{
     let call = match (word, first, second) {
         ("request", Some(target), Some(value)) => {
             Call::Request(number_of(target)?, number_of(value)?)
@@ -85,7 +90,9 @@ fn call_of(word: &str, first: Option<&str>, second: Option<&str>) -> Result<Comm
 }
 
 /// What a line asks for: a word and its fields, with one space between two of them.
-pub(crate) fn read_line(line: &str) -> Result<Command, BadLine> {
+pub(crate) fn read_line(line: &str) -> Result<Command, BadLine>
+    ensures { IfOk result IsOfOperator }
+{
     match line {
         "status" => return Ok(Command::Status),
         "help" => return Ok(Command::Help),

@@ -1,11 +1,15 @@
 //! How a live run watches its network: which calls it makes when what happens, and what it says of it.
 
+ghost use Rattle.cm_live.specs.Receiving.{IsNoReport};
+
+use crate::heard_seat::HeardSeat;
+use crate::live_register::LiveRegister;
 use crate::progress::signal_words;
 use crate::watched::{Watched, slaves_of};
 use cm_history::{Call, Phase, Reply};
-use cm_live::{Happening, Heartbeats, Tried};
-use cm_nmt::{NodeId, Wire};
-use cm_register::{CallFault, Receipt, Recorder, Register, RunName, Seat};
+use cm_live::{BusName, Happening, Heartbeats, Tried};
+use cm_nmt::NodeId;
+use cm_register::{CallFault, Receipt, RunName};
 use crossbeam_channel::{Receiver, Sender};
 use std::alloc::{AllocError, Global};
 use std::io::Write;
@@ -31,10 +35,16 @@ pub(crate) enum Ending {
 
 /// What a live run is watched with.
 #[derive(Drop)]
-pub(crate) struct Watcher<'w, 'n, R: Wait + Clock + Drop, K: RunName, W: Wire, J: Recorder> {
+pub(crate) struct Watcher<
+    'w,
+    R: Wait + Clock + Drop,
+    K: RunName,
+    B: BusName,
+    M: LiveRegister<K, R>,
+> {
     pub(crate) rt: &'w R,
-    pub(crate) register: &'w Register<'n, W, K, J>,
-    pub(crate) operator: Seat<K>,
+    pub(crate) register: &'w M,
+    pub(crate) operator: HeardSeat<K, B>,
     slaves: Vec<Watched>,
     /// The slaves that each worker is to boot.
     jobs: Vec<Sender<NodeId>>,
@@ -58,10 +68,16 @@ pub(crate) struct Watcher<'w, 'n, R: Wait + Clock + Drop, K: RunName, W: Wire, J
 
 /// What a watcher is made of.
 #[derive(Drop)]
-pub(crate) struct Watching<'w, 'n, R: Wait + Clock + Drop, K: RunName, W: Wire, J: Recorder> {
+pub(crate) struct Watching<
+    'w,
+    R: Wait + Clock + Drop,
+    K: RunName,
+    B: BusName,
+    M: LiveRegister<K, R>,
+> {
     pub(crate) rt: &'w R,
-    pub(crate) register: &'w Register<'n, W, K, J>,
-    pub(crate) operator: Seat<K>,
+    pub(crate) register: &'w M,
+    pub(crate) operator: HeardSeat<K, B>,
     pub(crate) jobs: Vec<Sender<NodeId>>,
     pub(crate) heartbeats: Arc<Heartbeats>,
     pub(crate) broken: Arc<AtomicBool>,
@@ -71,12 +87,18 @@ pub(crate) struct Watching<'w, 'n, R: Wait + Clock + Drop, K: RunName, W: Wire, 
     pub(crate) rest_ms: u64,
 }
 
-impl<'w, 'n, R: Wait + Clock + Drop, K: RunName, W: Wire, J: Recorder> Watcher<'w, 'n, R, K, W, J> {
+impl<'w, R: Wait + Clock + Drop, K: RunName, B: BusName, M: LiveRegister<K, R>> Watcher<
+    'w,
+    R,
+    K,
+    B,
+    M,
+> {
     /// A watcher of the register's network, which was started.
     pub(crate) fn new(
         alloc: Global,
-        of: Watching<'w, 'n, R, K, W, J>,
-    ) -> Result<Watcher<'w, 'n, R, K, W, J>, AllocError> {
+        of: Watching<'w, R, K, B, M>,
+    ) -> Result<Watcher<'w, R, K, B, M>, AllocError> {
         let slaves = slaves_of(alloc, of.register.network(), of.settle_ms)?;
         let Watching {
             rt,
@@ -111,7 +133,7 @@ impl<'w, 'n, R: Wait + Clock + Drop, K: RunName, W: Wire, J: Recorder> Watcher<'
     }
 
     /// The operator's seat, once nothing is watched any more.
-    pub(crate) fn into_operator(self) -> Seat<K> {
+    pub(crate) fn into_operator(self) -> HeardSeat<K, B> {
         let Watcher { operator, .. } = self;
         operator
     }
@@ -124,8 +146,10 @@ impl<'w, 'n, R: Wait + Clock + Drop, K: RunName, W: Wire, J: Recorder> Watcher<'
         }
     }
 
-    pub(crate) fn call(&mut self, call: Call) -> Result<Receipt, Ending> {
-        match self.register.call(self.rt, &mut self.operator, call) {
+    pub(crate) fn call(&mut self, call: Call) -> Result<Receipt, Ending>
+        requires { IsNoReport call }
+    {
+        match self.operator.call(self.rt, self.register, call) {
             Ok(receipt) => Ok(receipt),
             Err(fault) => Err(Ending::NotCalled(fault)),
         }

@@ -1,7 +1,7 @@
 use std::marker::Brand;
 
 /// The name of a bus that a live run is on, by which types know what the reader of received frames holds, in what
-/// lines frames stand, and what the writer of NMT messages had before. A frame that was received on another bus has
+/// lines frames stand there, in what lines NMT messages are written, and what their writer had before. A frame that was received on another bus has
 /// another type.
 pub trait BusName {
     ghost use Rattle.std.specs.Prelude.{ℕ, List, Option};
@@ -10,8 +10,11 @@ pub trait BusName {
     /// What the reader of received frames holds, where that is known.
     ghost text: { Option (List ℕ) };
 
-    /// In what lines frames stand there, and are written.
+    /// In what lines frames stand there.
     ghost format: { Lines };
+
+    /// In what lines NMT messages are written.
+    ghost message_format: { Lines };
 
     /// What the writer of messages had.
     ghost before: { Option (List ℕ) };
@@ -24,6 +27,8 @@ impl BusName for Brand {
     ghost text = { None };
 
     ghost format = { CanUtils };
+
+    ghost message_format = { CanUtils };
 
     ghost before = { None };
 }

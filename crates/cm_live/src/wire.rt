@@ -38,8 +38,8 @@ impl<W: Write + Drop, B: BusName> Model for LiveWire<W, B> {
       contents = W.contents w.outlet.writer;
     } };
 
-    ghost invariant = { λ w. (w.outlet.format ≡ B.format) × (w.outlet.failed ≡ false
-        → WritesMessages B.format w.kept.sent B.before (W.contents w.outlet.writer)) };
+    ghost invariant = { λ w. (w.outlet.format ≡ B.message_format) × (w.outlet.failed ≡ false
+        → WritesMessages B.message_format w.kept.sent B.before (W.contents w.outlet.writer)) };
 }
 
 impl<W: Write + Drop, B: BusName> LiveWire<W, B> {
@@ -47,7 +47,7 @@ impl<W: Write + Drop, B: BusName> LiveWire<W, B> {
     /// conditions say that `B` knows in what lines frames are written, and what the writer has.
     pub fn new(kept: SimWire, outlet: Outlet<W>, broken: Arc<AtomicBool>) -> LiveWire<W, B>
         requires unused { kept.sent ≡ [] }
-        requires format { outlet.format ≡ B.format }
+        requires format { outlet.format ≡ B.message_format }
         requires before { W.contents outlet.writer ≡ B.before }
         ensures { (result.sent ≡ []) × (result.room ≡ kept.room) }
     {
@@ -68,9 +68,9 @@ impl<W: Write + Drop, B: BusName> LiveWire<W, B> {
 
     /// The outlet: where no write has failed, its writer got just the lines of the frames sent.
     pub fn into_outlet(self) -> Outlet<W>
-        ensures format { result.format ≡ B.format }
+        ensures format { result.format ≡ B.message_format }
         ensures written { result.failed ≡ false
-            → WritesMessages B.format self.sent B.before (W.contents result.writer) }
+            → WritesMessages B.message_format self.sent B.before (W.contents result.writer) }
     {
         self.outlet
     }
@@ -101,7 +101,7 @@ impl<W: Write + Drop, B: BusName> Wire for LiveWire<W, B> {
         ensures sent { self.new.sent ≡ self.old.sent ++ frame ∷ [] }
         ensures room { self.old.room ≤ self.new.room + 1 }
         ensures written { self.new.failed ≡ false
-            → WritesMessage B.format frame self.old.contents self.new.contents }
+            → WritesMessage B.message_format frame self.old.contents self.new.contents }
         ensures stopped { self.old.failed ≡ true
             → (self.new.failed ≡ true) × (self.new.contents ≡ self.old.contents) }
     {

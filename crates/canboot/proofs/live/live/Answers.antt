@@ -3,8 +3,10 @@ use Rattle.std.specs.Prelude.{IfOk}
 use Rattle.std.proofs.lemmas.Result.{IfErr-weaker, IfOk-weaker}
 use Rattle.cm_netlist.specs.Network.{Network, listing}
 use Rattle.cm_history.specs.OrderFrames.{frames_in}
+use Rattle.cm_live.specs.declared.outlet.Format.{Format}
 use Rattle.cm_live.specs.Outlets.{HasSent}
 use Rattle.cm_recording.specs.Recorded.{contents_of}
+use Rattle.canboot.specs.Heard.{IsAllHeard}
 use Rattle.canboot.specs.declared.live.LiveOptions.{LiveOptions}
 use Rattle.canboot.proofs.Begins.{kept_or_begins, same_journal, sends, written_alike}
 use Rattle.canboot.proofs.live.live.Goals as goal
@@ -21,6 +23,16 @@ returns-clause-written g c =
     (λ l h. written_alike _ _ _ _ _ _
     (same_journal c.in_ok-setting.setting.network.now _ (c.in_ok-setting.setting.options.workers + 1) _ 1048576 _ _ _ n (ap (λ (k : ℕ). k + 1) o) refl refl) refl h)
     c.live_on.ensures.written
+
+pub returns-clause-heard : goal.returns-clause-heard
+returns-clause-heard g c =
+    let n : c.in_ok-setting.setting.network.now ≡ c.args.network.now = of_value c.set_up.result _ _ c.in_ok-setting.ensures.value c.set_up.ensures.network in
+    let f : c.in_ok-setting.setting.options.format ≡ c.args.options.format = ap (λ (p : LiveOptions). p.format) (of_value c.set_up.result _ _ c.in_ok-setting.ensures.value c.set_up.ensures.options) in
+    let text = g.I.Read.remaining c.args.ends.received in
+    IfOk-weaker c.live_on.result _ _
+    (λ l h. subst (λ (lines : Format). IsAllHeard lines text c.args.network.now l.recorded.history.items) f
+    (subst (λ (net : Network). IsAllHeard c.in_ok-setting.setting.options.format text net l.recorded.history.items) n h))
+    c.live_on.ensures.heard
 
 pub returns-clause-sent : goal.returns-clause-sent
 returns-clause-sent g c =

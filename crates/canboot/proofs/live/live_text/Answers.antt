@@ -6,6 +6,7 @@ use Rattle.cm_format.specs.Text.{journal_of}
 use Rattle.cm_format.specs.declared.version.Version.TheVariants.{Two}
 use Rattle.cm_live.specs.Outlets.{SendsMessages}
 use Rattle.cm_recording.specs.Recorded.{contents_of}
+use Rattle.canboot.specs.Heard.{IsAllHeard}
 use Rattle.canboot.proofs.Begins.{failed_after, same_journal, written_alike}
 use Rattle.canboot.proofs.live.live_text.Goals as goal
 
@@ -23,6 +24,8 @@ returns-in-Ok-live-clause-done g c = λ e.
     record {
       of = journal_of Two c.in-Ok.network (c.from-seats.result + 1) 1048576 c.as_slice-entries.result.now;
       run = record { list = c.in-Ok.ensures.list; version = refl; journal = c.is_journal.ensures; seats = ap (λ (n : ℕ). n + 1) c.from-seats.ensures; most = refl };
+      heard = subst (λ (h : List Entry). IsAllHeard c.args.options.format (g.I.Read.remaining c.args.ends.received) c.in-Ok.network h)
+          (sym c.as_slice-entries.ensures.value) c.in-Ok-live.ensures.heard;
       reported = of_ok c.put_report-report.result _ c.put_report-report.ensures (s.report (c.ending_status.ensures.done e));
       recorded = w.all (sym c.has_failed.ensures ∙ s.journal (c.ending_status.ensures.done e));
       sent = subst (λ (h : List Entry). SendsMessages g.W.Write.contents (frames_in (listing c.in-Ok.network) h) c.args.messages.now c.live.new.messages)
@@ -34,16 +37,20 @@ pub returns-in-Ok-live-clause-failed : goal.returns-in-Ok-live-clause-failed
 returns-in-Ok-live-clause-failed g c = λ e. inr (record {
   of = journal_of Two c.in-Ok.network (c.from-seats.result + 1) 1048576 c.as_slice-entries.result.now;
   run = record { list = c.in-Ok.ensures.list; version = refl; journal = c.is_journal.ensures; seats = ap (λ (n : ℕ). n + 1) c.from-seats.ensures; most = refl };
-  recorded = inl (written_alike _ _ _ _ _ _
-      (same_journal c.in-Ok.network c.in-Ok.network (c.args.options.workers + 1) (c.from-seats.result + 1) 1048576 1048576 c.in-Ok-live.field-0.recorded.history.items c.as_slice-entries.result.now
-      refl (sym (ap (λ (n : ℕ). n + 1) c.from-seats.ensures)) refl (sym c.as_slice-entries.ensures.value)) refl c.in-Ok-live.ensures.written);
+  recorded = inl (
+    written_alike _ _ _ _ _ _
+        (same_journal c.in-Ok.network c.in-Ok.network (c.args.options.workers + 1) (c.from-seats.result + 1) 1048576 1048576 c.in-Ok-live.field-0.recorded.history.items c.as_slice-entries.result.now
+        refl (sym (ap (λ (n : ℕ). n + 1) c.from-seats.ensures)) refl (sym c.as_slice-entries.ensures.value)) refl c.in-Ok-live.ensures.written,
+    subst (λ (h : List Entry). IsAllHeard c.args.options.format (g.I.Read.remaining c.args.ends.received) c.in-Ok.network h)
+        (sym c.as_slice-entries.ensures.value) c.in-Ok-live.ensures.heard,
+  );
   sent = subst (λ (h : List Entry). SendsMessages g.W.Write.contents (frames_in (listing c.in-Ok.network) h) c.args.messages.now c.live.new.messages)
       (sym c.as_slice-entries.ensures.value) c.in-Ok-live.ensures.sent;
 })
 
 pub returns-clause-failed : goal.returns-clause-failed
 returns-clause-failed g c = λ e.
-    failed_after g.W.Write.contents c.args.options.workers 1048576 _ _ _ c.in-Ok.network (contents_of g.J.Write.contents) c.args.journal.now c.live.new.journal (λ j. j.failed)
+    failed_after g.W.Write.contents c.args.options.format (g.I.Read.remaining c.args.ends.received) c.args.options.workers 1048576 _ _ _ c.in-Ok.network (contents_of g.J.Write.contents) c.args.journal.now c.live.new.journal (λ j. j.failed)
     c.args.messages.now c.live.new.messages c.in-Ok.ensures.list c.in-Err-live.ensures.begun
 
 pub returns-clause-refused : goal.returns-clause-refused

@@ -1,11 +1,13 @@
-use Rattle.std.proofs.Common.{List, subst}
-use Rattle.cm_run.specs.Rounds.{HasRound}
-use Rattle.cm_live.specs.Talk.{IsAsked}
-use Rattle.cm_live.specs.declared.event.Event.{Event}
-use Rattle.canboot.proofs.Attempts.{round_heard}
+use Rattle.canboot.proofs.Attempts.{from_forgotten, log_heard}
 use Rattle.canboot.proofs.rounds.live_round.Goals as goal
+
+pub returns-clause-round : goal.returns-clause-round
+returns-clause-round g c =
+    from_forgotten g.K.HistoryName.net c.args.id g.B.BusName.format g.B.BusName.text c.args.most c.round.result c.args.seat.now.list c.round.new.seat.list c.forget.new.self c.args.bus.now.heard c.round.new.bus c.round.ensures.round
+    c.forget.ensures.log c.forget.ensures.heard
 
 pub returns-clause-heard : goal.returns-clause-heard
 returns-clause-heard g c =
-    round_heard g.K.HistoryName.net c.args.id c.args.most c.round.result c.args.seat.now.list c.round.new.seat.list c.round.new.bus c.requires.1
-    (subst (λ (l : List Event). HasRound (λ b n q x d. IsAsked n q x b d) g.K.HistoryName.net c.args.id c.args.most c.round.result c.args.seat.now.list c.round.new.seat.list l c.round.new.bus) c.forget.ensures c.round.ensures.round)
+    log_heard g.K.HistoryName.net c.args.id g.B.BusName.format g.B.BusName.text c.args.most c.round.result c.args.seat.now.list c.round.new.seat.list c.args.bus.now.heard c.round.new.bus c.requires.1
+    (from_forgotten g.K.HistoryName.net c.args.id g.B.BusName.format g.B.BusName.text c.args.most c.round.result c.args.seat.now.list c.round.new.seat.list c.forget.new.self c.args.bus.now.heard c.round.new.bus c.round.ensures.round
+    c.forget.ensures.log c.forget.ensures.heard)

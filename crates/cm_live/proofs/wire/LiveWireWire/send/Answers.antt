@@ -12,13 +12,13 @@ invariant_of-self g c = (
       let o = c.self.inside.outlet in let contents = g.W.Write.contents c.send.new.self.writer in
       let line = subst (λ (f : Format). WritesMessage f c.args.frame (g.W.Write.contents o.writer) contents) c.self.invariant.0
       (c.message_of.result, c.message_of.ensures, c.send.ensures.written h) in
-      subst (λ (s : List Frame). WritesMessages g.B.BusName.format s g.B.BusName.before contents) (sym c.send-2.ensures.sent)
-      (message_more g.B.BusName.format c.self.inside.kept.sent c.args.frame g.B.BusName.before (g.W.Write.contents o.writer) contents
+      subst (λ (s : List Frame). WritesMessages g.B.BusName.message_format s g.B.BusName.before contents) (sym c.send-2.ensures.sent)
+      (message_more g.B.BusName.message_format c.self.inside.kept.sent c.args.frame g.B.BusName.before (g.W.Write.contents o.writer) contents
       (c.self.invariant.1 (was_well o c.send.new.self c.send.ensures.stopped h)) line),
 )
 
 pub returns-clause-written : goal.returns-clause-written
-returns-clause-written g c = λ h. subst (λ (v : LiveWireView). WritesMessage g.B.BusName.format c.args.frame v.contents (g.W.Write.contents c.send.new.self.writer))
+returns-clause-written g c = λ h. subst (λ (v : LiveWireView). WritesMessage g.B.BusName.message_format c.args.frame v.contents (g.W.Write.contents c.send.new.self.writer))
     c.self.view_is
     (subst (λ (f : Format). WritesMessage f c.args.frame (g.W.Write.contents c.self.inside.outlet.writer) (g.W.Write.contents c.send.new.self.writer)) c.self.invariant.0
     (c.message_of.result, c.message_of.ensures, c.send.ensures.written h))
