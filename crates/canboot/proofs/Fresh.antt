@@ -1,5 +1,5 @@
 -- The seats of a register that was opened have made no call.
-use Rattle.std.proofs.Common.{◌≡◌, ◌<◌, ℕ, zero, suc, ◌+◌, List, [], ◌∷◌, ◌++◌, length, take, drop, refl, ap, ◌∙◌}
+use Rattle.std.proofs.Common.{◌≡◌, ◌<◌, ℕ, zero, suc, ◌+◌, List, [], length, take, drop, refl, ap, ◌∙◌}
 use Rattle.std.specs.Prelude.{All, remove, slice_index_or}
 use Rattle.std.proofs.lemmas.List.Elements.{All-append, All-drop, All-nil, All-push, All-same, All-take}
 use Rattle.cm_seat.specs.Opening.{fresh_seat, fresh_seats}

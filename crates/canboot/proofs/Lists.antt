@@ -3,10 +3,9 @@ use Rattle.std.proofs.Common.{◌≡◌, ◌≢◌, ℕ, ◌+◌, ◌≤◌, ◌
 use Rattle.std.specs.Prelude.{if◌then◌else◌, All, Option}
 use Rattle.std.proofs.lemmas.Bool.{cases_eq, eq-eqb, ne_eqb}
 use Rattle.std.proofs.lemmas.List.Elements.{All-head, All-tail}
-use Rattle.cm_history.specs.Laws.{AtEach, StartsRightly}
 use Rattle.cm_history.specs.declared.call.Entry.{Entry}
 use Rattle.cm_live.specs.declared.outlet.Format.{Format}
-use Rattle.cm_netlist.specs.Network.{Network, listing}
+use Rattle.cm_netlist.specs.Network.{Network}
 use Rattle.cm_seat.specs.Handing.{AreApart, HaveTheirCalls, count_calls}
 use Rattle.cm_seat.specs.SeatCalls.{calls_behind, calls_of, made}
 use Rattle.cm_seat.specs.Views.{SeatView}

@@ -5,7 +5,6 @@ use Rattle.cm_seat.specs.Views.{SeatView}
 use Rattle.cm_seat.specs.declared.made.Receipt.{Receipt}
 use Rattle.cm_seat.specs.declared.fault.CallFault.{CallFault}
 use Rattle.cm_netlist.specs.Network.{Network, entry}
-use Rattle.cm_nmt.specs.declared.answers.Answers.{Answers}
 use Rattle.cm_boot.specs.Questions.{counted, fits}
 use Rattle.cm_boot.specs.Talk.{Talks, asked}
 use Rattle.cm_boot.specs.declared.question.Question.{Question}

@@ -1,5 +1,5 @@
 -- Where the calls of each seat were received, and each start is right, the identity of each slave that is started was heard.
-use Rattle.std.proofs.Common.{◌≡◌, ◌≢◌, ◌≤◌, ◌==◌, ◌+◌, ◌⊎◌, ℕ, Bool, true, false, List, [], ◌∷◌, ◌++◌, refl, sym, ap, subst, ◌∙◌, inl, inr, arith}
+use Rattle.std.proofs.Common.{◌≡◌, ◌≤◌, ◌==◌, ◌+◌, ◌⊎◌, ℕ, Bool, true, false, List, [], ◌∷◌, ◌++◌, refl, subst, inl, inr, arith}
 use Rattle.std.specs.Prelude.{if◌then◌else◌, MatchBool, Option, Some, None, option_map, reverse}
 use Rattle.std.specs.List.{flat_map}
 use Rattle.std.proofs.lemmas.List.{reverse-append}
@@ -9,7 +9,7 @@ use Rattle.cm_nmt.specs.declared.answers.Answers.{Answers}
 use Rattle.cm_nmt.specs.declared.got.Got.{Got}
 use Rattle.cm_nmt.specs.declared.got.Got.TheVariants as got
 use Rattle.cm_nmt.specs.declared.terms.Terms.{Terms}
-use Rattle.cm_netlist.specs.Network.{Network, entry, listing, terms, terms_of}
+use Rattle.cm_netlist.specs.Network.{Network, entry, listing, terms_of}
 use Rattle.cm_netlist.specs.declared.entry.SlaveEntry.{SlaveEntry}
 use Rattle.cm_boot.specs.Questions.{device_type, vendor_id, product_code, revision_number, serial_number, question}
 use Rattle.cm_boot.specs.Talk.{asked, asked_of, each_of, given}
@@ -17,13 +17,12 @@ use Rattle.cm_boot.specs.declared.question.Question.{Question}
 use Rattle.cm_boot.specs.declared.question.Answer.{Answer}
 use Rattle.cm_boot.specs.declared.question.Answer.TheVariants as answer
 use Rattle.cm_history.specs.Laws.{AtEach, HasIdentity, IsAsExpected, StartsRightly}
-use Rattle.cm_history.specs.declared.call.Call.TheVariants as call
 use Rattle.cm_history.specs.declared.call.Call.{Call}
 use Rattle.cm_history.specs.declared.call.Entry.{Entry}
 use Rattle.cm_live.specs.declared.outlet.Format.{Format}
 use Rattle.cm_seat.specs.SeatCalls.{calls_behind, made}
 use Rattle.cm_seat.specs.declared.made.Made.{Made}
-use Rattle.cm_live.specs.Receiving.{AreGiven, AreHeardStarts, AreReceived, HasHeardIdentity, IsGiven, IsHeard, IsHeardAs, IsHeardStart, IsReceivedCall}
+use Rattle.cm_live.specs.Receiving.{AreGiven, AreHeardStarts, AreReceived, HasHeardIdentity, IsHeard, IsHeardAs, IsHeardStart, IsReceivedCall}
 use Rattle.canboot.proofs.ReceivedRounds.{call_on, given_on}
 
 module _ (format : Format) (text : Option (List ℕ)) where

@@ -1,8 +1,37 @@
-//! What a live run knows of its slaves.
+//! What a live run is watched with, and what it knows of its slaves.
 
+use crate::heard_seat::HeardSeat;
+use crate::live_register::LiveRegister;
+use cm_live::{BusName, Heartbeats};
 use cm_netlist::Network;
 use cm_nmt::NodeId;
+use cm_register::RunName;
+use crossbeam_channel::Sender;
 use std::alloc::{AllocError, Global};
+use std::sync::atomic::AtomicBool;
+use std::sync::{Arc, Wait};
+use std::time::{Clock, Instant};
+
+/// What a watcher is made of.
+#[derive(Drop)]
+pub(crate) struct Watching<
+    'w,
+    R: Wait + Clock + Drop,
+    K: RunName,
+    B: BusName,
+    M: LiveRegister<K, R>,
+> {
+    pub(crate) rt: &'w R,
+    pub(crate) register: &'w M,
+    pub(crate) operator: HeardSeat<K, B>,
+    pub(crate) jobs: Vec<Sender<NodeId>>,
+    pub(crate) heartbeats: Arc<Heartbeats>,
+    pub(crate) broken: Arc<AtomicBool>,
+    pub(crate) unrecorded: Arc<AtomicBool>,
+    pub(crate) start: Instant,
+    pub(crate) settle_ms: u64,
+    pub(crate) rest_ms: u64,
+}
 
 /// What is known of a listed slave, beside what the manager knows.
 #[derive(Clone, Copy, Debug)]

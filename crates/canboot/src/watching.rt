@@ -5,7 +5,7 @@ ghost use Rattle.cm_live.specs.Receiving.{IsNoReport};
 use crate::heard_seat::HeardSeat;
 use crate::live_register::LiveRegister;
 use crate::progress::signal_words;
-use crate::watched::{Watched, slaves_of};
+use crate::watched::{Watched, Watching, slaves_of};
 use cm_history::{Call, Phase, Reply};
 use cm_live::{BusName, Happening, Heartbeats, Tried};
 use cm_nmt::NodeId;
@@ -64,27 +64,6 @@ pub(crate) struct Watcher<
     is_end_told: bool,
     /// It was told that a line of the journal couldn't be written.
     is_unrecorded_told: bool,
-}
-
-/// What a watcher is made of.
-#[derive(Drop)]
-pub(crate) struct Watching<
-    'w,
-    R: Wait + Clock + Drop,
-    K: RunName,
-    B: BusName,
-    M: LiveRegister<K, R>,
-> {
-    pub(crate) rt: &'w R,
-    pub(crate) register: &'w M,
-    pub(crate) operator: HeardSeat<K, B>,
-    pub(crate) jobs: Vec<Sender<NodeId>>,
-    pub(crate) heartbeats: Arc<Heartbeats>,
-    pub(crate) broken: Arc<AtomicBool>,
-    pub(crate) unrecorded: Arc<AtomicBool>,
-    pub(crate) start: Instant,
-    pub(crate) settle_ms: u64,
-    pub(crate) rest_ms: u64,
 }
 
 impl<'w, R: Wait + Clock + Drop, K: RunName, B: BusName, M: LiveRegister<K, R>> Watcher<

@@ -1,5 +1,5 @@
 -- How an answer was given.
-use Rattle.std.proofs.Common.{◌≡◌, ◌<◌, ◌≤◌, ℕ, List, refl, sym, subst, inl, inr, arith}
+use Rattle.std.proofs.Common.{◌≡◌, ◌<◌, ◌≤◌, ℕ, List, refl, subst, inl, inr, arith}
 use Rattle.std.specs.Prelude.{Option}
 use Rattle.cm_boot.specs.declared.question.Question.{Question}
 use Rattle.cm_boot.specs.declared.question.Answer.{Answer}
@@ -7,7 +7,7 @@ use Rattle.cm_boot.specs.declared.question.Answer.TheVariants as answer
 use Rattle.cm_can.specs.declared.frame.CanFrame.{CanFrame}
 use Rattle.cm_can.specs.Questions.{IsAnswer}
 use Rattle.cm_live.specs.declared.outlet.Format.{Format}
-use Rattle.cm_live.specs.Receiving.{IsGiven, IsHeard}
+use Rattle.cm_live.specs.Receiving.{IsGiven}
 use Rattle.cm_live.specs.Places.{Placed, StandsIn}
 
 module _ (format : Format) (text : Option (List ℕ)) (node : ℕ) (q : Question) where

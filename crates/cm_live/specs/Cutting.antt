@@ -1,5 +1,5 @@
--- How the bytes that are received are cut into lines (a step of the code).
-use Rattle.std.specs.Prelude.{◌≡◌, ◌<◌, ◌+◌, ℕ, List, Option, Some, IsTrue, IsFalse, length, slice_get, drop}
+-- How the bytes that are received are cut into lines (own).
+use Rattle.std.specs.Prelude.{◌≡◌, ◌+◌, ℕ, List, Option, Some, IsTrue, IsFalse, slice_get, drop}
 use Rattle.cm_live.specs.Places.{IsLineStart, EndsWithLine}
 use Rattle.cm_live.specs.declared.line_cutter.LineCutter.{LineCutter}
 

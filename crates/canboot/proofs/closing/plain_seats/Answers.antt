@@ -1,6 +1,4 @@
-use Rattle.std.specs.Prelude.{All}
 use Rattle.std.proofs.lemmas.List.Elements.{All-push, All-same}
-use Rattle.cm_seat.specs.Views.{SeatView}
 use Rattle.canboot.proofs.Lists.{IsOfReceived}
 use Rattle.canboot.proofs.closing.plain_seats.Goals as goal
 

@@ -1,4 +1,4 @@
-use Rattle.std.proofs.Common.{◌≤◌, ◌∙◌, refl, sym, subst, arith}
+use Rattle.std.proofs.Common.{◌∙◌, refl, sym, subst, arith}
 use Rattle.std.specs.Prelude.{Option}
 use Rattle.cm_live.specs.Receiving.{IsGiven}
 use Rattle.cm_live.specs.Talk.{answer_in}

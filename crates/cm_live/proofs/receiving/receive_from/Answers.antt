@@ -1,4 +1,4 @@
-use Rattle.std.proofs.Common.{ℕ, ◌+◌, ◌≤◌, ◌*◌, length, take, sym, subst, arith, length-take}
+use Rattle.std.proofs.Common.{ℕ, take, sym, subst, arith, length-take}
 use Rattle.cm_live.specs.Cutting.{IsLeft}
 use Rattle.cm_live.proofs.Lines.{come_read, left_read}
 use Rattle.cm_live.proofs.receiving.receive_from.Goals as goal

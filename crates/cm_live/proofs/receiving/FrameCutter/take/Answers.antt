@@ -1,4 +1,4 @@
-use Rattle.std.proofs.Common.{◌≡◌, ℕ, List, [], ◌∷◌, take, refl, sym, subst}
+use Rattle.std.proofs.Common.{ℕ, List, [], ◌∷◌, take, refl, sym, subst}
 use Rattle.cm_live.specs.declared.outlet.Format.{Format}
 use Rattle.cm_live.specs.Places.{IsFrameLine}
 use Rattle.cm_live.specs.Cutting.{ComeNext}
