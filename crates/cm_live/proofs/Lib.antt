@@ -1,6 +1,5 @@
 mod Messages
 pub mod Talking
 pub mod Waiting
-pub mod HeardIdentity
 pub mod Lines
 pub mod Giving

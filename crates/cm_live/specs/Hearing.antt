@@ -1,14 +1,10 @@
 -- What was heard of a slave over a live bus (own, over CiA 301 and CiA 302-2, boot slave).
-use Rattle.std.specs.Prelude.{◌≡◌, ◌≢◌, ℕ, List, [], ◌∷◌, ◌++◌, All, Some}
-use Rattle.cm_nmt.specs.declared.terms.Terms.{Terms}
-use Rattle.cm_nmt.specs.declared.answers.Answers.{Answers}
-use Rattle.cm_netlist.specs.Network.{Network, entry, terms}
-use Rattle.cm_boot.specs.Questions.{device_type, vendor_id, product_code, revision_number, serial_number}
+use Rattle.std.specs.Prelude.{◌≡◌, ◌≢◌, ℕ, List, [], ◌∷◌, ◌++◌, All}
+use Rattle.cm_netlist.specs.Network.{Network, entry}
 use Rattle.cm_boot.specs.Talk.{asked}
 use Rattle.cm_boot.specs.declared.question.Question.{Question}
 use Rattle.cm_boot.specs.declared.question.Answer.{Answer}
 use Rattle.cm_boot.specs.declared.question.Answer.TheVariants as answer
-use Rattle.cm_history.specs.Laws.{HasIdentity}
 use Rattle.cm_history.specs.declared.call.Call.{Call}
 use Rattle.cm_history.specs.declared.call.Call.TheVariants as call
 use Rattle.cm_seat.specs.declared.made.Made.{Made}
@@ -39,20 +35,3 @@ pub record HasHeardCalls (net : Network) (i : ℕ) (old new : List Made) (log : 
   pub added : List Made
   pub grown : new ≡ old ++ added
   pub heard : All (λ (m : Made). IsHeardCall net i m.call log) added
-
--- the value that is expected, where one is, was heard as the answer to this question
-abbrev pub IsHeardAs : ℕ → Question → ℕ → List Event → Type 0
-IsHeardAs node q expected log = expected ≢ 0 → WasAsked node q (answer.Value expected) log
-
--- each set value of 1F84h to 1F88h was heard from the node: it was the content of an SDO frame that came behind the request
--- for it
-pub record HasHeardIdentity (t : Terms) (node : ℕ) (log : List Event) : Type 0 where
-  pub device_type : IsHeardAs node device_type t.device_type log
-  pub vendor : IsHeardAs node vendor_id t.vendor log
-  pub product : IsHeardAs node product_code t.product log
-  pub revision : IsHeardAs node revision_number t.revision log
-  pub serial : IsHeardAs node serial_number t.serial log
-
--- where the answers of a boot were heard, and they are those that are expected, the identity was heard
-abbrev pub IsHeardIdentity : Network → ℕ → Terms → Answers → List Event → Type 0
-IsHeardIdentity net node t a log = terms net node ≡ Some t → HasIdentity t a → AreHeard node (asked (entry net node) a) log → HasHeardIdentity t node log
