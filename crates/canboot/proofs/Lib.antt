@@ -1,6 +1,7 @@
 pub mod Seats
 pub mod ReceivedRounds
 pub mod Starts
+pub mod StartsOfAll
 pub mod Lists
 pub mod Fresh
 pub mod Attempts

@@ -1,11 +1,12 @@
 -- Where a register is closed, the calls of any number in its history are the list of one of its seats, or there are none.
 use Rattle.std.proofs.Common.{◌≡◌, ◌≢◌, ℕ, ◌+◌, ◌≤◌, ◌==◌, ◌⊎◌, Bool, true, false, List, [], ◌∷◌, length, refl, sym, ap, subst, ◌∙◌, arith, inl, inr}
-use Rattle.std.specs.Prelude.{if◌then◌else◌, All, Option}
+use Rattle.std.specs.Prelude.{if◌then◌else◌, All, Option, reverse}
 use Rattle.std.proofs.lemmas.Bool.{cases_eq, eq-eqb, ne_eqb}
 use Rattle.std.proofs.lemmas.List.Elements.{All-head, All-tail}
+use Rattle.cm_history.specs.Laws.{AtEach, BecomesOperationalRightly}
 use Rattle.cm_history.specs.declared.call.Entry.{Entry}
 use Rattle.cm_live.specs.declared.outlet.Format.{Format}
-use Rattle.cm_netlist.specs.Network.{Network}
+use Rattle.cm_netlist.specs.Network.{Network, listing}
 use Rattle.cm_seat.specs.Handing.{AreApart, HaveTheirCalls, count_calls}
 use Rattle.cm_seat.specs.SeatCalls.{calls_behind, calls_of, made}
 use Rattle.cm_seat.specs.Views.{SeatView}
@@ -14,6 +15,7 @@ use Rattle.cm_live.specs.Receiving.{IsReceivedList}
 use Rattle.canboot.specs.Heard.{IsAllHeard}
 use Rattle.canboot.proofs.ReceivedRounds.{fresh_received}
 use Rattle.canboot.proofs.Starts.{EachRightly, starts_heard}
+use Rattle.canboot.proofs.StartsOfAll.{each_received, reversed_received, starts_of_all}
 
 -- ---- as in cm_seat's proofs/Closing.antt
 
@@ -95,7 +97,13 @@ module _ (format : Format) (text : Option (List ℕ)) (net : Network) where
   either h ss seat a all (inl none) = (0, fresh_received format text net (calls_of h seat) (no_calls seat 0 h ss a all none) 0)
   either h ss seat a all (inr k) = k
 
-  pub all_heard : (h : List Entry) (ss : List SeatView) → HaveTheirCalls h ss → AreApart ss → count_calls ss ≡ length h → All IsOfReceived ss → EachRightly format text net h → IsAllHeard format text net h
-  all_heard h ss a apart total r rightly =
-      let all : (seat : ℕ) → IsReceivedList format text net (calls_of h seat) = λ seat. either h ss seat apart (sym (all_counts h ss a) ∙ total) (seat_received h ss a r seat) in
-      record { starts = λ seat. starts_heard format text net seat 0 h 0 (all seat).0 rightly (all seat).1; reports = all }
+  pub all_heard : (h : List Entry) (ss : List SeatView) → HaveTheirCalls h ss → AreApart ss → count_calls ss ≡ length h → All IsOfReceived ss → EachRightly format text net h
+      → AtEach (BecomesOperationalRightly (listing net)) (reverse h) → IsAllHeard format text net h
+  all_heard h ss a apart total r rightly operational =
+      let lists : (seat : ℕ) → IsReceivedList format text net (calls_of h seat) = λ seat. either h ss seat apart (sym (all_counts h ss a) ∙ total) (seat_received h ss a r seat) in
+      let each = each_received format text net 0 h (λ seat. (0, (lists seat).0, (lists seat).1)) in
+      record {
+        starts = λ seat. starts_heard format text net seat 0 h 0 (lists seat).0 rightly (lists seat).1;
+        all = starts_of_all format text net (reverse h) (reversed_received format text net h each) operational;
+        reports = lists;
+      }

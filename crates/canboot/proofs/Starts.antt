@@ -71,7 +71,7 @@ module _ (format : Format) (text : Option (List ℕ)) where
         serial = heard_as node serial_number (id_of a 3) t.serial s4.0 s5.0 upto (given_on format text node _ s5.0 upto s5.2) h.serial s5.1;
       }
 
-  of_entry : (o : Option SlaveEntry) (node : ℕ) (t : Terms) (a : Answers) (from upto : ℕ) → option_map terms_of o ≡ Some t → HasIdentity t a → AreGiven format text node (asked o a) from upto → HasHeardIdentity format text t node from upto
+  pub of_entry : (o : Option SlaveEntry) (node : ℕ) (t : Terms) (a : Answers) (from upto : ℕ) → option_map terms_of o ≡ Some t → HasIdentity t a → AreGiven format text node (asked o a) from upto → HasHeardIdentity format text t node from upto
   of_entry None node t a from upto e h k = absurd (nothing e)
     where
       nothing : None ≡ Some t → ⊥
