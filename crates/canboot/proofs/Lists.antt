@@ -10,53 +10,13 @@ use Rattle.cm_netlist.specs.Network.{Network, listing}
 use Rattle.cm_seat.specs.Handing.{AreApart, HaveTheirCalls, count_calls}
 use Rattle.cm_seat.specs.SeatCalls.{calls_behind, calls_of, made}
 use Rattle.cm_seat.specs.Views.{SeatView}
+use Rattle.cm_seat.proofs.Closing.{counts, counts_cons, few_counts, few_hits, hits}
 use Rattle.cm_seat.specs.declared.made.Made.{Made}
 use Rattle.cm_live.specs.Receiving.{IsReceivedList}
 use Rattle.canboot.specs.Heard.{IsAllHeard}
 use Rattle.canboot.proofs.ReceivedRounds.{fresh_received}
 use Rattle.canboot.proofs.Starts.{EachRightly, starts_heard}
 use Rattle.canboot.proofs.StartsOfAll.{each_received, reversed_received, starts_of_all}
-
--- ---- as in cm_seat's proofs/Closing.antt
-
-abbrev counts : ℕ → List Entry → List SeatView → ℕ
-counts n h [] = 0
-counts n h (s ∷ ss) = length (calls_behind s.number n h) + counts n h ss
-
-abbrev hits : ℕ → List SeatView → ℕ
-hits k [] = 0
-hits k (s ∷ ss) = (if k == s.number then 1 else 0) + hits k ss
-
-length_if : {A : Type 0} (b : Bool) (y : A) (xs : List A) → length (if b then y ∷ xs else xs) ≡ (if b then 1 else 0) + length xs
-length_if true y xs = omega arith
-length_if false y xs = omega arith
-
-counts_cons : (n : ℕ) (x : Entry) (h : List Entry) (ss : List SeatView) → counts n (x ∷ h) ss ≡ hits x.seat ss + counts (n + 1) h ss
-counts_cons n x h [] = refl
-counts_cons n x h (s ∷ ss) = omega (arith, length_if (x.seat == s.number) (made (n + 1) x.call x.reply) (calls_behind s.number (n + 1) h), counts_cons n x h ss)
-
-no_hits : (k : ℕ) (ss : List SeatView) → All (λ (t : SeatView). t.number ≢ k) ss → hits k ss ≡ 0
-no_hits k [] a = refl
-no_hits k (s ∷ ss) a =
-    let other : (k == s.number) ≡ false = ne_eqb k s.number (λ e. All-head (λ (t : SeatView). t.number ≢ k) s ss a (sym e)) in
-    omega (arith, ap {B = ℕ} (λ (b : Bool). if b then 1 else 0) other, no_hits k ss (All-tail (λ (t : SeatView). t.number ≢ k) s ss a))
-
-few_hits : (k : ℕ) (ss : List SeatView) → AreApart ss → hits k ss ≤ 1
-few_hits k [] a = omega arith
-few_hits k (s ∷ ss) a = elim (cases_eq k s.number) [
-  | inl same ↦
-      let none = no_hits k ss (subst (λ (n : ℕ). All (λ (t : SeatView). t.number ≢ n) ss) (sym same) a.0) in
-      omega (arith, ap {B = ℕ} (λ (b : Bool). if b then 1 else 0) (eq-eqb k s.number same), none)
-  | inr other ↦ omega (arith, ap {B = ℕ} (λ (b : Bool). if b then 1 else 0) (ne_eqb k s.number other), few_hits k ss a.1)
-]
-
-no_counts : (n : ℕ) (ss : List SeatView) → counts n [] ss ≡ 0
-no_counts n [] = refl
-no_counts n (s ∷ ss) = omega (arith, no_counts n ss)
-
-few_counts : (n : ℕ) (h : List Entry) (ss : List SeatView) → AreApart ss → counts n h ss ≤ length h
-few_counts n [] ss a = omega (arith, no_counts n ss)
-few_counts n (x ∷ h) ss a = omega (arith, counts_cons n x h ss, few_hits x.seat ss a, few_counts (n + 1) h ss a)
 
 -- ---- a number that no seat has
 

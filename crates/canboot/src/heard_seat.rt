@@ -59,6 +59,13 @@ impl<K: RunName, B: BusName> HeardSeat<K, B> {
         register.call(rt, &mut self.seat, call)
     }
 
+    /// The seat, to look at.
+    pub fn as_seat(&self) -> &Seat<K>
+        ensures { result.now ≡ self.now }
+    {
+        &self.seat
+    }
+
     /// The seat.
     pub fn into_seat(self) -> Seat<K>
         ensures same { result ≡ self }

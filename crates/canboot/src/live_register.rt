@@ -4,27 +4,28 @@ ghost use Rattle.std.specs.Prelude.{IfOk, reverse};
 ghost use Rattle.cm_sequential.specs.Standing.{Stands};
 
 use cm_nmt::Wire;
-use cm_register::{Recorder, Register, RunName, SharedManager, SoFar};
+use cm_register::{CopyFault, Recorder, Register, RunName, Seat, SharedManager, SoFar};
 use cm_sequential::Manager;
-use std::alloc::{AllocError, Global};
+use std::alloc::Global;
 use std::sync::Wait;
 
 /// A manager that the threads of a live run share, and of which the one that watches reads more.
 pub(crate) trait LiveRegister<K: RunName, R: Wait>: SharedManager<K, R> {
-    /// The manager now, as a copy. It waits for the lock.
-    fn manager(&self, rt: &R) -> Manager;
+    /// The manager now, as a copy, as the register gives it to this seat. It waits for the lock.
+    fn manager(&self, rt: &R, seat: &Seat<K>) -> Option<Manager>;
 
-    /// The history up to now, and the manager that stands for it, as copies. It waits for the lock.
-    fn so_far(&self, rt: &R, alloc: Global) -> Result<SoFar, AllocError>
+    /// The history up to now, and the manager that stands for it, as copies, as the register gives them to this
+    /// seat. It waits for the lock.
+    fn so_far(&self, rt: &R, seat: &Seat<K>, alloc: Global) -> Result<SoFar, CopyFault>
         ensures { IfOk result (λ s. Stands s.manager K.net (reverse s.history.items)) };
 }
 
 impl<'n, W: Wire, K: RunName, J: Recorder, R: Wait> LiveRegister<K, R> for Register<'n, W, K, J> {
-    fn manager(&self, rt: &R) -> Manager {
-        Register::manager(self, rt)
+    fn manager(&self, rt: &R, seat: &Seat<K>) -> Option<Manager> {
+        Register::manager(self, rt, seat)
     }
 
-    fn so_far(&self, rt: &R, alloc: Global) -> Result<SoFar, AllocError> {
-        Register::so_far(self, rt, alloc)
+    fn so_far(&self, rt: &R, seat: &Seat<K>, alloc: Global) -> Result<SoFar, CopyFault> {
+        Register::so_far(self, rt, seat, alloc)
     }
 }

@@ -11,6 +11,7 @@ use cm_journal::report_of;
 use cm_live::BusName;
 use cm_nmt::{Answers, NmtState, NodeId, Status};
 use cm_register::{Receipt, RunName};
+use cm_sequential::Manager;
 use std::alloc::Global;
 use std::io::Write;
 use std::sync::Wait;
@@ -40,6 +41,11 @@ impl<'w, R: Wait + Clock + Drop, K: RunName, B: BusName, M: LiveRegister<K, R>> 
         let _ = writeln!(err, "node {number}: {replied}");
     }
 
+    /// The manager now, as a copy.
+    pub(crate) fn manager(&self) -> Option<Manager> {
+        self.register.manager(self.rt, self.operator.as_seat())
+    }
+
     /// Whether the report of a boot with this status starts the slave, by itself or with all.
     fn is_started(&self, id: NodeId, status: Status) -> bool {
         let network = self.register.network();
@@ -51,7 +57,9 @@ impl<'w, R: Wait + Clock + Drop, K: RunName, B: BusName, M: LiveRegister<K, R>> 
         if status != Status::Ok || !is_booted || startup.starts_no_slave() {
             return false;
         }
-        let manager = self.register.manager(self.rt);
+        let Some(manager) = self.manager() else {
+            return false;
+        };
         if manager.phase().is_halted() {
             return false;
         }
@@ -135,7 +143,8 @@ impl<'w, R: Wait + Clock + Drop, K: RunName, B: BusName, M: LiveRegister<K, R>> 
 
     /// The report of what has happened so far.
     fn report<E: Write>(&self, alloc: Global, err: &mut E) {
-        match self.register.so_far(self.rt, alloc) {
+        let seat = self.operator.as_seat();
+        match self.register.so_far(self.rt, seat, alloc) {
             Ok(so_far) => {
                 let _ = report_of(
                     self.register.network(),
@@ -144,8 +153,8 @@ impl<'w, R: Wait + Clock + Drop, K: RunName, B: BusName, M: LiveRegister<K, R>> 
                     err,
                 );
             }
-            Err(_) => {
-                let _ = writeln!(err, "canboot: out of memory");
+            Err(fault) => {
+                let _ = writeln!(err, "canboot: {fault}");
             }
         }
     }

@@ -331,7 +331,9 @@ impl<'w, R: Wait + Clock + Drop, K: RunName, B: BusName, M: LiveRegister<K, R>> 
 
     /// Says where the network has become ready, or was halted; a network that is ready is told the time.
     fn tell_phase<E: Write>(&mut self, err: &mut E, now: u64) -> Result<(), Ending> {
-        let phase = self.register.manager(self.rt).phase();
+        let phase = self
+            .manager()
+            .map_or(self.phase, |manager| manager.phase());
         if phase == self.phase {
             return Ok(());
         }

@@ -12,17 +12,19 @@
 mod book;
 mod carrying;
 mod closing;
+mod copying;
 mod fault;
 mod opened;
 mod register;
 
-pub use book::{Book, SoFar};
+pub use book::Book;
 pub use closing::{Abandoned, BookFault, CloseKind, Closed};
+pub use copying::SoFar;
 pub use cm_nmt::Wire;
 pub use cm_recorder::{Recorder, Unrecorded};
 pub use cm_seat::{
     CallFault, Made, ReadFault, Receipt, RunName, Seat, SeatList, Seen, SharedManager,
 };
-pub use fault::OpenFault;
+pub use fault::{CopyFault, OpenFault};
 pub use opened::{NotOpened, Opened};
 pub use register::{CloseFault, Register};

@@ -1,5 +1,7 @@
 ghost use Rattle.std.specs.Prelude.{◌≡◌, ◌≤◌, length, take, vec_len, IfOk, IfErr};
+ghost use Rattle.cm_netlist.specs.Network.{listing};
 ghost use Rattle.cm_seat.specs.Reads.{HasMadeCalls};
+ghost use Rattle.cm_run.specs.Faults.{StopsForCause};
 ghost use Rattle.cm_run.specs.Operating.{HasGrown, HasSome};
 
 use cm_history::Call;
@@ -29,6 +31,7 @@ pub fn operate<K: RunName, R: Wait, M: SharedManager<K, R>>(
         × HasGrown seat.old.list calls.now r.items seat.new.list) }
     ensures part { IfErr result (λ f. (f.done ≤ length calls.now)
         × HasSome seat.old.list (take f.done calls.now) seat.new.list) }
+    ensures cause { IfErr result (StopsForCause (listing K.net) K.seats K.limit seat.new calls.now) }
 {
     let Ok(mut receipts) = Vec::with_capacity(alloc, calls.len()) else {
         return Err(OperateFault {

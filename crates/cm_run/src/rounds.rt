@@ -1,5 +1,7 @@
 ghost use Rattle.std.specs.Prelude.{◌≡◌, ◌++◌, ◌<◌};
 ghost use Rattle.cm_seat.specs.Reads.{HasMadeCalls};
+ghost use Rattle.cm_netlist.specs.Network.{listing};
+ghost use Rattle.cm_run.specs.Faults.{EndsForCause, FailsForCause};
 ghost use Rattle.cm_run.specs.Rounds.{Gives, HasRound, calls_in, is_followed, last_of};
 
 use crate::outcome::{Attempt, Last, Outcome};
@@ -21,6 +23,7 @@ fn attempt<K: RunName, R: Wait, M: SharedManager<K, R>, B: Bus>(
     ensures calls { HasMadeCalls seat.old seat.new }
     ensures list { seat.new.list ≡ seat.old.list ++ calls_in id result }
     ensures gives { Gives B.step K.net id bus.old result bus.new }
+    ensures cause { EndsForCause (listing K.net) K.seats K.limit id seat.old (last_of result) }
 {
     let begin = match register.call(rt, seat, Call::Begin(id)) {
         Ok(receipt) => receipt,
@@ -80,6 +83,7 @@ pub fn round<K: RunName, R: Wait, M: SharedManager<K, R>, B: Bus>(
     ensures calls { HasMadeCalls seat.old seat.new }
     ensures round { HasRound B.step K.net id most result seat.old.list seat.new.list bus.old
         bus.new }
+    ensures cause { FailsForCause (listing K.net) K.seats K.limit seat.old result }
 {
     for failed in 0..most - 1 {
         let tried = attempt(rt, register, seat, bus, id);

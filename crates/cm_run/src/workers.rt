@@ -69,14 +69,14 @@ fn boot_in<
     ensures all { IfOk result
         (λ r. (vec_len r.seats ≡ vec_len seats) × (vec_len r.buses ≡ vec_len buses)) }
     ensures rounds { IfOk result
-        (AllBooted B.step K.net plan.attempts plan.workers seats.items buses.items) }
+        (AllBooted B.step K.net K.seats K.limit plan.attempts plan.workers seats.items buses.items) }
     ensures fault { IfErr result (λ f. f.kind ≡ RunKind.NoWorker) }
     ensures kept { IfErr result
         (λ f. (vec_len f.seats ≡ vec_len seats) × (vec_len f.buses ≡ vec_len buses)) }
     ensures stopped { IfErr result (λ f. f.kind ≡ RunKind.NoWorker
-        → AllStopped B.step K.net plan.attempts plan.workers seats.items buses.items f) }
+        → AllStopped B.step K.net K.seats K.limit plan.attempts plan.workers seats.items buses.items f) }
     ensures first { IfErr result (λ f. f.kind ≡ RunKind.NoWorker
-        → FirstStopped B.step K.net plan.workers seats.items buses.items f) }
+        → FirstStopped B.step K.net K.seats K.limit plan.workers seats.items buses.items f) }
 {
     let Room {
         mut jobs,
@@ -130,7 +130,7 @@ pub fn boot_all<
     ensures all { IfOk result (λ r. (vec_len r.seats ≡ vec_len seats)
         × (vec_len r.buses ≡ vec_len buses) × (vec_len seats ≡ vec_len buses)) }
     ensures rounds { IfOk result
-        (AllBooted B.step K.net attempts (vec_len buses) seats.items buses.items) }
+        (AllBooted B.step K.net K.seats K.limit attempts (vec_len buses) seats.items buses.items) }
     ensures fault { IfErr result
         (λ f. IsRunCause (vec_len seats) (vec_len buses) attempts f.kind) }
     ensures back { IfErr result (λ f. f.kind ≢ RunKind.NoWorker
@@ -138,9 +138,9 @@ pub fn boot_all<
     ensures kept { IfErr result
         (λ f. (vec_len f.seats ≡ vec_len seats) × (vec_len f.buses ≡ vec_len buses)) }
     ensures stopped { IfErr result (λ f. f.kind ≡ RunKind.NoWorker
-        → AllStopped B.step K.net attempts (vec_len buses) seats.items buses.items f) }
+        → AllStopped B.step K.net K.seats K.limit attempts (vec_len buses) seats.items buses.items f) }
     ensures first { IfErr result (λ f. f.kind ≡ RunKind.NoWorker
-        → FirstStopped B.step K.net (vec_len buses) seats.items buses.items f) }
+        → FirstStopped B.step K.net K.seats K.limit (vec_len buses) seats.items buses.items f) }
 {
     if let Some(kind) = fault_of(seats.len(), buses.len(), attempts) {
         return Err(RunFault { kind, seats, buses });

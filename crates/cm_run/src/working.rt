@@ -1,7 +1,8 @@
 //! The work of one worker.
-ghost use Rattle.std.specs.Prelude.{◌≡◌, ◌≤◌, length, map, vec_capacity, vec_len};
-ghost use Rattle.cm_netlist.specs.Network.{listed_ids};
+ghost use Rattle.std.specs.Prelude.{◌≡◌, ◌≤◌, All, length, map, vec_capacity, vec_len};
+ghost use Rattle.cm_netlist.specs.Network.{listed_ids, listing};
 ghost use Rattle.cm_seat.specs.Reads.{HasMadeCalls};
+ghost use Rattle.cm_run.specs.Faults.{FailsForCause};
 ghost use Rattle.cm_run.specs.Rounds.{HasRounds};
 ghost use Rattle.cm_run.specs.Jobs.{IsDone};
 ghost use Rattle.cm_run.specs.Running.{id_of};
@@ -31,6 +32,7 @@ fn make_rounds<K: RunName, R: Wait, M: SharedManager<K, R>, B: Bus>(
     ensures calls { HasMadeCalls seat.old seat.new }
     ensures rounds { HasRounds B.step K.net plan.attempts outcomes.new.items seat.old.list
         seat.new.list bus.old bus.new }
+    ensures faults { All (FailsForCause (listing K.net) K.seats K.limit seat.old) outcomes.new.items }
     ensures capacity { vec_capacity outcomes.new ≡ vec_capacity outcomes.old }
 {
     let listed = register.network().listed_ids();

@@ -13,12 +13,12 @@ use Rattle.cm_seat.specs.Views.{SeatView}
 use Rattle.cm_seat.proofs.SeatCalls.{made_by}
 
 -- how many calls of these seats the history has, which stands behind n entries
-abbrev counts : ℕ → List Entry → List SeatView → ℕ
+abbrev pub counts : ℕ → List Entry → List SeatView → ℕ
 counts n h [] = 0
 counts n h (s ∷ ss) = length (calls_behind s.number n h) + counts n h ss
 
 -- how many of these seats have this number
-abbrev hits : ℕ → List SeatView → ℕ
+abbrev pub hits : ℕ → List SeatView → ℕ
 hits k [] = 0
 hits k (s ∷ ss) = (if k == s.number then 1 else 0) + hits k ss
 
@@ -26,7 +26,7 @@ length_if : {A : Type 0} (b : Bool) (y : A) (xs : List A) → length (if b then 
 length_if true y xs = omega arith
 length_if false y xs = omega arith
 
-counts_cons : (n : ℕ) (x : Entry) (h : List Entry) (ss : List SeatView) → counts n (x ∷ h) ss ≡ hits x.seat ss + counts (n + 1) h ss
+pub counts_cons : (n : ℕ) (x : Entry) (h : List Entry) (ss : List SeatView) → counts n (x ∷ h) ss ≡ hits x.seat ss + counts (n + 1) h ss
 counts_cons n x h [] = refl
 counts_cons n x h (s ∷ ss) = omega (arith, length_if (x.seat == s.number) (made_by n x) (calls_behind s.number (n + 1) h), counts_cons n x h ss)
 
@@ -36,7 +36,7 @@ no_hits k (s ∷ ss) a =
     let other : (k == s.number) ≡ false = ne_eqb k s.number (λ e. All-head (λ (t : SeatView). t.number ≢ k) s ss a (sym e)) in
     omega (arith, ap {B = ℕ} (λ (b : Bool). if b then 1 else 0) other, no_hits k ss (All-tail (λ (t : SeatView). t.number ≢ k) s ss a))
 
-few_hits : (k : ℕ) (ss : List SeatView) → AreApart ss → hits k ss ≤ 1
+pub few_hits : (k : ℕ) (ss : List SeatView) → AreApart ss → hits k ss ≤ 1
 few_hits k [] a = omega arith
 few_hits k (s ∷ ss) a = elim (cases_eq k s.number) [
   | inl same ↦
@@ -49,7 +49,7 @@ no_counts : (n : ℕ) (ss : List SeatView) → counts n [] ss ≡ 0
 no_counts n [] = refl
 no_counts n (s ∷ ss) = omega (arith, no_counts n ss)
 
-few_counts : (n : ℕ) (h : List Entry) (ss : List SeatView) → AreApart ss → counts n h ss ≤ length h
+pub few_counts : (n : ℕ) (h : List Entry) (ss : List SeatView) → AreApart ss → counts n h ss ≤ length h
 few_counts n [] ss a = omega (arith, no_counts n ss)
 few_counts n (x ∷ h) ss a = omega (arith, counts_cons n x h ss, few_hits x.seat ss a, few_counts (n + 1) h ss a)
 

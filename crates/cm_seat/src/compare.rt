@@ -23,8 +23,8 @@ pub fn are_apart<K: RunName>(seats: &[Seat<K>]) -> bool
     }
 }
 
-/// Whether the history has what the seat knows as its beginning.
-fn is_known<K: RunName>(history: &Past<K>, seat: &Seat<K>) -> bool
+/// Whether the history has what the seat saw and was told as its beginning, and so the calls that it made.
+pub fn is_known<K: RunName>(history: &Past<K>, seat: &Seat<K>) -> bool
     ensures known { IsTrue result → IsKnown history.now seat.now }
     ensures calls { IsTrue result → HasCallsOf history.now seat.now }
 {

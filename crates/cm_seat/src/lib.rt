@@ -15,7 +15,7 @@ mod seat;
 mod shared;
 
 pub use cm_past::HistoryReader;
-pub use compare::{are_apart, are_known};
+pub use compare::{are_apart, are_known, is_known};
 pub use fault::{CallFault, ReadFault};
 pub use made::{Made, Receipt, SeatList, Seen};
 pub use run_name::RunName;
