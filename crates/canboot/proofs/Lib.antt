@@ -2,6 +2,7 @@ pub mod Seats
 pub mod ReceivedRounds
 pub mod Starts
 pub mod StartsOfAll
+pub mod Workers
 pub mod Lists
 pub mod Fresh
 pub mod Attempts

@@ -11,6 +11,7 @@ use Rattle.cm_live.specs.Receiving.{AllStartsHeard, HasHeardIdentity, IsReceived
 use Rattle.cm_live.specs.declared.outlet.Format.{Format}
 use Rattle.cm_netlist.specs.Network.{Network, listing, terms}
 use Rattle.cm_seat.specs.SeatCalls.{calls_of}
+use Rattle.canboot.specs.Workers.{AreOfTheirSeats}
 
 -- the answers of the entry's report, but silence, were received, between two places; any other entry says nothing
 abbrev pub WasReceived : Format → Option (List ℕ) → Network → Entry → Type 0
@@ -32,8 +33,9 @@ StartsAllHeard format text net e past =
 
 -- where a report's orders start its slave, the slave's identity was heard; where orders start all, that of each mandatory slave that
 -- is to be booted was; and each answer of each report, but silence, was given by a frame that was received, behind those of the
--- reports of its seat before it
-pub record IsAllHeard (format : Format) (text : Option (List ℕ)) (net : Network) (entries : List Entry) : Type 0 where
+-- reports of its seat before it; and the reports on a slave are one worker's, so that no two seats rest on one line
+pub record IsAllHeard (format : Format) (text : Option (List ℕ)) (net : Network) (seats : ℕ) (entries : List Entry) : Type 0 where
   pub starts : AllStartsHeard format text net entries
   pub all : AtEach (StartsAllHeard format text net) (reverse entries)
   pub reports : (seat : ℕ) → IsReceivedList format text net (calls_of entries seat)
+  pub workers : AreOfTheirSeats net seats entries

@@ -40,7 +40,7 @@ pub record Runs (workers limit : ℕ) (input input' output output' : Option (Lis
 pub record RunsHeard (format : Format) (received : Option (List ℕ)) (workers limit : ℕ) (input input' output output' : Option (List ℕ)) (journal journal' : Option (Option (List ℕ))) : Type 0 where
   pub of : JournalView
   pub run : IsRun workers limit input input' of
-  pub heard : IsAllHeard format received of.network of.entries
+  pub heard : IsAllHeard format received of.network of.seats of.entries
   pub reported : Appends output output' (report_text of.network of.entries)
   pub recorded : AppendsIfThere journal journal' (text of)
 
@@ -87,7 +87,7 @@ module _ {W : Type 0} (contents : W → Option (List ℕ)) (format : Format) (re
       (messages messages' : Option (Outlet W)) : Type 0 where
     pub of : JournalView
     pub run : IsRun workers limit input input' of
-    pub heard : IsAllHeard format received of.network of.entries
+    pub heard : IsAllHeard format received of.network of.seats of.entries
     pub reported : Appends output output' (report_text of.network of.entries)
     pub recorded : AppendsIfThere journal journal' (text of)
     pub sent : SendsMessages contents (frames_in (listing of.network) of.entries) messages messages'
@@ -100,7 +100,7 @@ module _ {W : Type 0} (contents : W → Option (List ℕ)) (format : Format) (re
       (messages messages' : Option (Outlet W)) : Type 0 where
     pub of : JournalView
     pub run : IsRun workers limit input input' of
-    pub recorded : (IsWritten journal journal' failed (text of) × IsAllHeard format received of.network of.entries)
+    pub recorded : (IsWritten journal journal' failed (text of) × IsAllHeard format received of.network of.seats of.entries)
         ⊎ IsWritten journal journal' failed (unended_text of)
     pub sent : SendsMessages contents (frames_in (listing of.network) of.entries) messages messages'
 

@@ -6,6 +6,7 @@ ghost use Rattle.cm_history.specs.OrderFrames.{frames_in};
 ghost use Rattle.cm_sequential.specs.Standing.{Stands};
 ghost use Rattle.cm_live.specs.Receiving.{IsReceivedList};
 ghost use Rattle.canboot.specs.Heard.{IsAllHeard};
+ghost use Rattle.canboot.specs.Workers.{AreOfItsSeat};
 
 use crate::heard_seat::HeardSeat;
 use cm_live::BusName;
@@ -18,7 +19,9 @@ fn plain_seats<K: RunName, B: BusName>(
     alloc: Global,
     seats: Vec<HeardSeat<K, B>>,
 ) -> Result<Vec<Seat<K>>, AllocError>
-    ensures { IfOk result (λ v. All (λ s. IsReceivedList B.format B.text K.net s.list) v.items) }
+    ensures received { IfOk result
+        (λ v. All (λ s. IsReceivedList B.format B.text K.net s.list) v.items) }
+    ensures own { IfOk result (λ v. All (λ s. AreOfItsSeat K.net K.seats s.number s.list) v.items) }
 {
     let mut plain = Vec::new(alloc);
     for seat in seats {
@@ -29,7 +32,8 @@ fn plain_seats<K: RunName, B: BusName>(
 
 /// Closes the register, of whose wire just the history's frames were sent, and gives what it leaves, with its recorder,
 /// which has recorded the history. In that history each report whose orders start a slave has the slave's identity among
-/// the frames that were received on the bus that `B` names. Where it can't be closed it comes back.
+/// the frames that were received on the bus that `B` names, and the reports on a slave are one seat's. Where it can't
+/// be closed it comes back.
 pub(crate) fn close_heard<'n, W: Wire, K: RunName, B: BusName, J: Recorder>(
     alloc: Global,
     register: Register<'n, W, K, J>,
@@ -42,7 +46,7 @@ pub(crate) fn close_heard<'n, W: Wire, K: RunName, B: BusName, J: Recorder>(
     ensures frames { IfOk result
         (λ c. W.sent c.0.wire ≡ frames_in (listing K.net) c.0.history.items) }
     ensures recorded { IfOk result (λ c. J.has_recorded c.1 c.0.history.items) }
-    ensures heard { IfOk result (λ c. IsAllHeard B.format B.text K.net c.0.history.items) }
+    ensures heard { IfOk result (λ c. IsAllHeard B.format B.text K.net K.seats c.0.history.items) }
 {
     let Ok(plain) = plain_seats(alloc, seats) else {
         return Err(register);

@@ -1,5 +1,5 @@
 //! The workers of a live run: who they are, their threads, and what each does.
-ghost use Rattle.std.specs.Prelude.{◌≡◌, ◌≤◌, [], All};
+ghost use Rattle.std.specs.Prelude.{◌≡◌, ◌+◌, ◌≤◌, [], All};
 
 use crate::booth::Booth;
 use crate::heard_seat::HeardSeat;
@@ -60,8 +60,12 @@ fn boot_handed<
         if over.load(Ordering::SeqCst) {
             return;
         }
-        let outcome = booth.boot(rt, announcing, id, attempts);
-        let _ = happenings.send(rt, Happening::Ended(id, tried_of(&outcome)));
+        // Another worker's slave never comes: the watcher hands out each to its own.
+        let tried = match booth.boot(rt, announcing, id, attempts) {
+            Some(outcome) => tried_of(&outcome),
+            None => Tried::NotBooted,
+        };
+        let _ = happenings.send(rt, Happening::Ended(id, tried));
     }
 }
 
@@ -133,13 +137,14 @@ fn make_worker<'a, 'n, R: Wait + Clock + Clone + Drop, K: RunName, B: BusName, W
     seat: Seat<K>,
     writer: W,
 ) -> Result<(Worker<'n, R, K, B, W>, Sender<Received<B>>, Sender<NodeId>), AllocError>
-    requires { seat.list ≡ [] }
+    requires list { seat.list ≡ [] }
+    requires workers { (1 ≤ setting.now.options.workers) × (setting.now.options.workers + 1 ≡ K.seats) }
 {
     let happenings = setting.happenings.clone()?;
     let (tells, jobs) = crossbeam_channel::unbounded(setting.alloc)?;
     let (bus, hears) = make_bus(setting, place, writer)?;
     let worker = Worker {
-        booth: Booth::new(seat, bus),
+        booth: Booth::new(seat, bus, u16::from(setting.options.workers)),
         jobs,
         happenings,
         attempts: setting.options.attempts,
@@ -184,7 +189,8 @@ pub(crate) fn make_staff<
     mut seats: Vec<Seat<K>>,
     written: Vec<W>,
 ) -> Result<Staff<'n, R, K, B, W>, AllocError>
-    requires { All (λ s. s.list ≡ []) seats.items }
+    requires seats { All (λ s. s.list ≡ []) seats.items }
+    requires workers { (1 ≤ setting.now.options.workers) × (setting.now.options.workers + 1 ≡ K.seats) }
 {
     let mut staff = Staff::new(setting.alloc);
     for writer in written {

@@ -5,6 +5,8 @@
 #[cfg(test)]
 mod live;
 #[cfg(test)]
+mod live_runs;
+#[cfg(test)]
 mod runs;
 #[cfg(test)]
 mod small_program;

@@ -1,10 +1,9 @@
-//! Live runs over a bus in memory: what is written is answered by devices, and what an operator types comes once all
+//! A bus in memory for live runs: what is written is answered by devices, and what an operator types comes once all
 //! slaves were started.
 
 ghost use Rattle.std.specs.Prelude.{◌≡◌, ◌≤◌, length};
 
 use crate::runs::full_list;
-use crate::streams::{READ_FAILED, WRITE_FAILED};
 use canboot::{JournalOutput, LiveEnds, LiveOptions, Outlet, live_text, replay_text};
 use cm_can::{CanFrame, Kind, read_log_line};
 use cm_live::Format;
@@ -19,21 +18,22 @@ use std::time::Clock;
 
 /// What the devices tell: a text of frames, or that a node was started.
 #[derive(Drop)]
-enum Heard {
+pub(crate) enum Heard {
     Text(Vec<u8>),
     End,
 }
 
 /// A writer behind which devices of all nodes listen: each request is answered at once, by a device that agrees with
-/// the list, and each reset of all by boot-up messages. After so many writes it fails.
+/// the list, and each reset of all by boot-up messages. After so many writes it fails, and may end what is heard.
 #[derive(Drop)]
-struct Devices<R: Wait + Drop> {
+pub(crate) struct Devices<R: Wait + Drop> {
     rt: R,
     alloc: Global,
     line: Vec<u8>,
     answers: Sender<Heard>,
     starts: Sender<u8>,
     left: u32,
+    ends_all: bool,
 }
 
 /// The answer to a request of node n: an upload gives 00020192h.
@@ -86,7 +86,9 @@ impl<R: Wait + Drop> Devices<R> {
 impl<R: Wait + Drop> Write for Devices<R> {
     fn write(&mut self, buf: &[u8]) -> io::Result<usize> {
         if self.left == 0 {
-            let _ = self.answers.send(&self.rt, Heard::End);
+            if self.ends_all {
+                let _ = self.answers.send(&self.rt, Heard::End);
+            }
             return Err(io::Error::from(ErrorKind::BrokenPipe));
         }
         self.line.extend_from_slice(buf)?;
@@ -109,7 +111,7 @@ impl<R: Wait + Drop> Write for Devices<R> {
 
 /// A reader of what the devices answer.
 #[derive(Drop)]
-struct Answered<R: Wait + Drop> {
+pub(crate) struct Answered<R: Wait + Drop> {
     rt: R,
     answers: Receiver<Heard>,
     text: Vec<u8>,
@@ -168,7 +170,7 @@ impl<R: Wait + Drop> Read for Answered<R> {
 
 /// What an operator types once so many slaves were started.
 #[derive(Drop)]
-struct Typing<R: Wait + Drop> {
+pub(crate) struct Typing<R: Wait + Drop> {
     rt: R,
     starts: Receiver<u8>,
     wanted: u32,
@@ -196,7 +198,7 @@ impl<R: Wait + Drop> Read for Typing<R> {
 
 /// The writers of a bus, one for each of four workers and one for messages, what is heard of it, and who types.
 #[derive(Drop)]
-struct Bus<R: Wait + Drop> {
+pub(crate) struct Bus<R: Wait + Drop> {
     ends: LiveEnds<Answered<R>, Typing<R>, Devices<R>>,
     messages: Outlet<Devices<R>>,
 }
@@ -208,6 +210,7 @@ fn make_devices<R: Wait + Clone + Drop>(
     answers: &Sender<Heard>,
     starts: &Sender<u8>,
     left: u32,
+    ends_all: bool,
 ) -> Result<Devices<R>, AllocError> {
     let rt = rt.clone()?;
     let answers = answers.clone()?;
@@ -219,6 +222,7 @@ fn make_devices<R: Wait + Clone + Drop>(
         answers,
         starts,
         left,
+        ends_all,
     })
 }
 
@@ -232,7 +236,7 @@ fn writers<R: Wait + Clone + Drop>(
 ) -> Result<Vec<Devices<R>>, Fail> {
     let mut written = Vec::new(alloc);
     for _writer in 0..4u8 {
-        written.push(make_devices(rt, alloc, answers, starts, left)?)?;
+        written.push(make_devices(rt, alloc, answers, starts, left, true)?)?;
     }
     Ok(written)
 }
@@ -253,19 +257,28 @@ fn reader<R: Wait + Clone + Drop>(
     })
 }
 
-fn bus_of<R: Wait + Clone + Drop>(
+/// How many lines each writer of a worker takes, and that of the messages, and how many texts are heard, at most.
+#[derive(Clone, Copy)]
+pub(crate) struct Most {
+    pub(crate) written: u32,
+    pub(crate) messages: u32,
+    pub(crate) heard: u32,
+}
+
+/// A bus with an operator who types this text once so many slaves were started. Where a worker's line isn't written,
+/// nothing more is heard; where a message isn't, the bus goes on.
+pub(crate) fn bus_of<R: Wait + Clone + Drop>(
     rt: &R,
     alloc: Global,
     wanted: u32,
     text: &'static [u8],
-    written_at_most: u32,
-    heard_at_most: u32,
+    most: Most,
 ) -> Result<Bus<R>, Fail> {
     let (answers, heard) = crossbeam_channel::unbounded(alloc)?;
     let (starts, started) = crossbeam_channel::unbounded(alloc)?;
-    let written = writers(rt, alloc, &answers, &starts, written_at_most)?;
-    let sent = make_devices(rt, alloc, &answers, &starts, written_at_most)?;
-    let received = reader(rt, alloc, heard, heard_at_most)?;
+    let written = writers(rt, alloc, &answers, &starts, most.written)?;
+    let sent = make_devices(rt, alloc, &answers, &starts, most.messages, false)?;
+    let received = reader(rt, alloc, heard, most.heard)?;
     let typed = Typing {
         rt: rt.clone()?,
         starts: started,
@@ -298,10 +311,10 @@ fn four_workers() -> LiveOptions
 
 /// What a run printed.
 #[derive(Drop)]
-struct Printed {
-    status: u8,
-    out: Vec<u8>,
-    err: Vec<u8>,
+pub(crate) struct Printed {
+    pub(crate) status: u8,
+    pub(crate) out: Vec<u8>,
+    pub(crate) err: Vec<u8>,
 }
 
 /// Asserts that a journal is one whose report is this.
@@ -315,7 +328,7 @@ fn has_report(rt: &impl Abort, alloc: Global, journal: &[u8], wanted: &[u8]) {
 }
 
 /// Boots 126 slaves over a bus in memory, and asserts that the journal is one whose report is the one that was written.
-fn lives<R: Wait + Threads + Clock + Clone + Abort + Send + Sync + Drop + 'static>(
+pub(crate) fn lives<R: Wait + Threads + Clock + Clone + Abort + Send + Sync + Drop + 'static>(
     rt: &R,
     alloc: Global,
     bus: Bus<R>,
@@ -345,55 +358,4 @@ fn lives<R: Wait + Threads + Clock + Clone + Abort + Send + Sync + Drop + 'stati
     };
     has_report(rt, alloc, journal.as_slice(), out.as_slice());
     Ok(Printed { status, out, err })
-}
-
-/// Whether a text has this part.
-fn has(text: &[u8], part: &[u8]) -> bool {
-    text.windows(part.len().max(1)).any(|window| window == part)
-}
-
-#[test]
-fn a_network_is_booted_on_a_bus(rt: HostRuntime) -> Result<(), Fail> {
-    let bus = bus_of(
-        &rt,
-        rt.alloc(),
-        126,
-        b"read 5\nnonsense\nquit\n",
-        100_000,
-        100_000,
-    )?;
-    let printed = lives(&rt, rt.alloc(), bus)?;
-    assert_eq!(&rt; printed.status, 0);
-    assert!(&rt;
-        printed
-            .out
-            .as_slice()
-            .starts_with(b"phase ready\nown operational\n")
-    );
-    assert!(&rt; has(printed.out.as_slice(), b"\nopen 0\nframe 82 00\n"));
-    // The last ones may be told no more, where the operator ends the run.
-    assert!(&rt; has(printed.err.as_slice(), b"node 1: status Ok, started\n"));
-    assert!(&rt; has(printed.err.as_slice(), b"bad line: no such word"));
-    Ok(())
-}
-
-#[test]
-fn a_bus_that_can_not_be_written_ends_the_run(rt: HostRuntime) -> Result<(), Fail> {
-    let bus = bus_of(&rt, rt.alloc(), 1_000, b"quit\n", 3, 100_000)?;
-    let printed = lives(&rt, rt.alloc(), bus)?;
-    assert_eq!(&rt; printed.status, 3);
-    let err = printed.err.as_slice();
-    assert!(&rt; err.ends_with(WRITE_FAILED) || err.ends_with(READ_FAILED));
-    Ok(())
-}
-
-/// The boot-up messages are heard, and 40 answers.
-#[test]
-fn a_bus_that_ends_in_mid_boot_ends_the_run(rt: HostRuntime) -> Result<(), Fail> {
-    let bus = bus_of(&rt, rt.alloc(), 1_000, b"quit\n", 100_000, 41)?;
-    let printed = lives(&rt, rt.alloc(), bus)?;
-    assert_eq!(&rt; printed.status, 3);
-    assert!(&rt; printed.err.as_slice().ends_with(READ_FAILED));
-    assert!(&rt; printed.out.as_slice().starts_with(b"phase booting\n"));
-    Ok(())
 }

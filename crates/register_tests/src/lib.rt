@@ -6,6 +6,8 @@
 #[cfg(test)]
 mod closing;
 #[cfg(test)]
+mod copies;
+#[cfg(test)]
 mod first_use;
 #[cfg(test)]
 mod holding;

@@ -5,6 +5,6 @@ use Rattle.canboot.proofs.closing.close_heard.Goals as goal
 pub returns-in-Ok-close_recorded-clause-heard : goal.returns-in-Ok-close_recorded-clause-heard
 returns-in-Ok-close_recorded-clause-heard g c =
     let k = c.in-Ok-close_recorded.ensures.closed in
-    all_heard g.B.BusName.format g.B.BusName.text g.K.HistoryName.net c.in-Ok-close_recorded.closed.0.history.items c.in-Ok.plain.items k.calls k.apart k.total c.in-Ok.ensures
+    all_heard g.B.BusName.format g.B.BusName.text g.K.HistoryName.net g.K.RunName.seats c.in-Ok-close_recorded.closed.0.history.items c.in-Ok.plain.items k.calls k.apart k.total c.in-Ok.ensures.received c.in-Ok.ensures.own
     (each_rightly g.B.BusName.format g.B.BusName.text g.K.HistoryName.net c.in-Ok-close_recorded.closed.0.history.items c.in-Ok-close_recorded.ensures.starts)
     c.in-Ok-close_recorded.ensures.operational

@@ -1,8 +1,14 @@
 use Rattle.std.proofs.lemmas.List.Elements.{All-push, All-same}
 use Rattle.canboot.proofs.Lists.{IsOfReceived}
+use Rattle.canboot.proofs.Workers.{IsOfOwn}
 use Rattle.canboot.proofs.closing.plain_seats.Goals as goal
 
 pub loop-seat-preserved : goal.loop-seat-preserved
 loop-seat-preserved g c =
-    All-same (IsOfReceived g.B.BusName.format g.B.BusName.text g.K.HistoryName.net) c.push.new.self.items _ c.in_ok-push.ensures.items
-    (All-push (IsOfReceived g.B.BusName.format g.B.BusName.text g.K.HistoryName.net) c.loop-seat.plain.items c.into_seat.result c.loop-seat.invariant c.into_seat.ensures.received)
+    let P = IsOfReceived g.B.BusName.format g.B.BusName.text g.K.HistoryName.net in
+    let Q = IsOfOwn g.K.HistoryName.net g.K.RunName.seats in
+    let was = c.loop-seat.invariant in
+    record {
+      received = All-same P c.push.new.self.items _ c.in_ok-push.ensures.items (All-push P c.loop-seat.plain.items c.into_seat.result was.received c.into_seat.ensures.received);
+      own = All-same Q c.push.new.self.items _ c.in_ok-push.ensures.items (All-push Q c.loop-seat.plain.items c.into_seat.result was.own c.into_seat.ensures.own);
+    }

@@ -1,7 +1,10 @@
 use Rattle.std.specs.Prelude.{All}
-use Rattle.cm_seat.specs.Views.{SeatView}
-use Rattle.cm_live.specs.Receiving.{IsReceivedList}
+use Rattle.canboot.proofs.Lists.{IsOfReceived}
+use Rattle.canboot.proofs.Workers.{IsOfOwn}
 use Rattle.canboot.proofs.closing.plain_seats.Given as goal
 
 abbrev pub invariant-loop-seat : goal.invariant-loop-seat
-invariant-loop-seat g l = All (λ (s : SeatView). IsReceivedList g.B.BusName.format g.B.BusName.text g.K.HistoryName.net s.list) l.plain.items
+invariant-loop-seat g l = record {
+  received : All (IsOfReceived g.B.BusName.format g.B.BusName.text g.K.HistoryName.net) l.plain.items;
+  own : All (IsOfOwn g.K.HistoryName.net g.K.RunName.seats) l.plain.items;
+}

@@ -26,11 +26,11 @@ returns-in-Ok-live-clause-done g c = λ e.
       run = record { list = c.in-Ok.ensures.list; version = refl; journal = c.is_journal.ensures; seats = ap (λ (n : ℕ). n + 1) c.from-seats.ensures; most = refl };
       heard = subst (λ (h : List Entry). IsAllHeard c.args.options.format (g.I.Read.remaining c.args.ends.received) c.in-Ok.network h)
           (sym c.as_slice-entries.ensures.value) c.in-Ok-live.ensures.heard;
-      reported = of_ok c.put_report-report.result _ c.put_report-report.ensures (s.report (c.ending_status.ensures.done e));
-      recorded = w.all (sym c.has_failed.ensures ∙ s.journal (c.ending_status.ensures.done e));
+      reported = of_ok c.put_report-report.result _ c.put_report-report.ensures (s.report (c.ending_status.ensures.done e).0);
+      recorded = w.all (sym c.has_failed.ensures ∙ s.journal (c.ending_status.ensures.done e).0);
       sent = subst (λ (h : List Entry). SendsMessages g.W.Write.contents (frames_in (listing c.in-Ok.network) h) c.args.messages.now c.live.new.messages)
           (sym c.as_slice-entries.ensures.value) c.in-Ok-live.ensures.sent;
-      well = c.have_failed.ensures (s.messages (c.ending_status.ensures.done e));
+      well = c.have_failed.ensures (s.messages (c.ending_status.ensures.done e).0);
     }
 
 pub returns-in-Ok-live-clause-failed : goal.returns-in-Ok-live-clause-failed

@@ -1,0 +1,85 @@
+-- The reports of a round are of its slave, and so, in a history, each is made by the seat of its slave's worker.
+use Rattle.std.proofs.Common.{◌≡◌, ◌==◌, ◌+◌, ℕ, Bool, true, false, List, [], ◌∷◌, ◌++◌, refl, sym, subst}
+use Rattle.std.specs.Prelude.{All, Result, Ok, Err, IfOk, OnErr, if◌then◌else◌}
+use Rattle.std.proofs.lemmas.Bool.{eq-eqb}
+use Rattle.std.proofs.lemmas.List.Elements.{All-append, All-cons, All-head, All-nil, All-push, All-same, All-tail}
+use Rattle.cm_boot.specs.declared.question.Answer.{Answer}
+use Rattle.cm_boot.specs.declared.question.Question.{Question}
+use Rattle.cm_history.specs.declared.call.Call.{Call}
+use Rattle.cm_history.specs.declared.call.Call.TheVariants as call
+use Rattle.cm_history.specs.declared.call.Entry.{Entry}
+use Rattle.cm_netlist.specs.Network.{Network}
+use Rattle.cm_seat.specs.SeatCalls.{calls_behind, made}
+use Rattle.cm_seat.specs.Views.{SeatView}
+use Rattle.cm_seat.specs.declared.fault.CallFault.{CallFault}
+use Rattle.cm_seat.specs.declared.made.Made.{Made}
+use Rattle.cm_seat.specs.declared.made.Receipt.{Receipt}
+use Rattle.cm_live.specs.Receiving.{IsNoReport}
+use Rattle.cm_run.specs.Rounds.{Fail, HasRound, calls_in}
+use Rattle.cm_run.specs.declared.outcome.Attempt.{Attempt}
+use Rattle.cm_run.specs.declared.outcome.Attempt.TheVariants as attempt
+use Rattle.cm_run.specs.declared.outcome.Outcome.{Outcome}
+use Rattle.canboot.specs.Workers.{AreOfItsSeat, AreOfTheirSeats, IsOfItsSeat, seat_of}
+
+module _ (net : Network) (seats : ℕ) where
+  module _ (seat : ℕ) where
+    abbrev Own : Made → Type 0
+    Own m = IsOfItsSeat net seats seat m.call
+
+    pub none_own : AreOfItsSeat net seats seat []
+    none_own = All-nil Own
+
+    -- ---- a round
+
+    attempt_own : (i : ℕ) → seat_of net seats i ≡ seat → (t : Attempt) → AreOfItsSeat net seats seat (calls_in i t)
+    attempt_own i own (attempt.NotBegun f) = none_own
+    attempt_own i own (attempt.Refused b r) = All-cons Own (made b.position (call.Begin i) b.reply) [] tt none_own
+    attempt_own i own (attempt.NotReported b n a f) = All-cons Own (made b.position (call.Begin i) b.reply) [] tt none_own
+    attempt_own i own (attempt.Ended b n a r l) =
+        All-cons Own (made b.position (call.Begin i) b.reply) (made r.position (call.Report i n a) r.reply ∷ []) tt
+        (All-cons Own (made r.position (call.Report i n a) r.reply) [] own none_own)
+
+    module _ {B : Type 0} (step : B → ℕ → Question → Answer → B → Type 0) (i : ℕ) (own : seat_of net seats i ≡ seat) where
+      attempts_own : (b : B) (ts : List Attempt) (list : List Made) (c : B) → Fail step net i b ts list c → AreOfItsSeat net seats seat list
+      attempts_own b [] list c f = All-same Own list [] f.0 none_own
+      attempts_own b (t ∷ ts) list c f =
+          All-same Own list (calls_in i t ++ f.0) f.5 (All-append Own (calls_in i t) f.0 (attempt_own i own t) (attempts_own f.1 ts f.0 c f.4))
+
+      pub round_own : (m : ℕ) (o : Outcome) (old new : List Made) (b c : B) → HasRound step net i m o old new b c → AreOfItsSeat net seats seat old → AreOfItsSeat net seats seat new
+      round_own m o old new b c r h =
+          let before = attempts_own b r.round.failed r.round.before r.round.between r.round.fails in
+          let added = All-same Own r.added (r.round.before ++ calls_in i r.round.final) r.round.calls (All-append Own r.round.before (calls_in i r.round.final) before (attempt_own i own r.round.final)) in
+          All-same Own new (old ++ r.added) r.grown (All-append Own old r.added h added)
+
+    -- ---- a call that is no report
+
+    quiet_own : (c : Call) → IsNoReport c → IsOfItsSeat net seats seat c
+    quiet_own (call.Report i n a) q = absurd q
+    quiet_own _ q = tt
+
+  pub called_own : (r : Result Receipt CallFault) (old new : SeatView) (c : Call) → IsNoReport c → IfOk r (λ k. (new.number ≡ old.number) × (new.list ≡ old.list ++ made k.position c k.reply ∷ [])) → OnErr r (new ≡ old)
+      → AreOfItsSeat net seats old.number old.list → AreOfItsSeat net seats new.number new.list
+  called_own (Ok k) old new c quiet ok err h =
+      subst (λ (n : ℕ). AreOfItsSeat net seats n new.list) (sym ok.0)
+      (All-same (Own old.number) new.list (old.list ++ made k.position c k.reply ∷ []) ok.1 (All-push (Own old.number) old.list (made k.position c k.reply) h (quiet_own old.number c quiet)))
+  called_own (Err f) old new c quiet ok err h = subst (λ (s : SeatView). AreOfItsSeat net seats s.number s.list) (sym err) h
+
+  abbrev pub IsOfOwn : SeatView → Type 0
+  IsOfOwn s = AreOfItsSeat net seats s.number s.list
+
+  -- ---- a history
+
+  first_own : (seat : ℕ) (b : Bool) (m : Made) (rest : List Made) → b ≡ true → AreOfItsSeat net seats seat (if b then m ∷ rest else rest) → IsOfItsSeat net seats seat m.call
+  first_own seat true m rest is h = All-head (Own seat) m rest h
+  first_own seat false m rest is h = absurd (let p : false ≡ true = is in cc)
+
+  rest_own : (seat : ℕ) (b : Bool) (m : Made) (rest : List Made) → AreOfItsSeat net seats seat (if b then m ∷ rest else rest) → AreOfItsSeat net seats seat rest
+  rest_own seat true m rest h = All-tail (Own seat) m rest h
+  rest_own seat false m rest h = h
+
+  pub each_own : (n : ℕ) (es : List Entry) → ((seat : ℕ) → AreOfItsSeat net seats seat (calls_behind seat n es)) → AreOfTheirSeats net seats es
+  each_own n [] h = All-nil (λ (e : Entry). IsOfItsSeat net seats e.seat e.call)
+  each_own n (e ∷ es) h =
+      All-cons (λ (x : Entry). IsOfItsSeat net seats x.seat x.call) e es
+      (first_own e.seat (e.seat == e.seat) (made (n + 1) e.call e.reply) (calls_behind e.seat (n + 1) es) (eq-eqb e.seat e.seat refl) (h e.seat))
+      (each_own (n + 1) es (λ seat. rest_own seat (e.seat == seat) (made (n + 1) e.call e.reply) (calls_behind seat (n + 1) es) (h seat)))
