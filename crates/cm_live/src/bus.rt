@@ -94,8 +94,8 @@ fn expire(log: &mut Vec<Event>) -> Option<Reply>
     None
 }
 
-/// Waits for the first frame behind the last place that answers the question; others are passed over, and those
-/// before that place are not even heard. `None` once the time is over, or where too many others came.
+/// Waits for the first frame behind the last place that answers the question. Others are passed over; of them, those
+/// up to that place don't stand in the log. `None` once the time is over, or where too many others came.
 fn wait_for<B: BusName, P: Port<B>>(
     port: &mut P,
     last: &mut u64,
