@@ -1,5 +1,5 @@
 -- What the questions of a boot leave in the log of a live bus.
-use Rattle.std.proofs.Common.{◌≡◌, ◌≢◌, ◌≤◌, ◌+◌, ◌*◌, ℕ, Bool, true, false, List, [], ◌∷◌, ◌++◌, length, refl, sym, ap, subst, ◌∙◌, inl, inr, append_assoc, arith, length-append}
+use Rattle.std.proofs.Common.{◌≡◌, ◌≢◌, ◌≤◌, ◌+◌, ◌*◌, ℕ, Bool, true, false, List, [], ◌∷◌, ◌++◌, length, refl, sym, ap, subst, ◌∙◌, append_assoc, arith, length-append}
 use Rattle.std.specs.Prelude.{if◌then◌else◌}
 use Rattle.std.proofs.lemmas.List.{append-nil, length-map}
 use Rattle.cm_boot.specs.Questions.{counted, fits}
@@ -8,37 +8,26 @@ use Rattle.cm_boot.specs.declared.question.Question.{Question}
 use Rattle.cm_boot.specs.declared.question.Answer.{Answer}
 use Rattle.cm_boot.specs.declared.question.Answer.TheVariants as answer
 use Rattle.cm_can.specs.declared.frame.CanFrame.{CanFrame}
-use Rattle.cm_live.specs.Talk.{IsAsked, IsAsking, IsClosing, IsEnding, IsTalk, heard}
+use Rattle.cm_live.specs.Talk.{IsAsked, IsTalk, ending_of, heard}
+use Rattle.cm_live.proofs.Waiting.{one_asking, one_closing, one_ending}
 use Rattle.cm_live.specs.Hearing.{AreHeard, WasAsked}
 use Rattle.cm_live.specs.declared.event.Event.{Event}
 use Rattle.cm_live.specs.declared.event.Event.TheVariants.{Heard}
 
 -- ---- how long a talk is
 
-one_asking : (node : ℕ) (q : Question) (es : List Event) → IsAsking node q es → length es ≤ 1
-one_asking node q es (inl h) = omega (arith, ap length h.1)
-one_asking node q es (inr h) = omega (arith, ap length h.2)
-
-one_ending : (node : ℕ) (q : Question) (x : Answer) (es : List Event) → IsEnding node q x es → length es ≤ 1
-one_ending node q x es (inl h) = omega (arith, ap length h.2)
-one_ending node q x es (inr h) = omega (arith, ap length h.1)
-
-one_closing : (node : ℕ) (q : Question) (es : List Event) → IsClosing node q es → length es ≤ 1
-one_closing node q es (inl h) = omega (arith, ap length h)
-one_closing node q es (inr h) = omega (arith, ap length h.2)
-
 pub talk_is_short : (node : ℕ) (q : Question) (x : Answer) (talk : List Event) → IsTalk node q x talk → length talk ≤ 67
 talk_is_short node q x talk t =
     omega (
       arith,
       ap length t.whole,
-      length-append t.asking (heard t.others ++ (t.ending ++ t.closing)),
-      length-append (heard t.others) (t.ending ++ t.closing),
-      length-append t.ending t.closing,
+      length-append t.asking (heard t.others ++ ((ending_of t.last) ++ t.closing)),
+      length-append (heard t.others) ((ending_of t.last) ++ t.closing),
+      length-append (ending_of t.last) t.closing,
       length-map t.others (λ (f : CanFrame). Heard f),
       one_asking node q t.asking t.asks,
-      one_ending node q x t.ending t.ends,
-      one_closing node q t.closing t.closes,
+      one_ending t.last,
+      one_closing node q t.last t.closing t.closes,
       t.few,
     )
 

@@ -1,4 +1,5 @@
 pub mod Talk
+pub mod Waits
 pub mod Outlets
 pub mod Hearing
 pub mod Places

@@ -6,6 +6,7 @@ use Rattle.cm_nmt.specs.Frames.{frame_bytes}
 use Rattle.cm_can.specs.declared.frame.CanFrame.{CanFrame}
 use Rattle.cm_can.specs.Frames.{IsData}
 use Rattle.cm_can.specs.Lines.{IsAdapterText, IsFrameText}
+use Rattle.cm_recorder.specs.Fronts.{AppendsFront}
 use Rattle.cm_live.specs.declared.outlet.Format.{Format}
 use Rattle.cm_live.specs.declared.outlet.Outlet.{Outlet}
 use Rattle.cm_live.specs.declared.outlet.Format.TheVariants.{CanUtils, Adapter}
@@ -27,9 +28,17 @@ IsLine Adapter f line = (text : List ℕ) × IsAdapterText text f × (line ≡ a
 abbrev pub Writes : Format → CanFrame → Option (List ℕ) → Option (List ℕ) → Type 0
 Writes format f old new = (line : List ℕ) × IsLine format f line × Appends old new line
 
+-- the first bytes of the line of the frame were written, all of them or fewer, and nothing else
+abbrev pub WritesFront : Format → CanFrame → Option (List ℕ) → Option (List ℕ) → Type 0
+WritesFront format f old new = (line : List ℕ) × IsLine format f line × AppendsFront old new line
+
 -- just the line of the message that is the NMT frame was written (CiA 301: identifier 000h and its two bytes)
 abbrev pub WritesMessage : Format → Frame → Option (List ℕ) → Option (List ℕ) → Type 0
 WritesMessage format frame old new = (f : CanFrame) × IsData f 0 (frame_bytes frame) × Writes format f old new
+
+-- the first bytes of that line were written, all of them or fewer, and nothing else
+abbrev pub WritesMessageFront : Format → Frame → Option (List ℕ) → Option (List ℕ) → Type 0
+WritesMessageFront format frame old new = (f : CanFrame) × IsData f 0 (frame_bytes frame) × WritesFront format f old new
 
 -- a text of lines, one for each frame, of the messages that are these NMT frames
 abbrev pub AreMessageLines : Format → List Frame → List ℕ → Type 0

@@ -2,6 +2,7 @@ ghost use Rattle.std.specs.Prelude.{◌≡◌, true, ◌+◌, ◌++◌, ◌∷�
 ghost use Rattle.cm_history.specs.Replies.{is_reply_to};
 ghost use Rattle.cm_seat.specs.Reads.{IsToldOf};
 ghost use Rattle.cm_seat.specs.SeatCalls.{made};
+ghost use Rattle.cm_live.specs.declared.happening.Happening.TheVariants.{Called};
 
 use crate::happening::Happening;
 use cm_history::Call;
@@ -11,7 +12,9 @@ use crossbeam_channel::Sender;
 use std::sync::Wait;
 
 /// What is told of a call.
-fn called(call: &Call, receipt: &Receipt) -> Happening {
+fn called(call: &Call, receipt: &Receipt) -> Happening
+    ensures { result ≡ Called call.now receipt.now.reply }
+{
     Happening::Called(*call, receipt.reply)
 }
 

@@ -1,7 +1,9 @@
 //! The bus of one worker.
-ghost use Rattle.std.specs.Prelude.{◌≡◌, ◌+◌, ◌<◌, ◌≤◌, ◌++◌, ◌∷◌, [], IfOk, IfSome, None, vec_capacity, vec_len};
-ghost use Rattle.cm_live.specs.Talk.{HasAsked, HasPut, HasWaited, IsAbortOf, IsAsking, IsClosing, answer_in};
+ghost use Rattle.std.specs.Prelude.{◌≡◌, ◌+◌, ◌<◌, ◌≤◌, ◌++◌, ◌∷◌, [], ℕ, IfNone, IfOk, IfSome, None, vec_capacity, vec_len};
+ghost use Rattle.cm_netlist.specs.Network.{entry};
+ghost use Rattle.cm_live.specs.Talk.{HasAsked, HasPut, HasWaited, IsAbort, IsAbortCode, IsAsking, IsClosing, answer_in, frame_in};
 ghost use Rattle.cm_live.specs.Receiving.{IsGiven};
+ghost use Rattle.cm_live.specs.Waits.{beat_ms, behind, wait_ms};
 
 use crate::bus_name::BusName;
 use crate::event::Event;
@@ -31,7 +33,8 @@ pub struct LiveBus<'n, B: BusName, P: Port<B>> {
     network: &'n Network,
     answer_ms: u32,
     port: P,
-    /// The place of the frame that was heard last: others are heard behind it alone.
+    /// The place of the frame that was heard last, or behind it of the last byte that was read before the last
+    /// question: other frames are heard behind it alone.
     last: u64,
     log: Vec<Event>,
     of: PhantomData<B>,
@@ -48,24 +51,28 @@ impl<'n, B: BusName, P: Port<B>> Model for LiveBus<'n, B, P> {
     ghost invariant = { λ b. 27470 ≤ vec_capacity b.log };
 }
 
-/// The abort with which the transfer of a question ends: where no answer came in time, and where a segmented
-/// upload was begun.
-fn abort_of(id: NodeId, question: &Question, last: Option<&CanFrame>) -> Option<CanFrame>
-    ensures { IfSome result (λ f. IsAbortOf id question.now f) }
+/// The abort of the transfer of a question, behind the frame with which the waiting ended: it is aborted where no
+/// answer came in time, and where a segmented upload was begun.
+fn abort_of(id: NodeId, question: &Question, last: Option<CanFrame>) -> Option<CanFrame>
+    ensures some { IfSome result (IsAbort id question.now last) }
+    ensures none { IfNone result ((code : ℕ) → IsAbortCode id question.now last code → ⊥) }
 {
-    match (question, last) {
-        (Question::Read(index, sub), None) => Some(abort_frame(id, *index, *sub, TIMED_OUT)),
-        (Question::Read(index, sub), Some(frame)) => {
-            if is_segmented(id, *index, *sub, frame) {
-                Some(abort_frame(id, *index, *sub, NO_SEGMENTS))
-            } else {
-                None
+    match question {
+        Question::Read(index, sub) => match last {
+            None => Some(abort_frame(id, *index, *sub, TIMED_OUT)),
+            Some(frame) => {
+                if is_segmented(id, *index, *sub, &frame) {
+                    Some(abort_frame(id, *index, *sub, NO_SEGMENTS))
+                } else {
+                    None
+                }
             }
-        }
-        (Question::Write(write), None) => {
-            Some(abort_frame(id, write.index, write.sub, TIMED_OUT))
-        }
-        _ => None,
+        },
+        Question::Write(write) => match last {
+            None => Some(abort_frame(id, write.index, write.sub, TIMED_OUT)),
+            Some(_) => None,
+        },
+        Question::StateByBeat | Question::StateByGuard | Question::Beat => None,
     }
 }
 
@@ -87,8 +94,8 @@ fn expire(log: &mut Vec<Event>) -> Option<Reply>
     None
 }
 
-/// Waits for the first frame that answers the question. `None` once the time is over, or where too many others
-/// came.
+/// Waits for the first frame behind the last place that answers the question. Others are passed over; of them, those
+/// up to that place don't stand in the log. `None` once the time is over, or where too many others came.
 fn wait_for<B: BusName, P: Port<B>>(
     port: &mut P,
     last: &mut u64,
@@ -106,9 +113,8 @@ fn wait_for<B: BusName, P: Port<B>>(
             return expire(log);
         };
         let place = received.place();
-        // The reader gives frames in their order, so that this never comes; no clause of a channel says so.
         if place <= *last {
-            return expire(log);
+            continue;
         }
         *last = place;
         let frame = received.frame();
@@ -147,7 +153,17 @@ fn send_request<B: BusName, P: Port<B>>(
     }
 }
 
-/// Ends the transfer of a question, where it is to be ended.
+/// The frame of a reply, if one came.
+fn frame_in(reply: &Option<Reply>) -> Option<CanFrame>
+    ensures { result ≡ frame_in reply.now }
+{
+    match reply {
+        Some(reply) => Some(reply.frame),
+        None => None,
+    }
+}
+
+/// Aborts the transfer of a question, where it is to be aborted behind this reply.
 fn close_transfer<B: BusName, P: Port<B>>(
     port: &mut P,
     log: &mut Vec<Event>,
@@ -156,14 +172,10 @@ fn close_transfer<B: BusName, P: Port<B>>(
     reply: &Option<Reply>,
 )
     requires room { vec_len log.old < vec_capacity log.old }
-    ensures closing { HasPut (IsClosing id question.now) log.old.items log.new.items }
+    ensures closing { HasPut (IsClosing id question.now (frame_in reply.now)) log.old.items log.new.items }
     ensures capacity { vec_capacity log.new ≡ vec_capacity log.old }
 {
-    let last = match reply {
-        Some(reply) => Some(&reply.frame),
-        None => None,
-    };
-    match abort_of(id, question, last) {
+    match abort_of(id, question, frame_in(reply)) {
         Some(abort) => send(port, log, abort),
         None => {}
     }
@@ -179,19 +191,32 @@ fn answer_in(reply: Option<Reply>) -> Answer
     }
 }
 
-/// Asks a question: sends its request, waits for the answer, and ends the transfer where it is to be ended.
+/// Raises the place behind which frames are heard, where so many bytes were read by now.
+fn raise(last: &mut u64, read: u64)
+    ensures { last.new ≡ behind last.old read }
+{
+    let before = read.saturating_sub(1);
+    if *last < before {
+        *last = before;
+    }
+}
+
+/// Asks a question, when so many bytes were read: sends its request, waits for an answer that was read behind them,
+/// and aborts the transfer where it is to be aborted.
 fn ask_by<B: BusName, P: Port<B>>(
     port: &mut P,
     last: &mut u64,
     log: &mut Vec<Event>,
     id: NodeId,
     question: &Question,
+    read: u64,
 ) -> Answer
     requires room { vec_len log.old + 67 ≤ vec_capacity log.old }
     ensures asked { HasAsked id question.now result log.old.items log.new.items }
-    ensures given { IsGiven B.format B.text id question.now result last.old last.new }
+    ensures given { IsGiven B.format B.text id question.now result (behind last.old read) last.new }
     ensures capacity { vec_capacity log.new ≡ vec_capacity log.old }
 {
+    raise(last, read);
     send_request(port, log, id, question);
     let reply = wait_for(port, last, log, id, question);
     close_transfer(port, log, id, question, &reply);
@@ -247,15 +272,31 @@ impl<'n, B: BusName, P: Port<B>> LiveBus<'n, B, P> {
     {
         self.log.as_slice()
     }
+}
 
-    /// How long the answer to a question is waited for, in ms.
-    fn wait_of(&self, id: NodeId, question: &Question) -> u32 {
-        match (question, self.network.entry(id)) {
-            (Question::StateByBeat | Question::Beat, Some(entry)) if entry.heartbeat_ms > 0 => {
+/// How long a heartbeat of the node is waited for, in ms.
+fn beat_of(network: &Network, answer_ms: u32, id: NodeId) -> u32
+    ensures { result ≡ beat_ms answer_ms (entry network.now id) }
+{
+    match network.entry(id) {
+        Some(entry) => {
+            if entry.heartbeat_ms == 0 {
+                answer_ms
+            } else {
                 u32::from(entry.heartbeat_ms)
             }
-            _ => self.answer_ms,
         }
+        None => answer_ms,
+    }
+}
+
+/// How long the answer to a question is waited for, in ms.
+fn wait_of(network: &Network, answer_ms: u32, id: NodeId, question: &Question) -> u32
+    ensures { result ≡ wait_ms network.now answer_ms id question.now }
+{
+    match question {
+        Question::StateByBeat | Question::Beat => beat_of(network, answer_ms, id),
+        Question::Read(_, _) | Question::Write(_) | Question::StateByGuard => answer_ms,
     }
 }
 
@@ -268,8 +309,16 @@ impl<'n, B: BusName, P: Port<B>> Bus for LiveBus<'n, B, P> {
 
     fn ask(&mut self, id: NodeId, question: Question) -> Answer {
         make_room(&mut self.log);
-        let wait = self.wait_of(id, &question);
+        let wait = wait_of(self.network, self.answer_ms, id, &question);
         self.port.listen(id, &question, wait);
-        ask_by(&mut self.port, &mut self.last, &mut self.log, id, &question)
+        let read = self.port.received();
+        ask_by(
+            &mut self.port,
+            &mut self.last,
+            &mut self.log,
+            id,
+            &question,
+            read,
+        )
     }
 }

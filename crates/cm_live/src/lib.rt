@@ -1,9 +1,10 @@
 //! A boot over a CAN bus that is there (CiA 301, CiA 302-2).
 //!
 //! A [`LiveBus`] asks each question of a boot in a frame, and takes the first frame that answers it, of those that
-//! come behind the request; else the question is answered with silence, when its time is over. What went over the
-//! bus is kept in a log, which contracts see. A [`LiveWire`] sends NMT frames. Both write through an [`Outlet`],
-//! lines of can-utils or of a serial adapter; how frames come in, and what time is, a [`Port`] knows.
+//! are read behind the request; else the question is answered with silence, when its time is over. What went over
+//! the bus is kept in a log, which contracts see. A [`LiveWire`] sends NMT frames. Both write through an [`Outlet`],
+//! lines of can-utils or of a serial adapter, each by one write; how frames come in, what was read by now, and what
+//! time is, a [`Port`] knows.
 //!
 //! In a live run threads share the bus: one reads frames and gives each to whom it is for ([`Routes`]); each worker
 //! has a [`LivePort`]; and what happens is told to the one that watches the network ([`Happening`]).

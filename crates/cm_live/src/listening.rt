@@ -11,10 +11,11 @@ const FROM_SERVER: u16 = 0x580;
 const ERROR_CONTROL: u16 = 0x700;
 
 /// Which frames each worker listens to: those of one identifier, or none. The reader of the bus gives a worker no
-/// others, so that none are kept for one who doesn't ask.
+/// others, so that none are kept for one who doesn't ask. Beside that, how many bytes the reader has read.
 #[derive(Drop)]
 pub struct Listening {
     ids: Vec<AtomicU64>,
+    received: AtomicU64,
 }
 
 /// The identifier of the frames that may answer a question.
@@ -47,7 +48,20 @@ impl Listening {
         for _worker in 0..workers {
             ids.push(AtomicU64::new(0))?;
         }
-        Ok(Listening { ids })
+        Ok(Listening {
+            ids,
+            received: AtomicU64::new(0),
+        })
+    }
+
+    /// So many bytes were read by now.
+    pub(crate) fn note_received(&self, bytes: u64) {
+        self.received.store(bytes, Ordering::SeqCst);
+    }
+
+    /// How many bytes were read by now.
+    pub(crate) fn received(&self) -> u64 {
+        self.received.load(Ordering::SeqCst)
     }
 
     /// From now on the worker listens to what may answer this question to the node.

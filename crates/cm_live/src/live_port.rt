@@ -46,6 +46,10 @@ impl<R: Wait + Clock + Drop, B: BusName, W: Write + Drop> Port<B> for LivePort<R
         };
     }
 
+    fn received(&self) -> u64 {
+        self.listening.received()
+    }
+
     fn send(&mut self, frame: &CanFrame) {
         self.outlet.send(frame);
         if self.outlet.has_failed() {

@@ -1,9 +1,11 @@
-ghost use Rattle.std.specs.Prelude.{◌≡◌, false, IsFalse, IsTrue, OnOk};
-ghost use Rattle.std.specs.Io.KnownBytes.{Appends};
-ghost use Rattle.cm_live.specs.Outlets.{Writes, adapter_line, log_line};
+ghost use Rattle.std.specs.Prelude.{◌≡◌, ◌+◌, ◌≤◌, ◌++◌, false, IsFalse, IsTrue, length};
+ghost use Rattle.arrayvec.specs.ArrayVec.{array_vec_len};
+ghost use Rattle.cm_live.specs.Outlets.{IsLine, Writes, WritesFront, adapter_line, log_line};
 
+use arrayvec::ArrayVec;
 use cm_can::{CanFrame, adapter_text, frame_text};
-use std::io::{self, Write};
+use cm_recorder::put_front;
+use std::io::Write;
 
 /// In what lines frames are written.
 #[derive(Clone, Copy, Debug, PartialEq, Eq)]
@@ -14,8 +16,8 @@ pub enum Format {
     Adapter,
 }
 
-/// Where frames are written, each in a line of its own, and at once. Once a write has failed, nothing more is
-/// written.
+/// Where frames are written, each in a line of its own, by one write, and at once. Once a write has failed, nothing
+/// more is written: the first bytes of that frame's line are the last.
 #[derive(Drop)]
 pub struct Outlet<W: Write + Drop> {
     writer: W,
@@ -23,32 +25,45 @@ pub struct Outlet<W: Write + Drop> {
     failed: bool,
 }
 
-/// Writes a line of can-utils, at once.
-fn put_log_line<W: Write>(writer: &mut W, text: &[u8]) -> io::Result<()>
-    ensures { OnOk result (Appends (W.contents writer.old) (W.contents writer.new) (log_line text.now)) }
+/// Puts bytes behind those of a line.
+fn add(line: &mut ArrayVec<u8, 64>, bytes: &[u8])
+    requires { array_vec_len line.old + length bytes.now ≤ 64 }
+    ensures items { line.new.items ≡ line.old.items ++ bytes.now }
+    ensures len { array_vec_len line.new ≡ array_vec_len line.old + length bytes.now }
 {
-    writer.write_all(b"(0000000000.000000) can0 ")?;
-    writer.write_all(text)?;
-    writer.write_all(b"\n")?;
-    writer.flush()
+    let _ = line.try_extend_from_slice(bytes);
 }
 
-/// Writes a line of a serial adapter, at once.
-fn put_adapter_line<W: Write>(writer: &mut W, text: &[u8]) -> io::Result<()>
-    ensures { OnOk result (Appends (W.contents writer.old) (W.contents writer.new) (adapter_line text.now)) }
+/// A line of can-utils.
+fn log_line_of(text: &[u8]) -> ArrayVec<u8, 64>
+    requires { length text.now ≤ 32 }
+    ensures { result.items ≡ log_line text.now }
 {
-    writer.write_all(text)?;
-    writer.write_all(b"\r")?;
-    writer.flush()
+    let mut line = ArrayVec::new();
+    add(&mut line, b"(0000000000.000000) can0 ");
+    add(&mut line, text);
+    line.push(b'\n');
+    line
 }
 
-/// Writes the line of a frame.
-fn put_line<W: Write>(writer: &mut W, format: Format, frame: &CanFrame) -> io::Result<()>
-    ensures { OnOk result (Writes format frame.now (W.contents writer.old) (W.contents writer.new)) }
+/// A line of a serial adapter.
+fn adapter_line_of(text: &[u8]) -> ArrayVec<u8, 64>
+    requires { length text.now ≤ 32 }
+    ensures { result.items ≡ adapter_line text.now }
+{
+    let mut line = ArrayVec::new();
+    add(&mut line, text);
+    line.push(b'\r');
+    line
+}
+
+/// The line of a frame.
+fn line_of(format: Format, frame: &CanFrame) -> ArrayVec<u8, 64>
+    ensures { IsLine format frame.now result.items }
 {
     match format {
-        Format::CanUtils => put_log_line(writer, frame_text(frame).as_slice()),
-        Format::Adapter => put_adapter_line(writer, adapter_text(frame).as_slice()),
+        Format::CanUtils => log_line_of(frame_text(frame).as_slice()),
+        Format::Adapter => adapter_line_of(adapter_text(frame).as_slice()),
     }
 }
 
@@ -64,17 +79,20 @@ impl<W: Write + Drop> Outlet<W> {
         }
     }
 
-    /// Writes a frame, in its line.
+    /// Writes a frame, in its line. Where that fails, the first bytes of the line were written, and nothing else.
     pub fn send(&mut self, frame: &CanFrame)
         ensures written { IsFalse self.new.failed
             → Writes self.old.format frame.now (W.contents self.old.writer) (W.contents self.new.writer) }
+        ensures front { IsFalse self.old.failed
+            → WritesFront self.old.format frame.now (W.contents self.old.writer) (W.contents self.new.writer) }
         ensures stopped { IsTrue self.old.failed → self.new ≡ self.old }
         ensures format { self.new.format ≡ self.old.format }
     {
         if self.failed {
             return;
         }
-        if put_line(&mut self.writer, self.format, frame).is_err() {
+        let line = line_of(self.format, frame);
+        if !put_front(&mut self.writer, line.as_slice()) {
             self.failed = true;
         }
     }

@@ -164,7 +164,8 @@ fn take_bytes<B: BusName, R: Wait + Clock>(
     }
 }
 
-/// Reads lines of frames to the end of the input, and gives each frame to all that it is for.
+/// Reads lines of frames to the end of the input, and gives each frame to all that it is for. How many bytes were
+/// read is noted before any frame of them is given.
 fn receive_from<B: BusName, R: Wait + Clock, I: Read>(
     rt: &R,
     input: &mut I,
@@ -175,11 +176,14 @@ fn receive_from<B: BusName, R: Wait + Clock, I: Read>(
     requires left { IsLeft B.text cutter.old (I.remaining input.old) }
 {
     let mut block = [0u8; 4096];
+    let mut read = 0u64;
     for _turn in 0..MOST_READS {
         let count = match input.read(&mut block) {
             Ok(0) | Err(_) => return,
             Ok(count) => count,
         };
+        read += count as u64;
+        routes.listening.note_received(read);
         take_bytes(rt, &block[..count], cutter, routes);
     }
 }

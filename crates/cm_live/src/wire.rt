@@ -1,7 +1,7 @@
 ghost use Rattle.std.specs.Prelude.{◌≡◌, ◌+◌, ◌<◌, ◌≤◌, ◌++◌, ◌∷◌, [], false, true};
 ghost use Rattle.cm_nmt.specs.Frames.{frame_bytes};
 ghost use Rattle.cm_can.specs.Frames.{IsData};
-ghost use Rattle.cm_live.specs.Outlets.{WritesMessage, WritesMessages};
+ghost use Rattle.cm_live.specs.Outlets.{WritesMessage, WritesMessageFront, WritesMessages};
 
 use crate::bus_name::BusName;
 use crate::outlet::Outlet;
@@ -15,7 +15,7 @@ use std::sync::atomic::{AtomicBool, Ordering};
 
 /// A wire to a CAN bus: each NMT frame is written as the message with identifier 000h. The frames sent are
 /// kept, in memory that is taken before. Once a write has failed nothing more is written, and frames are kept
-/// alone. Contracts see the frames sent, the room for more, and the outlet; where no write has failed, its writer
+/// alone: the first bytes of the line of the frame that failed are the last. Contracts see the frames sent, the room for more, and the outlet; where no write has failed, its writer
 /// got just the lines of the frames sent since the wire was made.
 #[derive(Drop)]
 pub struct LiveWire<W: Write + Drop, B: BusName> {
@@ -102,6 +102,8 @@ impl<W: Write + Drop, B: BusName> Wire for LiveWire<W, B> {
         ensures room { self.old.room ≤ self.new.room + 1 }
         ensures written { self.new.failed ≡ false
             → WritesMessage B.message_format frame self.old.contents self.new.contents }
+        ensures front { self.old.failed ≡ false
+            → WritesMessageFront B.message_format frame self.old.contents self.new.contents }
         ensures stopped { self.old.failed ≡ true
             → (self.new.failed ≡ true) × (self.new.contents ≡ self.old.contents) }
     {

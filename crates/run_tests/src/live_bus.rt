@@ -13,14 +13,19 @@ use std::marker::Brand;
 use std::process::Abort;
 use std::test::Fail;
 
-/// A port that hears these frames, in order, once a question is asked.
+/// A port that hears these frames, in order, once a question is asked. So many bytes of their lines were read before.
 #[derive(Drop)]
 struct Written {
     frames: VecDeque<Received<Brand>>,
+    read: u64,
 }
 
 impl Port<Brand> for Written {
     fn listen(&mut self, _node: NodeId, _question: &Question, _wait_ms: u32) {}
+
+    fn received(&self) -> u64 {
+        self.read
+    }
 
     fn send(&mut self, _frame: &CanFrame) {}
 
@@ -48,6 +53,46 @@ fn frame_of(rt: &impl Abort, text: &str) -> CanFrame {
     read_frame(text.as_bytes()).expect(rt, "a frame")
 }
 
+/// The lines of these frames.
+fn lines_of(alloc: Global, heard: &[&str]) -> Result<Vec<u8>, AllocError> {
+    let mut lines: Vec<u8> = Vec::new(alloc);
+    for text in heard {
+        lines.extend_from_slice(b"(0.0) can0 ")?;
+        lines.extend_from_slice(text.as_bytes())?;
+        lines.push(b'\n')?;
+    }
+    Ok(lines)
+}
+
+/// What a question over a bus comes to.
+#[derive(Clone, Copy)]
+struct Outcome {
+    answer: Answer,
+    /// How many events stand in the log before the last.
+    before: usize,
+    last: Event,
+}
+
+/// Asks node 2 the question over a bus of which so many bytes were read, and which hears these lines.
+fn comes_to<R: Abort>(
+    rt: &R,
+    alloc: Global,
+    question: Question,
+    lines: &[u8],
+    read: u64,
+    outcome: Outcome,
+) -> Result<(), Fail> {
+    let frames = frames_in(alloc, lines)?;
+    let network = Network::new(alloc, node(rt, 1), Startup(1), 0);
+    let port = Written { frames, read };
+    let mut bus = LiveBus::new(alloc, &network, 300, port)?;
+    let given = bus.ask(node(rt, 2), question);
+    sure(rt, given == outcome.answer);
+    sure(rt, bus.log().len() == outcome.before.saturating_add(1));
+    sure(rt, bus.log().last().copied() == Some(outcome.last));
+    Ok(())
+}
+
 /// Asks node 2 the question over a bus that hears these frames: it gets this answer, and the log ends with this
 /// event behind so many others.
 fn is_answered<R: Abort>(
@@ -59,21 +104,13 @@ fn is_answered<R: Abort>(
     before: usize,
     last: Event,
 ) -> Result<(), Fail> {
-    let mut lines: Vec<u8> = Vec::new(alloc);
-    for text in heard {
-        lines.extend_from_slice(b"(0.0) can0 ")?;
-        lines.extend_from_slice(text.as_bytes())?;
-        lines.push(b'\n')?;
-    }
-    let frames = frames_in(alloc, lines.as_slice())?;
-    let network = Network::new(alloc, node(rt, 1), Startup(1), 0);
-    let port = Written { frames };
-    let mut bus = LiveBus::new(alloc, &network, 300, port)?;
-    let given = bus.ask(node(rt, 2), question);
-    sure(rt, given == answer);
-    sure(rt, bus.log().len() == before.saturating_add(1));
-    sure(rt, bus.log().last().copied() == Some(last));
-    Ok(())
+    let lines = lines_of(alloc, heard)?;
+    let outcome = Outcome {
+        answer,
+        before,
+        last,
+    };
+    comes_to(rt, alloc, question, lines.as_slice(), 0, outcome)
 }
 
 #[test]
@@ -195,6 +232,50 @@ fn so_many_other_frames_are_silence(rt: HostRuntime) -> Result<(), Fail> {
         Answer::Value(0x123),
         64,
         Event::Heard(frame_of(&rt, value)),
+    )
+}
+
+#[test]
+fn a_late_answer_is_none(rt: HostRuntime) -> Result<(), Fail> {
+    let late = lines_of(rt.alloc(), &["582#4318100177770000"])?;
+    let value = "582#4318100123010000";
+    let lines = lines_of(rt.alloc(), &["582#4318100177770000", value])?;
+    let read = late.len() as u64;
+    let answered = Outcome {
+        answer: Answer::Value(0x123),
+        before: 1,
+        last: Event::Heard(frame_of(&rt, value)),
+    };
+    // the first line was read before the request was sent, the second behind it
+    comes_to(
+        &rt,
+        rt.alloc(),
+        Question::Read(0x1018, 1),
+        lines.as_slice(),
+        read,
+        answered,
+    )?;
+    // of the second all but its last byte was read before
+    comes_to(
+        &rt,
+        rt.alloc(),
+        Question::Read(0x1018, 1),
+        lines.as_slice(),
+        (lines.len() as u64).saturating_sub(1),
+        answered,
+    )?;
+    // all of it was
+    comes_to(
+        &rt,
+        rt.alloc(),
+        Question::Read(0x1018, 1),
+        lines.as_slice(),
+        lines.len() as u64,
+        Outcome {
+            answer: Answer::Silent,
+            before: 2,
+            last: Event::Sent(frame_of(&rt, "602#8018100100000405")),
+        },
     )
 }
 

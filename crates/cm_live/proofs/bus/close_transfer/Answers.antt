@@ -1,7 +1,10 @@
-use Rattle.std.proofs.Common.{[], ◌∷◌, refl, inr}
+use Rattle.std.proofs.Common.{[], ◌∷◌, refl, inr, subst}
+use Rattle.std.specs.Prelude.{Option}
+use Rattle.cm_can.specs.declared.frame.CanFrame.{CanFrame}
+use Rattle.cm_live.specs.Talk.{IsAbort}
 use Rattle.cm_live.specs.declared.event.Event.TheVariants.{Sent}
 use Rattle.cm_live.proofs.bus.close_transfer.Goals as goal
 
-pub returns-in-Some-abort_of-clause-closing : goal.returns-in-Some-abort_of-clause-closing
-returns-in-Some-abort_of-clause-closing g c =
-    record { events = Sent c.in-Some-abort_of.abort ∷ []; is = inr (c.in-Some-abort_of.abort, c.in-Some-abort_of.ensures, refl); grown = c.send.ensures.log }
+pub returns-in-Some-clause-closing : goal.returns-in-Some-clause-closing
+returns-in-Some-clause-closing g c =
+    record { events = Sent c.in-Some.abort ∷ []; is = inr (c.in-Some.abort, subst (λ (last : Option CanFrame). IsAbort c.args.id c.args.question.now last c.in-Some.abort) c.frame_in.ensures c.in-Some.ensures.some, refl); grown = c.send.ensures.log }

@@ -12,4 +12,5 @@ loop-turn-preserved g c = (
   subst (λ (k : ℕ). IsLeft g.B.BusName.text k (g.I.Read.remaining c.read.new.self)) (sym c.take_bytes.ensures)
       (left_read g.B.BusName.text c.loop-turn.cutter (g.I.Read.remaining c.loop-turn.input) (g.I.Read.remaining c.read.new.self) (take c.in-Ok.count c.read.new.buf) c.loop-turn.invariant.0 c.in-Ok.ensures.bytes.0),
   omega (arith, c.loop-turn.invariant.1, c.take_bytes.ensures, length-take c.in-Ok.count c.read.new.buf, c.in-Ok.ensures.bound, c.read.auto.buf),
+  omega (arith, c.loop-turn.invariant.2, c.take_bytes.ensures, length-take c.in-Ok.count c.read.new.buf, c.in-Ok.ensures.bound, c.read.auto.buf),
 )

@@ -1,7 +1,7 @@
-use Rattle.std.proofs.Common.{◌∙◌, List, sym, subst}
+use Rattle.std.proofs.Common.{◌≡◌, ◌∙◌, List, false, ap, sym, subst}
 use Rattle.cm_nmt.specs.declared.frame.Frame.{Frame}
 use Rattle.cm_live.specs.declared.outlet.Format.{Format}
-use Rattle.cm_live.specs.Outlets.{LiveWireView, WritesMessage, WritesMessages}
+use Rattle.cm_live.specs.Outlets.{LiveWireView, WritesMessage, WritesMessageFront, WritesMessages}
 use Rattle.cm_live.proofs.Messages.{message_more, was_well}
 use Rattle.cm_live.proofs.wire.LiveWireWire.send.Goals as goal
 
@@ -22,3 +22,11 @@ returns-clause-written g c = λ h. subst (λ (v : LiveWireView). WritesMessage g
     c.self.view_is
     (subst (λ (f : Format). WritesMessage f c.args.frame (g.W.Write.contents c.self.inside.outlet.writer) (g.W.Write.contents c.send.new.self.writer)) c.self.invariant.0
     (c.message_of.result, c.message_of.ensures, c.send.ensures.written h))
+
+pub returns-clause-front : goal.returns-clause-front
+returns-clause-front g c = λ h.
+    let contents = g.W.Write.contents c.send.new.self.writer in
+    let well : c.self.inside.outlet.failed ≡ false = ap (λ (v : LiveWireView). v.failed) c.self.view_is ∙ h in
+    subst (λ (v : LiveWireView). WritesMessageFront g.B.BusName.message_format c.args.frame v.contents contents) c.self.view_is
+    (subst (λ (f : Format). WritesMessageFront f c.args.frame (g.W.Write.contents c.self.inside.outlet.writer) contents) c.self.invariant.0
+    (c.message_of.result, c.message_of.ensures, c.send.ensures.front well))
