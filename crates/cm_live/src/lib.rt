@@ -5,8 +5,9 @@
 //! bus is kept in a log, which contracts see. A [`LiveWire`] sends NMT frames. Both write through an [`Outlet`],
 //! lines of can-utils or of a serial adapter; how frames come in, and what time is, a [`Port`] knows.
 //!
-//! In a live run threads share the bus: one reads frames and gives each to whom it is for ([`Routes`]); each worker
-//! has a [`LivePort`]; and what happens is told to the one that watches the network ([`Happening`]).
+//! In a live run threads share the bus: one reads frames and gives each to whom it is for ([`Routes`]); one reads what
+//! the operator types, and sends it line by line ([`TypedSource`]); each worker has a [`LivePort`]; and what happens is
+//! told to the one that watches the network ([`Happening`]).
 #![tactic(auto)]
 
 mod announcing;
@@ -15,6 +16,7 @@ mod bus_name;
 mod event;
 mod happening;
 mod heartbeats;
+mod line_counter;
 mod line_cutter;
 mod listening;
 mod live_port;
@@ -22,6 +24,8 @@ mod outlet;
 mod port;
 mod received;
 mod receiving;
+mod typed_line;
+mod typing;
 mod wire;
 
 pub use announcing::Announcing;
@@ -37,4 +41,6 @@ pub use outlet::{Format, Outlet};
 pub use port::Port;
 pub use received::Received;
 pub use receiving::{FrameCutter, Routes, Source};
+pub use typed_line::TypedLine;
+pub use typing::{TypedCutter, TypedRoute, TypedSource};
 pub use wire::LiveWire;
