@@ -3,6 +3,8 @@ pub mod ReceivedRounds
 pub mod Starts
 pub mod StartsOfAll
 pub mod Lists
+pub mod Operated
+pub mod Requests
 pub mod Fresh
 pub mod Attempts
 pub mod Begins

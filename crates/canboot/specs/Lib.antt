@@ -3,4 +3,5 @@ pub mod Causes
 pub mod Program
 pub mod Typing
 pub mod Heard
+pub mod Operated
 pub use Rattle.canboot_check.specs.Check

@@ -10,7 +10,7 @@ use std::marker::Model;
 use std::sync::Wait;
 
 /// A worker's seat with its bus. Each report of the seat has its answers among the frames that the bus has heard, in
-/// their order. Contracts see the seat.
+/// their order, and it makes no request. Contracts see the seat.
 #[derive(Drop)]
 pub struct Booth<'n, K: RunName, B: BusName, P: Port<B>> {
     seat: Seat<K>,
@@ -20,12 +20,14 @@ pub struct Booth<'n, K: RunName, B: BusName, P: Port<B>> {
 impl<'n, K: RunName, B: BusName, P: Port<B>> Model for Booth<'n, K, B, P> {
     ghost use Rattle.cm_seat.specs.Views.{SeatView};
     ghost use Rattle.cm_live.specs.Receiving.{AreReceived};
+    ghost use Rattle.canboot.specs.Typing.{NoRequests};
 
     ghost Value = { SeatView };
 
     ghost view = { λ w. w.seat };
 
-    ghost invariant = { λ w. AreReceived B.format B.text K.net w.seat.list 0 w.bus.heard };
+    ghost invariant = { λ w. AreReceived B.format B.text K.net w.seat.list 0 w.bus.heard
+        × NoRequests w.seat.list };
 }
 
 impl<'n, K: RunName, B: BusName, P: Port<B>> Booth<'n, K, B, P> {

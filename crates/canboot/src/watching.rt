@@ -1,13 +1,13 @@
 //! How a live run watches its network: which calls it makes when what happens, and what it says of it.
 
-ghost use Rattle.cm_live.specs.Receiving.{IsNoReport};
+ghost use Rattle.canboot.specs.Typing.{IsOfWatch};
 
-use crate::heard_seat::HeardSeat;
 use crate::live_register::LiveRegister;
+use crate::operator_seat::OperatorSeat;
 use crate::progress::signal_words;
 use crate::watched::{Watched, Watching, slaves_of};
 use cm_history::{Call, Phase, Reply};
-use cm_live::{BusName, Happening, Heartbeats, Tried};
+use cm_live::{BusName, Happening, Heartbeats, Tried, TypedLine};
 use cm_nmt::NodeId;
 use cm_register::{CallFault, Receipt, RunName};
 use crossbeam_channel::{Receiver, Sender};
@@ -44,7 +44,9 @@ pub(crate) struct Watcher<
 > {
     pub(crate) rt: &'w R,
     pub(crate) register: &'w M,
-    pub(crate) operator: HeardSeat<K, B>,
+    pub(crate) operator: OperatorSeat<K, B>,
+    /// The lines that the operator types.
+    pub(crate) typed: Receiver<TypedLine<B>>,
     slaves: Vec<Watched>,
     /// The slaves that each worker is to boot.
     jobs: Vec<Sender<NodeId>>,
@@ -83,6 +85,7 @@ impl<'w, R: Wait + Clock + Drop, K: RunName, B: BusName, M: LiveRegister<K, R>> 
             rt,
             register,
             operator,
+            typed,
             jobs,
             heartbeats,
             broken,
@@ -95,6 +98,7 @@ impl<'w, R: Wait + Clock + Drop, K: RunName, B: BusName, M: LiveRegister<K, R>> 
             rt,
             register,
             operator,
+            typed,
             slaves,
             jobs,
             heartbeats,
@@ -112,7 +116,7 @@ impl<'w, R: Wait + Clock + Drop, K: RunName, B: BusName, M: LiveRegister<K, R>> 
     }
 
     /// The operator's seat, once nothing is watched any more.
-    pub(crate) fn into_operator(self) -> HeardSeat<K, B> {
+    pub(crate) fn into_operator(self) -> OperatorSeat<K, B> {
         let Watcher { operator, .. } = self;
         operator
     }
@@ -126,7 +130,7 @@ impl<'w, R: Wait + Clock + Drop, K: RunName, B: BusName, M: LiveRegister<K, R>> 
     }
 
     pub(crate) fn call(&mut self, call: Call) -> Result<Receipt, Ending>
-        requires { IsNoReport call }
+        requires { IsOfWatch call }
     {
         match self.operator.call(self.rt, self.register, call) {
             Ok(receipt) => Ok(receipt),
@@ -281,7 +285,7 @@ impl<'w, R: Wait + Clock + Drop, K: RunName, B: BusName, M: LiveRegister<K, R>> 
             }
             Happening::Ended(id, tried) => self.end(id, tried, now),
             Happening::Told(id, byte) => self.hear(err, id, byte),
-            Happening::Typed(line) => self.obey(alloc, err, line.as_str(), now),
+            Happening::Typed => self.obey_next(alloc, err, now),
             Happening::NoMoreTyped => {
                 self.ends_at = Some(now.saturating_add(self.rest_ms));
                 Ok(())

@@ -1,6 +1,0 @@
-use Rattle.canboot.proofs.ReceivedRounds.{called}
-use Rattle.canboot.proofs.heard_seat.HeardSeat.call.Goals as goal
-
-pub invariant_of-self : goal.invariant_of-self
-invariant_of-self g c =
-    called g.B.BusName.format g.B.BusName.text g.K.HistoryName.net c.call.result c.self.inside.seat c.call.new.seat c.args.call c.requires c.call.ensures.seat c.call.ensures.same c.self.invariant
