@@ -49,7 +49,7 @@ module _ (P : ℕ → List Made → Type 0) where
       let rest = seat_list h ss (All-tail (λ (t : SeatView). t.list ≡ calls_of h t.number) s ss a) (All-tail IsOf s ss r) seat in
       elim (cases_eq seat s.number) [
         | inl same ↦
-          inr (subst (λ (n : ℕ). P n (calls_of h n)) (sym same) (subst (λ (l : List Made). P s.number l) list (All-head IsOf s ss r)))
+            inr (subst (λ (n : ℕ). P n (calls_of h n)) (sym same) (subst (λ (l : List Made). P s.number l) list (All-head IsOf s ss r)))
         | inr other ↦ elim rest [
           | inl none ↦ inl (omega (arith, ap {B = ℕ} (λ (b : Bool). if b then 1 else 0) (ne_eqb seat s.number other), none))
           | inr k ↦ inr k

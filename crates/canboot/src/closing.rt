@@ -16,6 +16,13 @@ use cm_nmt::Wire;
 use cm_register::{Closed, Recorder, Register, RunName, Seat};
 use std::alloc::{AllocError, Global};
 
+/// The seats of all who make calls in a live run.
+#[derive(Drop)]
+pub(crate) struct Crew<K: RunName, B: BusName> {
+    pub(crate) operator: OperatorSeat<K, B>,
+    pub(crate) workers: Vec<HeardSeat<K, B>>,
+}
+
 /// The workers' seats themselves.
 fn plain_seats<K: RunName, B: BusName>(
     alloc: Global,
@@ -34,14 +41,14 @@ fn plain_seats<K: RunName, B: BusName>(
 /// The seats themselves, the operator's behind those of the workers.
 fn all_seats<K: RunName, B: BusName>(
     alloc: Global,
-    operator: OperatorSeat<K, B>,
-    seats: Vec<HeardSeat<K, B>>,
+    crew: Crew<K, B>,
 ) -> Result<Vec<Seat<K>>, AllocError>
     ensures received { IfOk result (λ v. All (λ s. IsReceivedList B.format B.text K.net s.list) v.items) }
     ensures others { IfOk result (λ v. All (λ s. RequestsIfOperator s) v.items) }
     ensures operator { IfOk result (λ v. EndsWithOperator B.typed v.items) }
 {
-    let mut plain = plain_seats(alloc, seats)?;
+    let Crew { operator, workers } = crew;
+    let mut plain = plain_seats(alloc, workers)?;
     let (operator, _) = operator.into_seat();
     plain.push(operator)?;
     Ok(plain)
@@ -54,8 +61,7 @@ fn all_seats<K: RunName, B: BusName>(
 pub(crate) fn close_heard<'n, W: Wire, K: RunName, B: BusName, J: Recorder>(
     alloc: Global,
     register: Register<'n, W, K, J>,
-    operator: OperatorSeat<K, B>,
-    seats: Vec<HeardSeat<K, B>>,
+    crew: Crew<K, B>,
 ) -> Result<(Closed<W>, J), Register<'n, W, K, J>>
     ensures history { IfOk result
         (λ c. IsHistory (listing K.net) K.seats K.limit c.0.history.items) }
@@ -67,7 +73,7 @@ pub(crate) fn close_heard<'n, W: Wire, K: RunName, B: BusName, J: Recorder>(
     ensures heard { IfOk result (λ c. IsAllHeard B.format B.text K.net c.0.history.items) }
     ensures operated { IfOk result (λ c. IsOperatedLive B.typed c.0.history.items) }
 {
-    let Ok(plain) = all_seats(alloc, operator, seats) else {
+    let Ok(plain) = all_seats(alloc, crew) else {
         return Err(register);
     };
     match register.close_recorded(plain) {

@@ -1,4 +1,4 @@
-//! What the watcher of a live run says of its workers' calls, and what it does for its operator.
+//! What the watcher of a live run says of its workers' calls and of its journal, and what it does for its operator.
 
 ghost use Rattle.canboot.specs.Typing.{IsOfWatch};
 
@@ -15,6 +15,7 @@ use cm_sequential::Manager;
 use std::alloc::Global;
 use std::io::Write;
 use std::sync::Wait;
+use std::sync::atomic::Ordering;
 use std::time::Clock;
 
 /// The target of a request to all nodes.
@@ -89,6 +90,15 @@ impl<'w, R: Wait + Clock + Drop, K: RunName, B: BusName, M: LiveRegister<K, R>> 
             is_started: self.is_started(id, status),
         };
         let _ = writeln!(err, "{judged}");
+    }
+
+    /// Says once that a line of the journal couldn't be written.
+    pub(crate) fn tell_unrecorded<E: Write>(&mut self, err: &mut E) {
+        if self.is_unrecorded_told || !self.unrecorded.load(Ordering::SeqCst) {
+            return;
+        }
+        self.is_unrecorded_told = true;
+        let _ = writeln!(err, "journal: write failed; what follows isn't recorded");
     }
 
     /// What a request of the operator does to the slaves, once it was granted.

@@ -28,8 +28,8 @@ fn read_request(line: &[u8]) -> Option<(u8, u8)>
     Some((target, value))
 }
 
-/// The operator's seat, which has started the network. Its requests are those that were typed, in their order, and it makes no
-/// report. Contracts see the seat.
+/// The operator's seat, which has started the network. Its requests are those that were typed, in their order, and it
+/// makes no report. Contracts see the seat.
 #[derive(Drop)]
 pub struct OperatorSeat<K: RunName, B: BusName> {
     seat: Seat<K>,
@@ -88,8 +88,8 @@ impl<K: RunName, B: BusName> OperatorSeat<K, B> {
         register.call(rt, &mut self.seat, call)
     }
 
-    /// Makes the request that a typed line spells. There is no receipt where it spells another, or where it doesn't stand behind
-    /// the line of the last request; this never comes, though no clause says so.
+    /// Makes the request that a typed line spells. There is no receipt where it spells another, or where it doesn't stand
+    /// behind the line of the last request; this never comes, though no clause says so.
     pub fn request<R: Wait, M: SharedManager<K, R>>(
         &mut self,
         rt: &R,

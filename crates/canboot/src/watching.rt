@@ -53,7 +53,7 @@ pub(crate) struct Watcher<
     heartbeats: Arc<Heartbeats>,
     broken: Arc<AtomicBool>,
     /// Set once a line of the journal couldn't be written.
-    unrecorded: Arc<AtomicBool>,
+    pub(crate) unrecorded: Arc<AtomicBool>,
     start: Instant,
     pub(crate) settle_ms: u64,
     /// How long the run goes on behind the end of what the operator types, in ms.
@@ -65,7 +65,7 @@ pub(crate) struct Watcher<
     /// The time was told with which the network was ready, or all slaves were tried.
     is_end_told: bool,
     /// It was told that a line of the journal couldn't be written.
-    is_unrecorded_told: bool,
+    pub(crate) is_unrecorded_told: bool,
 }
 
 impl<'w, R: Wait + Clock + Drop, K: RunName, B: BusName, M: LiveRegister<K, R>> Watcher<
@@ -335,9 +335,7 @@ impl<'w, R: Wait + Clock + Drop, K: RunName, B: BusName, M: LiveRegister<K, R>> 
 
     /// Says where the network has become ready, or was halted; a network that is ready is told the time.
     fn tell_phase<E: Write>(&mut self, err: &mut E, now: u64) -> Result<(), Ending> {
-        let phase = self
-            .manager()
-            .map_or(self.phase, |manager| manager.phase());
+        let phase = self.manager().map_or(self.phase, |manager| manager.phase());
         if phase == self.phase {
             return Ok(());
         }
@@ -350,15 +348,6 @@ impl<'w, R: Wait + Clock + Drop, K: RunName, B: BusName, M: LiveRegister<K, R>> 
         }
         let _ = writeln!(err, "network ready");
         self.tell_elapsed(now)
-    }
-
-    /// Says once that a line of the journal couldn't be written.
-    fn tell_unrecorded<E: Write>(&mut self, err: &mut E) {
-        if self.is_unrecorded_told || !self.unrecorded.load(Ordering::SeqCst) {
-            return;
-        }
-        self.is_unrecorded_told = true;
-        let _ = writeln!(err, "journal: write failed; what follows isn't recorded");
     }
 
     /// One turn: takes what happens next, if something does in time, and then looks at the time.
