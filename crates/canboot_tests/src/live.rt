@@ -358,7 +358,7 @@ fn a_network_is_booted_on_a_bus(rt: HostRuntime) -> Result<(), Fail> {
         &rt,
         rt.alloc(),
         126,
-        b"read 5\nnonsense\nquit\n",
+        b"read 5\nrequest 3 5\nrequest 3 05\nnonsense\nquit\n",
         100_000,
         100_000,
     )?;
@@ -373,6 +373,8 @@ fn a_network_is_booted_on_a_bus(rt: HostRuntime) -> Result<(), Fail> {
     assert!(&rt; has(printed.out.as_slice(), b"\nopen 0\nframe 82 00\n"));
     // The last ones may be told no more, where the operator ends the run.
     assert!(&rt; has(printed.err.as_slice(), b"node 1: status Ok, started\n"));
+    assert!(&rt; has(printed.err.as_slice(), b" done\n"));
+    assert!(&rt; has(printed.err.as_slice(), b"bad line: a number is"));
     assert!(&rt; has(printed.err.as_slice(), b"bad line: no such word"));
     Ok(())
 }
