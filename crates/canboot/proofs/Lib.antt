@@ -4,6 +4,8 @@ pub mod Starts
 pub mod StartsOfAll
 pub mod Workers
 pub mod Lists
+pub mod Operated
+pub mod Requests
 pub mod Fresh
 pub mod Attempts
 pub mod Begins

@@ -38,31 +38,32 @@ no_calls seat n (x ∷ h) ss a all none =
     ap (λ (b : Bool). if b then made (n + 1) x.call x.reply ∷ calls_behind seat (n + 1) h else calls_behind seat (n + 1) h) other
     ∙ no_calls seat (n + 1) h ss a (omega (arith, all, parts, few, rest)) none
 
--- ---- what the lists of the seats have, the calls of any number have
+-- ---- what holds of each seat's number and list, and of no calls, holds of each number and its calls
 
-module _ (P : ℕ → List Made → Type 0) (empty : (k : ℕ) → P k []) where
-  abbrev Has : SeatView → Type 0
-  Has s = P s.number s.list
+module _ (P : ℕ → List Made → Type 0) where
+  abbrev IsOf : SeatView → Type 0
+  IsOf s = P s.number s.list
 
-  of_seat : (h : List Entry) (ss : List SeatView) → HaveTheirCalls h ss → All Has ss → (seat : ℕ) → (hits seat ss ≡ 0) ⊎ P seat (calls_of h seat)
-  of_seat h [] a r seat = inl refl
-  of_seat h (s ∷ ss) a r seat =
+  seat_list : (h : List Entry) (ss : List SeatView) → HaveTheirCalls h ss → All IsOf ss → (seat : ℕ) → (hits seat ss ≡ 0) ⊎ P seat (calls_of h seat)
+  seat_list h [] a r seat = inl refl
+  seat_list h (s ∷ ss) a r seat =
       let list = All-head (λ (t : SeatView). t.list ≡ calls_of h t.number) s ss a in
-      let rest = of_seat h ss (All-tail (λ (t : SeatView). t.list ≡ calls_of h t.number) s ss a) (All-tail Has s ss r) seat in
+      let rest = seat_list h ss (All-tail (λ (t : SeatView). t.list ≡ calls_of h t.number) s ss a) (All-tail IsOf s ss r) seat in
       elim (cases_eq seat s.number) [
-        | inl same ↦ inr (subst (λ (k : ℕ). P k (calls_of h k)) (sym same) (subst (P s.number) list (All-head Has s ss r)))
+        | inl same ↦
+            inr (subst (λ (n : ℕ). P n (calls_of h n)) (sym same) (subst (λ (l : List Made). P s.number l) list (All-head IsOf s ss r)))
         | inr other ↦ elim rest [
           | inl none ↦ inl (omega (arith, ap {B = ℕ} (λ (b : Bool). if b then 1 else 0) (ne_eqb seat s.number other), none))
           | inr k ↦ inr k
         ]
       ]
 
-  either : (h : List Entry) (ss : List SeatView) (seat : ℕ) → AreApart ss → counts 0 h ss ≡ length h → (hits seat ss ≡ 0) ⊎ P seat (calls_of h seat) → P seat (calls_of h seat)
-  either h ss seat a all (inl none) = subst (P seat) (sym (no_calls seat 0 h ss a all none)) (empty seat)
-  either h ss seat a all (inr k) = k
+  either : (h : List Entry) (ss : List SeatView) (seat : ℕ) → AreApart ss → counts 0 h ss ≡ length h → P seat [] → (hits seat ss ≡ 0) ⊎ P seat (calls_of h seat) → P seat (calls_of h seat)
+  either h ss seat a all nothing (inl none) = subst (λ (l : List Made). P seat l) (sym (no_calls seat 0 h ss a all none)) nothing
+  either h ss seat a all nothing (inr k) = k
 
-  pub calls_have : (h : List Entry) (ss : List SeatView) → HaveTheirCalls h ss → AreApart ss → count_calls ss ≡ length h → All Has ss → (seat : ℕ) → P seat (calls_of h seat)
-  calls_have h ss a apart total r seat = either h ss seat apart (sym (all_counts h ss a) ∙ total) (of_seat h ss a r seat)
+  pub each_list : (h : List Entry) (ss : List SeatView) → HaveTheirCalls h ss → AreApart ss → count_calls ss ≡ length h → All IsOf ss → ((seat : ℕ) → P seat []) → (seat : ℕ) → P seat (calls_of h seat)
+  each_list h ss a apart total r nothing seat = either h ss seat apart (sym (all_counts h ss a) ∙ total) (nothing seat) (seat_list h ss a r seat)
 
 module _ (format : Format) (text : Option (List ℕ)) (net : Network) where
   abbrev pub IsOfReceived : SeatView → Type 0
@@ -72,11 +73,11 @@ module _ (format : Format) (text : Option (List ℕ)) (net : Network) where
       → AtEach (BecomesOperationalRightly (listing net)) (reverse h) → IsAllHeard format text net seats h
   all_heard seats h ss a apart total r own rightly operational =
       let lists : (seat : ℕ) → IsReceivedList format text net (calls_of h seat) =
-      calls_have (λ k list. IsReceivedList format text net list) (λ k. (0, fresh_received format text net [] refl 0)) h ss a apart total r in
+      each_list (λ n l. IsReceivedList format text net l) h ss a apart total r (λ n. (0, fresh_received format text net [] refl 0)) in
       let each = each_received format text net 0 h (λ seat. (0, (lists seat).0, (lists seat).1)) in
       record {
         starts = λ seat. starts_heard format text net seat 0 h 0 (lists seat).0 rightly (lists seat).1;
         all = starts_of_all format text net (reverse h) (reversed_received format text net h each) operational;
         reports = lists;
-        workers = each_own net seats 0 h (calls_have (λ k list. AreOfItsSeat net seats k list) (λ k. none_own net seats k) h ss a apart total own);
+        workers = each_own net seats 0 h (each_list (λ n l. AreOfItsSeat net seats n l) h ss a apart total own (λ n. none_own net seats n));
       }

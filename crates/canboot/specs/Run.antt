@@ -16,6 +16,7 @@ use Rattle.cm_format.specs.Unended.{unended_text}
 pub use Rattle.cm_recording.specs.Recorded.{AppendsIfThere, IsWritten}
 use Rattle.canboot_check.specs.Check.{IsFaultyText, IsList}
 use Rattle.canboot.specs.Heard.{IsAllHeard}
+use Rattle.canboot.specs.Operated.{IsOperatedLive}
 use Rattle.cm_live.specs.declared.outlet.Format.{Format}
 
 -- the input was read to its end and is the network list of this journal, which is of version 2, whose entries are legal,
@@ -78,16 +79,18 @@ abbrev pub KeptOrBegins : {A : Type 0} → Network → ℕ → ℕ → (A → Op
 KeptOrBegins net seats limit contents journal journal' failed Sends =
     ((journal' ≡ journal) × Sends []) ⊎ Begins net seats limit (contents journal) (contents journal') (failed journal') Sends
 
-module _ {W : Type 0} (contents : W → Option (List ℕ)) (format : Format) (received : Option (List ℕ)) where
+module _ {W : Type 0} (contents : W → Option (List ℕ)) (format : Format) (received typed : Option (List ℕ)) where
   -- a live run that ended in order: of the legal history of a journal of the list just the report was written, to the
   -- journal's output, if there is one, just the text of that journal, and to the outlet of messages, of which no write has
-  -- failed, just the lines of that history's frames; and in it each report whose orders start a slave has the slave's identity
-  -- among the frames that stand in what the reader of received frames held
+  -- failed, just the lines of that history's frames; in it each report whose orders start a slave has the slave's identity
+  -- among the frames that stand in what the reader of received frames held; and each request in it is one of seat 1, which has
+  -- started the network, and stands as a line in what the reader of typed lines held, in their order
   pub record RunsLive (workers limit : ℕ) (input input' output output' : Option (List ℕ)) (journal journal' : Option (Option (List ℕ)))
       (messages messages' : Option (Outlet W)) : Type 0 where
     pub of : JournalView
     pub run : IsRun workers limit input input' of
     pub heard : IsAllHeard format received of.network of.seats of.entries
+    pub operated : IsOperatedLive typed of.entries
     pub reported : Appends output output' (report_text of.network of.entries)
     pub recorded : AppendsIfThere journal journal' (text of)
     pub sent : SendsMessages contents (frames_in (listing of.network) of.entries) messages messages'
@@ -95,12 +98,12 @@ module _ {W : Type 0} (contents : W → Option (List ℕ)) (format : Format) (re
 
   -- of the journal of a live run, whose history is legal, the beginning of the text was written to its output, if there is one,
   -- and all of it where no write has failed, but for its last line where the history isn't closed; where it is, the identity
-  -- of each slave that a report started was heard so; and just the frames of this history were sent
+  -- of each slave that a report started was heard so, and each request was typed so; and just the frames of this history were sent
   pub record RecordsLive (workers limit : ℕ) (input input' : Option (List ℕ)) (journal journal' : Option (Option (List ℕ))) (failed : Bool)
       (messages messages' : Option (Outlet W)) : Type 0 where
     pub of : JournalView
     pub run : IsRun workers limit input input' of
-    pub recorded : (IsWritten journal journal' failed (text of) × IsAllHeard format received of.network of.seats of.entries)
+    pub recorded : (IsWritten journal journal' failed (text of) × IsAllHeard format received of.network of.seats of.entries × IsOperatedLive typed of.entries)
         ⊎ IsWritten journal journal' failed (unended_text of)
     pub sent : SendsMessages contents (frames_in (listing of.network) of.entries) messages messages'
 

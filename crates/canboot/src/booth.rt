@@ -11,7 +11,7 @@ use std::marker::Model;
 use std::sync::Wait;
 
 /// A worker's seat with its bus. Each report of the seat has its answers among the frames that the bus has heard, in
-/// their order, and is on a slave of this worker. Contracts see the seat.
+/// their order, and is on a slave of this worker; it makes no request. Contracts see the seat.
 #[derive(Drop)]
 pub struct Booth<'n, K: RunName, B: BusName, P: Port<B>> {
     seat: Seat<K>,
@@ -24,6 +24,7 @@ impl<'n, K: RunName, B: BusName, P: Port<B>> Model for Booth<'n, K, B, P> {
     ghost use Rattle.std.specs.Prelude.{◌≡◌, ◌+◌, ◌≤◌};
     ghost use Rattle.cm_seat.specs.Views.{SeatView};
     ghost use Rattle.cm_live.specs.Receiving.{AreReceived};
+    ghost use Rattle.canboot.specs.Typing.{NoRequests};
     ghost use Rattle.canboot.specs.Workers.{AreOfItsSeat};
 
     ghost Value = { SeatView };
@@ -31,7 +32,7 @@ impl<'n, K: RunName, B: BusName, P: Port<B>> Model for Booth<'n, K, B, P> {
     ghost view = { λ w. w.seat };
 
     ghost invariant = { λ w. AreReceived B.format B.text K.net w.seat.list 0 w.bus.heard
-        × AreOfItsSeat K.net K.seats w.seat.number w.seat.list
+        × NoRequests w.seat.list × AreOfItsSeat K.net K.seats w.seat.number w.seat.list
         × (1 ≤ w.workers) × (w.workers + 1 ≡ K.seats) };
 }
 

@@ -15,6 +15,7 @@ mod live_team;
 mod live_threads;
 mod opening;
 mod operating;
+mod operator_seat;
 mod program;
 mod progress;
 mod rounds;

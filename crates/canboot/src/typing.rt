@@ -9,8 +9,10 @@ use cm_nmt::NodeId;
 /// What a line of an operator asks for.
 #[derive(Clone, Copy, Debug, PartialEq)]
 pub(crate) enum Command {
-    /// This call is to be made.
+    /// This call is to be made; it is no request.
     Make(Call),
+    /// A request of this target and value is to be made.
+    Request(u8, u8),
     /// The report of what has happened so far.
     Status,
     /// What there is to type.
@@ -76,7 +78,7 @@ fn call_of(word: &str, first: Option<&str>, second: Option<&str>) -> Result<Comm
 {
     let call = match (word, first, second) {
         ("request", Some(target), Some(value)) => {
-            Call::Request(number_of(target)?, number_of(value)?)
+            return Ok(Command::Request(number_of(target)?, number_of(value)?));
         }
         ("read", Some(target), None) => Call::Read(number_of(target)?),
         ("hold", Some(node), None) => Call::Hold(node_of(node)?),

@@ -1,12 +1,12 @@
 //! What a live run is watched with, and what it knows of its slaves.
 
-use crate::heard_seat::HeardSeat;
 use crate::live_register::LiveRegister;
-use cm_live::{BusName, Heartbeats};
+use crate::operator_seat::OperatorSeat;
+use cm_live::{BusName, Heartbeats, TypedLine};
 use cm_netlist::Network;
 use cm_nmt::NodeId;
 use cm_register::RunName;
-use crossbeam_channel::Sender;
+use crossbeam_channel::{Receiver, Sender};
 use std::alloc::{AllocError, Global};
 use std::sync::atomic::AtomicBool;
 use std::sync::{Arc, Wait};
@@ -23,7 +23,8 @@ pub(crate) struct Watching<
 > {
     pub(crate) rt: &'w R,
     pub(crate) register: &'w M,
-    pub(crate) operator: HeardSeat<K, B>,
+    pub(crate) operator: OperatorSeat<K, B>,
+    pub(crate) typed: Receiver<TypedLine<B>>,
     pub(crate) jobs: Vec<Sender<NodeId>>,
     pub(crate) heartbeats: Arc<Heartbeats>,
     pub(crate) broken: Arc<AtomicBool>,

@@ -1,13 +1,13 @@
 //! How a live run watches its network: which calls it makes when what happens, and what it says of it.
 
-ghost use Rattle.cm_live.specs.Receiving.{IsNoReport};
+ghost use Rattle.canboot.specs.Typing.{IsOfWatch};
 
-use crate::heard_seat::HeardSeat;
 use crate::live_register::LiveRegister;
+use crate::operator_seat::OperatorSeat;
 use crate::progress::signal_words;
 use crate::watched::{Watched, Watching, slaves_of};
 use cm_history::{Call, Phase, Reply};
-use cm_live::{BusName, Happening, Heartbeats, Tried};
+use cm_live::{BusName, Happening, Heartbeats, Tried, TypedLine};
 use cm_nmt::NodeId;
 use cm_register::{CallFault, Receipt, RunName};
 use crossbeam_channel::{Receiver, Sender};
@@ -44,14 +44,16 @@ pub(crate) struct Watcher<
 > {
     pub(crate) rt: &'w R,
     pub(crate) register: &'w M,
-    pub(crate) operator: HeardSeat<K, B>,
+    pub(crate) operator: OperatorSeat<K, B>,
+    /// The lines that the operator types.
+    pub(crate) typed: Receiver<TypedLine<B>>,
     slaves: Vec<Watched>,
     /// The slaves that each worker is to boot.
     jobs: Vec<Sender<NodeId>>,
     heartbeats: Arc<Heartbeats>,
     broken: Arc<AtomicBool>,
     /// Set once a line of the journal couldn't be written.
-    unrecorded: Arc<AtomicBool>,
+    pub(crate) unrecorded: Arc<AtomicBool>,
     start: Instant,
     pub(crate) settle_ms: u64,
     /// How long the run goes on behind the end of what the operator types, in ms.
@@ -63,7 +65,7 @@ pub(crate) struct Watcher<
     /// The time was told with which the network was ready, or all slaves were tried.
     is_end_told: bool,
     /// It was told that a line of the journal couldn't be written.
-    is_unrecorded_told: bool,
+    pub(crate) is_unrecorded_told: bool,
 }
 
 impl<'w, R: Wait + Clock + Drop, K: RunName, B: BusName, M: LiveRegister<K, R>> Watcher<
@@ -83,6 +85,7 @@ impl<'w, R: Wait + Clock + Drop, K: RunName, B: BusName, M: LiveRegister<K, R>> 
             rt,
             register,
             operator,
+            typed,
             jobs,
             heartbeats,
             broken,
@@ -95,6 +98,7 @@ impl<'w, R: Wait + Clock + Drop, K: RunName, B: BusName, M: LiveRegister<K, R>> 
             rt,
             register,
             operator,
+            typed,
             slaves,
             jobs,
             heartbeats,
@@ -112,7 +116,7 @@ impl<'w, R: Wait + Clock + Drop, K: RunName, B: BusName, M: LiveRegister<K, R>> 
     }
 
     /// The operator's seat, once nothing is watched any more.
-    pub(crate) fn into_operator(self) -> HeardSeat<K, B> {
+    pub(crate) fn into_operator(self) -> OperatorSeat<K, B> {
         let Watcher { operator, .. } = self;
         operator
     }
@@ -126,7 +130,7 @@ impl<'w, R: Wait + Clock + Drop, K: RunName, B: BusName, M: LiveRegister<K, R>> 
     }
 
     pub(crate) fn call(&mut self, call: Call) -> Result<Receipt, Ending>
-        requires { IsNoReport call }
+        requires { IsOfWatch call }
     {
         match self.operator.call(self.rt, self.register, call) {
             Ok(receipt) => Ok(receipt),
@@ -281,7 +285,7 @@ impl<'w, R: Wait + Clock + Drop, K: RunName, B: BusName, M: LiveRegister<K, R>> 
             }
             Happening::Ended(id, tried) => self.end(id, tried, now),
             Happening::Told(id, byte) => self.hear(err, id, byte),
-            Happening::Typed(line) => self.obey(alloc, err, line.as_str(), now),
+            Happening::Typed => self.obey_next(alloc, err, now),
             Happening::NoMoreTyped => {
                 self.ends_at = Some(now.saturating_add(self.rest_ms));
                 Ok(())
@@ -331,9 +335,7 @@ impl<'w, R: Wait + Clock + Drop, K: RunName, B: BusName, M: LiveRegister<K, R>> 
 
     /// Says where the network has become ready, or was halted; a network that is ready is told the time.
     fn tell_phase<E: Write>(&mut self, err: &mut E, now: u64) -> Result<(), Ending> {
-        let phase = self
-            .manager()
-            .map_or(self.phase, |manager| manager.phase());
+        let phase = self.manager().map_or(self.phase, |manager| manager.phase());
         if phase == self.phase {
             return Ok(());
         }
@@ -346,15 +348,6 @@ impl<'w, R: Wait + Clock + Drop, K: RunName, B: BusName, M: LiveRegister<K, R>> 
         }
         let _ = writeln!(err, "network ready");
         self.tell_elapsed(now)
-    }
-
-    /// Says once that a line of the journal couldn't be written.
-    fn tell_unrecorded<E: Write>(&mut self, err: &mut E) {
-        if self.is_unrecorded_told || !self.unrecorded.load(Ordering::SeqCst) {
-            return;
-        }
-        self.is_unrecorded_told = true;
-        let _ = writeln!(err, "journal: write failed; what follows isn't recorded");
     }
 
     /// One turn: takes what happens next, if something does in time, and then looks at the time.

@@ -18,7 +18,7 @@ fn has(text: &[u8], part: &[u8]) -> bool {
 
 #[test]
 fn a_network_is_booted_on_a_bus(rt: HostRuntime) -> Result<(), Fail> {
-    let bus = bus_of(&rt, rt.alloc(), 126, b"read 5\nnonsense\nquit\n", ALL)?;
+    let bus = bus_of(&rt, rt.alloc(), 126, b"read 5\nrequest 3 5\nrequest 3 05\nnonsense\nquit\n", ALL)?;
     let printed = lives(&rt, rt.alloc(), bus)?;
     assert_eq!(&rt; printed.status, 0);
     assert!(&rt;
@@ -30,6 +30,8 @@ fn a_network_is_booted_on_a_bus(rt: HostRuntime) -> Result<(), Fail> {
     assert!(&rt; has(printed.out.as_slice(), b"\nopen 0\nframe 82 00\n"));
     // The last ones may be told no more, where the operator ends the run.
     assert!(&rt; has(printed.err.as_slice(), b"node 1: status Ok, started\n"));
+    assert!(&rt; has(printed.err.as_slice(), b" done\n"));
+    assert!(&rt; has(printed.err.as_slice(), b"bad line: a number is"));
     assert!(&rt; has(printed.err.as_slice(), b"bad line: no such word"));
     Ok(())
 }

@@ -4,8 +4,9 @@ use Rattle.std.specs.Prelude.{Option, Some, None, slice_get}
 use Rattle.std.specs.Io.KnownBytes.{Consumes}
 use Rattle.std.proofs.lemmas.List.{take_more, drop_more, take-append-drop, length-take-le, drop-drop, drop_at}
 use Rattle.std.proofs.lemmas.Option.{slice_get_within, get_or_from_slice_get}
-use Rattle.cm_live.specs.Places.{EndsLine, EndsWithLine, HasLineAt}
-use Rattle.cm_live.specs.Cutting.{ComeNext, IsCutting, IsLeft}
+use Rattle.cm_live.specs.Places.{EndsLine, EndsWithLine, HasLineAt, LineStandsIn}
+use Rattle.cm_live.specs.Cutting.{ComeNext, IsCounting, IsCutting, IsLeft}
+use Rattle.cm_live.specs.declared.line_counter.LineCounter.{LineCounter}
 use Rattle.cm_live.specs.declared.line_cutter.LineCutter.{LineCutter}
 
 -- ---- the byte that comes next
@@ -65,3 +66,16 @@ pub left_read : (text : Option (List ℕ)) (place : ℕ) (old new : Option (List
 left_read text place old new bs left c t e =
     let r = left_by (drop place t) new bs (subst (λ (o : Option (List ℕ)). Consumes o new bs) (left t e) c) in
     r.1 ∙ ap (λ (l : List ℕ). Some l) (sym (drop_at bs r.0 (length bs) refl) ∙ (ap (λ (l : List ℕ). drop (length bs) l) (sym r.2) ∙ drop-drop (length bs) place t))
+
+-- what is known of a text stays known of it behind the byte that comes next
+pub counted_more : (text : Option (List ℕ)) (n b : ℕ) (old new : LineCounter) → old.taken ≡ n → ComeNext text n (b ∷ []) → ((t : List ℕ) → slice_get t old.taken ≡ Some b → IsCounting t old → IsCounting t new)
+    → ((t : List ℕ) → text ≡ Some t → IsCounting t old) → (t : List ℕ) → text ≡ Some t → IsCounting t new
+counted_more text n b old new same next more known t e =
+    more t (subst (λ (k : ℕ). slice_get t k ≡ Some b) (sym same) (next_byte text n b next t e)) (known t e)
+
+-- and so the line stands there that it ends
+pub counted_line : (text : Option (List ℕ)) (n b place : ℕ) (line : List ℕ) (old : LineCounter) → old.taken ≡ n → ComeNext text n (b ∷ [])
+    → ((t : List ℕ) → slice_get t old.taken ≡ Some b → IsCounting t old → HasLineAt t place line)
+    → ((t : List ℕ) → text ≡ Some t → IsCounting t old) → LineStandsIn text place line
+counted_line text n b place line old same next at known t e =
+    at t (subst (λ (k : ℕ). slice_get t k ≡ Some b) (sym same) (next_byte text n b next t e)) (known t e)

@@ -1,6 +1,7 @@
 -- How the bytes that are received are cut into lines (own).
-use Rattle.std.specs.Prelude.{◌≡◌, ◌+◌, ℕ, List, Option, Some, IsTrue, IsFalse, slice_get, drop}
+use Rattle.std.specs.Prelude.{◌≡◌, ◌+◌, ℕ, List, Option, Some, IsTrue, IsFalse, slice_get, drop, take}
 use Rattle.cm_live.specs.Places.{IsLineStart, EndsWithLine}
+use Rattle.cm_live.specs.declared.line_counter.LineCounter.{LineCounter}
 use Rattle.cm_live.specs.declared.line_cutter.LineCutter.{LineCutter}
 
 -- how a cutter is that has taken these bytes: the last of them ended a line; or it is in a line, which it has whole unless it is
@@ -8,6 +9,10 @@ use Rattle.cm_live.specs.declared.line_cutter.LineCutter.{LineCutter}
 pub record IsCutting (taken : List ℕ) (c : LineCutter) : Type 0 where
   pub ended : IsTrue c.is_ended → IsLineStart taken
   pub going : IsFalse c.is_ended → IsFalse c.is_too_long → EndsWithLine taken c.line.items
+
+-- how a cutter is that has taken the first bytes of this text, as many as it counts
+abbrev pub IsCounting : List ℕ → LineCounter → Type 0
+IsCounting text c = IsCutting (take c.taken text) c.lines
 
 -- in a text that may be unknown these bytes come next, at this place
 abbrev pub ComeNext : Option (List ℕ) → ℕ → List ℕ → Type 0

@@ -1,8 +1,8 @@
 use std::marker::Brand;
 
 /// The name of a bus that a live run is on, by which types know what the reader of received frames holds, in what
-/// lines frames stand there, in what lines NMT messages are written, and what their writer had before. A frame that was received on another bus has
-/// another type.
+/// lines frames stand there, in what lines NMT messages are written, what their writer had before, and what the reader
+/// of typed lines holds. A frame that was received on another bus, or a line typed for another, has another type.
 pub trait BusName {
     ghost use Rattle.std.specs.Prelude.{ℕ, List, Option};
     ghost use Rattle.cm_live.specs.declared.outlet.Format.{Format as Lines};
@@ -18,6 +18,9 @@ pub trait BusName {
 
     /// What the writer of messages had.
     ghost before: { Option (List ℕ) };
+
+    /// What the reader of typed lines holds, where that is known.
+    ghost typed: { Option (List ℕ) };
 }
 
 impl BusName for Brand {
@@ -31,4 +34,6 @@ impl BusName for Brand {
     ghost message_format = { CanUtils };
 
     ghost before = { None };
+
+    ghost typed = { None };
 }

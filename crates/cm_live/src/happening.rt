@@ -23,8 +23,8 @@ pub enum Happening {
     /// An error control message of a listed node: a boot-up message, or another state than the last one's.
     /// The byte is the message's.
     Told(NodeId, u8),
-    /// The operator typed this line, without its line feed.
-    Typed(String),
+    /// The operator typed a line, which was sent before this is told.
+    Typed,
     /// The operator types no more.
     NoMoreTyped,
     /// Nothing is received any more: the input of frames has ended, or a read of it has failed.

@@ -6,8 +6,9 @@
 //! lines of can-utils or of a serial adapter, each by one write; how frames come in, what was read by now, and what
 //! time is, a [`Port`] knows.
 //!
-//! In a live run threads share the bus: one reads frames and gives each to whom it is for ([`Routes`]); each worker
-//! has a [`LivePort`]; and what happens is told to the one that watches the network ([`Happening`]).
+//! In a live run threads share the bus: one reads frames and gives each to whom it is for ([`Routes`]); one reads what
+//! the operator types, and sends it line by line ([`TypedSource`]); each worker has a [`LivePort`]; and what happens is
+//! told to the one that watches the network ([`Happening`]).
 #![tactic(auto)]
 
 mod announcing;
@@ -16,6 +17,7 @@ mod bus_name;
 mod event;
 mod happening;
 mod heartbeats;
+mod line_counter;
 mod line_cutter;
 mod listening;
 mod live_port;
@@ -23,6 +25,8 @@ mod outlet;
 mod port;
 mod received;
 mod receiving;
+mod typed_line;
+mod typing;
 mod wire;
 
 pub use announcing::Announcing;
@@ -38,4 +42,6 @@ pub use outlet::{Format, Outlet};
 pub use port::Port;
 pub use received::Received;
 pub use receiving::{FrameCutter, Routes, Source};
+pub use typed_line::TypedLine;
+pub use typing::{TypedCutter, TypedRoute, TypedSource};
 pub use wire::LiveWire;

@@ -6,7 +6,7 @@ ghost use Rattle.cm_live.specs.Cutting.{ComeNext, IsLeft};
 use crate::bus_name::BusName;
 use crate::happening::Happening;
 use crate::heartbeats::Heartbeats;
-use crate::line_cutter::LineCutter;
+use crate::line_counter::LineCounter;
 use crate::listening::{Listening, node_of};
 use crate::outlet::Format;
 use crate::received::Received;
@@ -19,7 +19,7 @@ use std::sync::{Arc, Wait};
 use std::time::{Clock, Instant};
 
 /// How many reads there are at most: no input has so many.
-const MOST_READS: u64 = 1 << 50;
+pub(crate) const MOST_READS: u64 = 1 << 50;
 
 /// Reads a line as a frame.
 fn read_line(format: Format, line: &[u8]) -> Option<CanFrame>
@@ -34,22 +34,21 @@ fn read_line(format: Format, line: &[u8]) -> Option<CanFrame>
 /// Cuts what is received into frames, each with its place. Contracts see how many bytes it has taken.
 #[derive(Drop)]
 pub struct FrameCutter<B: BusName> {
-    lines: LineCutter,
-    taken: u64,
+    lines: LineCounter,
     format: Format,
     of: PhantomData<B>,
 }
 
 impl<B: BusName> Model for FrameCutter<B> {
-    ghost use Rattle.std.specs.Prelude.{◌≡◌, ℕ, List, Some, take};
-    ghost use Rattle.cm_live.specs.Cutting.{IsCutting};
+    ghost use Rattle.std.specs.Prelude.{◌≡◌, ℕ, List, Some};
+    ghost use Rattle.cm_live.specs.Cutting.{IsCounting};
 
     ghost Value = { ℕ };
 
-    ghost view = { λ c. c.taken };
+    ghost view = { λ c. c.lines.taken };
 
     ghost invariant = { λ c. (c.format ≡ B.format)
-        × ((t : List ℕ) → B.text ≡ Some t → IsCutting (take c.taken t) c.lines) };
+        × ((t : List ℕ) → B.text ≡ Some t → IsCounting t c.lines) };
 }
 
 impl<B: BusName> FrameCutter<B> {
@@ -59,8 +58,7 @@ impl<B: BusName> FrameCutter<B> {
         ensures { result ≡ 0 }
     {
         FrameCutter {
-            lines: LineCutter::new(),
-            taken: 0,
+            lines: LineCounter::new(),
             format,
             of: PhantomData,
         }
@@ -72,12 +70,7 @@ impl<B: BusName> FrameCutter<B> {
         requires next { ComeNext B.text self.old (byte ∷ []) }
         ensures { self.new ≡ self.old + 1 }
     {
-        let place = self.taken;
-        let is_line = self.lines.take(byte);
-        self.taken = place + 1;
-        if !is_line {
-            return None;
-        }
+        let place = self.lines.take(byte)?;
         let frame = read_line(self.format, self.lines.line())?;
         Some(Received::new(place, frame))
     }

@@ -7,6 +7,7 @@ use Rattle.cm_format.specs.declared.version.Version.TheVariants.{Two}
 use Rattle.cm_live.specs.Outlets.{SendsMessages}
 use Rattle.cm_recording.specs.Recorded.{contents_of}
 use Rattle.canboot.specs.Heard.{IsAllHeard}
+use Rattle.canboot.specs.Operated.{IsOperatedLive}
 use Rattle.canboot.proofs.Begins.{failed_after, same_journal, written_alike}
 use Rattle.canboot.proofs.live.live_text.Goals as goal
 
@@ -26,11 +27,12 @@ returns-in-Ok-live-clause-done g c = λ e.
       run = record { list = c.in-Ok.ensures.list; version = refl; journal = c.is_journal.ensures; seats = ap (λ (n : ℕ). n + 1) c.from-seats.ensures; most = refl };
       heard = subst (λ (h : List Entry). IsAllHeard c.args.options.format (g.I.Read.remaining c.args.ends.received) c.in-Ok.network h)
           (sym c.as_slice-entries.ensures.value) c.in-Ok-live.ensures.heard;
-      reported = of_ok c.put_report-report.result _ c.put_report-report.ensures (s.report (c.ending_status.ensures.done e).0);
-      recorded = w.all (sym c.has_failed.ensures ∙ s.journal (c.ending_status.ensures.done e).0);
+      operated = subst (λ (h : List Entry). IsOperatedLive (g.T.Read.remaining c.args.ends.typed) h) (sym c.as_slice-entries.ensures.value) c.in-Ok-live.ensures.operated;
+      reported = of_ok c.put_report-report.result _ c.put_report-report.ensures (s.report (c.ending_status.ensures.done e));
+      recorded = w.all (sym c.has_failed.ensures ∙ s.journal (c.ending_status.ensures.done e));
       sent = subst (λ (h : List Entry). SendsMessages g.W.Write.contents (frames_in (listing c.in-Ok.network) h) c.args.messages.now c.live.new.messages)
           (sym c.as_slice-entries.ensures.value) c.in-Ok-live.ensures.sent;
-      well = c.have_failed.ensures (s.messages (c.ending_status.ensures.done e).0);
+      well = c.have_failed.ensures (s.messages (c.ending_status.ensures.done e));
     }
 
 pub returns-in-Ok-live-clause-failed : goal.returns-in-Ok-live-clause-failed
@@ -43,6 +45,7 @@ returns-in-Ok-live-clause-failed g c = λ e. inr (record {
         refl (sym (ap (λ (n : ℕ). n + 1) c.from-seats.ensures)) refl (sym c.as_slice-entries.ensures.value)) refl c.in-Ok-live.ensures.written,
     subst (λ (h : List Entry). IsAllHeard c.args.options.format (g.I.Read.remaining c.args.ends.received) c.in-Ok.network h)
         (sym c.as_slice-entries.ensures.value) c.in-Ok-live.ensures.heard,
+    subst (λ (h : List Entry). IsOperatedLive (g.T.Read.remaining c.args.ends.typed) h) (sym c.as_slice-entries.ensures.value) c.in-Ok-live.ensures.operated,
   );
   sent = subst (λ (h : List Entry). SendsMessages g.W.Write.contents (frames_in (listing c.in-Ok.network) h) c.args.messages.now c.live.new.messages)
       (sym c.as_slice-entries.ensures.value) c.in-Ok-live.ensures.sent;
@@ -50,7 +53,7 @@ returns-in-Ok-live-clause-failed g c = λ e. inr (record {
 
 pub returns-clause-failed : goal.returns-clause-failed
 returns-clause-failed g c = λ e.
-    failed_after g.W.Write.contents c.args.options.format (g.I.Read.remaining c.args.ends.received) c.args.options.workers 1048576 _ _ _ c.in-Ok.network (contents_of g.J.Write.contents) c.args.journal.now c.live.new.journal (λ j. j.failed)
+    failed_after g.W.Write.contents c.args.options.format (g.I.Read.remaining c.args.ends.received) (g.T.Read.remaining c.args.ends.typed) c.args.options.workers 1048576 _ _ _ c.in-Ok.network (contents_of g.J.Write.contents) c.args.journal.now c.live.new.journal (λ j. j.failed)
     c.args.messages.now c.live.new.messages c.in-Ok.ensures.list c.in-Err-live.ensures.begun
 
 pub returns-clause-refused : goal.returns-clause-refused

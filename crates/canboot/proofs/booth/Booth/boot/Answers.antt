@@ -1,6 +1,7 @@
 use Rattle.std.proofs.Common.{◌≡◌, ◌-◌, ◌%◌, ◌+◌, ◌∙◌, ℕ, List, [], ap, sym, subst, arith}
 use Rattle.cm_netlist.specs.Network.{listed_ids}
 use Rattle.canboot.specs.Workers.{AreOfItsSeat, place_of, seat_of}
+use Rattle.canboot.proofs.Operated.{round_quiet}
 use Rattle.canboot.proofs.ReceivedRounds.{round_received}
 use Rattle.canboot.proofs.Workers.{round_own}
 use Rattle.canboot.proofs.booth.Booth.boot.Goals as goal
@@ -13,13 +14,14 @@ invariant_of-self g c =
     let i = c.self.invariant in
     let round = c.live_round.ensures.round in
     let listed : c.as_slice.result.now ≡ listed_ids net = c.as_slice.ensures.value ∙ (c.listed_ids-listed.ensures ∙ ap listed_ids c.network.ensures) in
-    let workers : s.workers ≡ seats - 1 = omega (arith, i.3) in
+    let workers : s.workers ≡ seats - 1 = omega (arith, i.4) in
     let own : seat_of net seats c.args.id ≡ s.seat.number =
     ap (λ (w : ℕ). place_of c.args.id (listed_ids net) % w + 2) (sym workers)
     ∙ (ap (λ (ids : List ℕ). place_of c.args.id ids % s.workers + 2) (sym listed) ∙ (sym c.seat_of.ensures ∙ (c.if-seat_of-number.false ∙ c.number.ensures.value))) in (
       round_received g.B.BusName.format g.B.BusName.text net c.args.id c.args.most c.live_round.result s.seat.list c.live_round.new.seat.list (record { log = []; heard = s.bus.heard }) c.live_round.new.bus round i.0,
+      round_quiet _ net c.args.id c.args.most c.live_round.result s.seat.list c.live_round.new.seat.list _ c.live_round.new.bus round i.1,
       subst (λ (n : ℕ). AreOfItsSeat net seats n c.live_round.new.seat.list) (sym c.live_round.ensures.number)
-          (round_own net seats s.seat.number _ c.args.id own c.args.most c.live_round.result s.seat.list c.live_round.new.seat.list _ c.live_round.new.bus round i.1),
-      i.2,
+          (round_own net seats s.seat.number _ c.args.id own c.args.most c.live_round.result s.seat.list c.live_round.new.seat.list _ c.live_round.new.bus round i.2),
       i.3,
+      i.4,
     )

@@ -1,0 +1,112 @@
+-- What the operator and the other seats do in a live run, call by call and in the history.
+use Rattle.std.proofs.Common.{◌≡◌, ◌≢◌, ◌≤◌, ℕ, List, [], ◌∷◌, ◌++◌, length, refl, sym, ap, subst, ◌∙◌, arith}
+use Rattle.std.specs.Prelude.{All, Option, Result, Ok, Err, IfOk, OnErr}
+use Rattle.std.proofs.lemmas.List.Elements.{All-append, All-cons, All-head, All-nil, All-same, All-tail}
+use Rattle.cm_boot.specs.declared.question.Question.{Question}
+use Rattle.cm_boot.specs.declared.question.Answer.{Answer}
+use Rattle.cm_history.specs.declared.call.Call.{Call}
+use Rattle.cm_history.specs.declared.call.Call.TheVariants as call
+use Rattle.cm_history.specs.declared.call.Entry.{Entry}
+use Rattle.cm_live.specs.Receiving.{IsNoReport}
+use Rattle.cm_netlist.specs.Network.{Network}
+use Rattle.cm_run.specs.Rounds.{Fail, HasRound, calls_in}
+use Rattle.cm_run.specs.declared.outcome.Attempt.{Attempt}
+use Rattle.cm_run.specs.declared.outcome.Attempt.TheVariants as attempt
+use Rattle.cm_run.specs.declared.outcome.Outcome.{Outcome}
+use Rattle.cm_seat.specs.Handing.{AreApart, HaveTheirCalls, count_calls}
+use Rattle.cm_seat.specs.SeatCalls.{calls_of, made}
+use Rattle.cm_seat.specs.Views.{SeatView}
+use Rattle.cm_seat.specs.declared.fault.CallFault.{CallFault}
+use Rattle.cm_seat.specs.declared.made.Made.{Made}
+use Rattle.cm_seat.specs.declared.made.Receipt.{Receipt}
+use Rattle.canboot.specs.Operated.{EndsWithOperator, IsOperatedLive, IsOperators, RequestsIfOperator}
+use Rattle.canboot.specs.Typing.{AreTyped, BeginsWithStart, IsOfWatch, IsTypedCall, MakesNoRequest, NoRequests}
+use Rattle.canboot.proofs.Lists.{each_list}
+
+abbrev pub IsQuiet : SeatView → Type 0
+IsQuiet s = NoRequests s.list
+
+-- ---- the operator's list grows
+
+sooner_typed : (typed : Option (List ℕ)) (c : Call) (before from upto : ℕ) → before ≤ from → IsTypedCall typed c from upto → IsTypedCall typed c before upto
+sooner_typed typed (call.Request t v) before from upto le h = (omega (arith, le, h.0), h.1)
+sooner_typed typed _ before from upto le h = omega (arith, le, h)
+
+add_typed : (typed : Option (List ℕ)) (ms : List Made) (m : Made) (from mid upto : ℕ) → AreTyped typed ms from mid → IsTypedCall typed m.call mid upto → AreTyped typed (ms ++ m ∷ []) from upto
+add_typed typed [] m from mid upto h k = (upto, sooner_typed typed m.call from mid upto h k, omega arith)
+add_typed typed (x ∷ xs) m from mid upto h k = (h.0, h.1, add_typed typed xs m h.0 mid upto h.2 k)
+
+started_on : (ms : List Made) (m : Made) → BeginsWithStart ms → BeginsWithStart (ms ++ m ∷ [])
+started_on [] m s = absurd s
+started_on (x ∷ xs) m s = s
+
+pub operated_on : (typed : Option (List ℕ)) (old new : SeatView) (from upto : ℕ) (m : Made) → (new.number ≡ old.number) × (new.list ≡ old.list ++ m ∷ []) → IsTypedCall typed m.call from upto
+    → IsOperators typed old from → IsOperators typed new upto
+operated_on typed old new from upto m is k o = record {
+  number = is.0 ∙ o.number;
+  started = subst (λ (l : List Made). BeginsWithStart l) (sym is.1) (started_on old.list m o.started);
+  requests = subst (λ (l : List Made). AreTyped typed l 0 upto) (sym is.1) (add_typed typed old.list m 0 from upto o.requests k);
+}
+
+pub first_call : (typed : Option (List ℕ)) (old new : SeatView) (m : Made) → (old.number ≡ 1) × (old.list ≡ []) → (new.number ≡ old.number) × (new.list ≡ old.list ++ m ∷ []) → m.call ≡ call.StartNetwork
+    → IsOperators typed new 0
+first_call typed old new m fresh is start =
+    let list : new.list ≡ m ∷ [] = is.1 ∙ ap (λ (l : List Made). l ++ m ∷ []) fresh.1 in
+    record {
+      number = is.0 ∙ fresh.0;
+      started = subst (λ (l : List Made). BeginsWithStart l) (sym list) start;
+      requests = subst (λ (l : List Made). AreTyped typed l 0 0) (sym list) (0, subst (λ (c : Call). IsTypedCall typed c 0 0) (sym start) (let z : 0 ≤ 0 = omega arith in z), omega arith);
+    }
+
+-- ---- a call of the watch
+
+quiet_typed : (typed : Option (List ℕ)) (c : Call) → IsOfWatch c → (from : ℕ) → IsTypedCall typed c from from
+quiet_typed typed (call.Request t v) w from = absurd w
+quiet_typed typed _ w from = omega arith
+
+pub no_report : (c : Call) → IsOfWatch c → IsNoReport c
+no_report (call.Report i n a) w = absurd w
+no_report _ w = tt
+
+pub watched : (typed : Option (List ℕ)) (r : Result Receipt CallFault) (old new : SeatView) (c : Call) (upto : ℕ) → IsOfWatch c
+    → IfOk r (λ k. (new.number ≡ old.number) × (new.list ≡ old.list ++ made k.position c k.reply ∷ [])) → OnErr r (new ≡ old) → IsOperators typed old upto → IsOperators typed new upto
+watched typed (Ok k) old new c upto w ok err o = operated_on typed old new upto upto (made k.position c k.reply) ok (quiet_typed typed c w upto) o
+watched typed (Err f) old new c upto w ok err o = subst (λ (s : SeatView). IsOperators typed s upto) (sym err) o
+
+-- ---- a round makes no request
+
+calls_quiet : (i : ℕ) (t : Attempt) → NoRequests (calls_in i t)
+calls_quiet i (attempt.NotBegun f) = All-nil MakesNoRequest
+calls_quiet i (attempt.Refused r n) = All-cons MakesNoRequest (made r.position (call.Begin i) r.reply) [] tt (All-nil MakesNoRequest)
+calls_quiet i (attempt.NotReported r n a f) = All-cons MakesNoRequest (made r.position (call.Begin i) r.reply) [] tt (All-nil MakesNoRequest)
+calls_quiet i (attempt.Ended b n a r l) =
+    All-cons MakesNoRequest (made b.position (call.Begin i) b.reply) (made r.position (call.Report i n a) r.reply ∷ []) tt
+    (All-cons MakesNoRequest (made r.position (call.Report i n a) r.reply) [] tt (All-nil MakesNoRequest))
+
+module _ {B : Type 0} (Asks : B → ℕ → Question → Answer → B → Type 0) (net : Network) (i : ℕ) where
+  attempts_quiet : (b : B) (ts : List Attempt) (list : List Made) (c : B) → Fail Asks net i b ts list c → NoRequests list
+  attempts_quiet b [] list c f = All-same MakesNoRequest list [] f.0 (All-nil MakesNoRequest)
+  attempts_quiet b (t ∷ ts) list c f =
+      All-same MakesNoRequest list (calls_in i t ++ f.0) f.5 (All-append MakesNoRequest (calls_in i t) f.0 (calls_quiet i t) (attempts_quiet f.1 ts f.0 c f.4))
+
+  pub round_quiet : (m : ℕ) (o : Outcome) (old new : List Made) (b c : B) → HasRound Asks net i m o old new b c → NoRequests old → NoRequests new
+  round_quiet m o old new b c r quiet =
+      All-same MakesNoRequest new (old ++ r.added) r.grown
+      (All-append MakesNoRequest old r.added quiet
+      (All-same MakesNoRequest r.added (r.round.before ++ calls_in i r.round.final) r.round.calls
+      (All-append MakesNoRequest r.round.before (calls_in i r.round.final) (attempts_quiet b r.round.failed r.round.before r.round.between r.round.fails) (calls_quiet i r.round.final))))
+
+-- ---- the history
+
+last_calls : (h : List Entry) (ws : List SeatView) (s : SeatView) → HaveTheirCalls h (ws ++ s ∷ []) → s.list ≡ calls_of h s.number
+last_calls h [] s a = All-head (λ (t : SeatView). t.list ≡ calls_of h t.number) s [] a
+last_calls h (w ∷ ws) s a = last_calls h ws s (All-tail (λ (t : SeatView). t.list ≡ calls_of h t.number) w (ws ++ s ∷ []) a)
+
+pub operated : (typed : Option (List ℕ)) (h : List Entry) (ss : List SeatView) → HaveTheirCalls h ss → AreApart ss → count_calls ss ≡ length h → All RequestsIfOperator ss → EndsWithOperator typed ss → IsOperatedLive typed h
+operated typed h ss a apart total others (ws, s, upto, ends, is) =
+    let list : s.list ≡ calls_of h 1 = last_calls h ws s (subst (λ (l : List SeatView). HaveTheirCalls h l) ends a) ∙ ap (λ (n : ℕ). calls_of h n) is.number in
+    record {
+      started = subst (λ (l : List Made). BeginsWithStart l) list is.started;
+      requests = (upto, subst (λ (l : List Made). AreTyped typed l 0 upto) list is.requests);
+      others = each_list (λ n l. n ≢ 1 → NoRequests l) h ss a apart total others (λ n other. All-nil MakesNoRequest);
+    }
