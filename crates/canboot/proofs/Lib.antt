@@ -6,3 +6,5 @@ pub mod Lists
 pub mod Fresh
 pub mod Attempts
 pub mod Begins
+pub mod Buses
+pub mod Simulated
