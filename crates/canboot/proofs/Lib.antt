@@ -9,3 +9,5 @@ pub mod Requests
 pub mod Fresh
 pub mod Attempts
 pub mod Begins
+pub mod Buses
+pub mod Simulated

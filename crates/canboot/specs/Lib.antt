@@ -1,5 +1,6 @@
-pub mod Run
 pub mod Causes
+pub mod Simulated
+pub mod Run
 pub mod Program
 pub mod Typing
 pub mod Workers

@@ -17,6 +17,7 @@ pub use Rattle.cm_recording.specs.Recorded.{AppendsIfThere, IsWritten}
 use Rattle.canboot_check.specs.Check.{IsFaultyText, IsList}
 use Rattle.canboot.specs.Heard.{IsAllHeard}
 use Rattle.canboot.specs.Operated.{IsOperatedLive}
+use Rattle.canboot.specs.Simulated.{IsSimulated}
 use Rattle.cm_live.specs.declared.outlet.Format.{Format}
 
 -- the input was read to its end and is the network list of this journal, which is of version 2, whose entries are legal,
@@ -28,20 +29,12 @@ pub record IsRun (workers limit : ℕ) (input input' : Option (List ℕ)) (j : J
   pub seats : j.seats ≡ workers + 1
   pub most : j.limit ≡ limit
 
--- the input was read to its end and is a network list; of the legal history of a journal of it just the report was
--- written, and to the journal's output, if there is one, just the text of that journal
-pub record Runs (workers limit : ℕ) (input input' output output' : Option (List ℕ)) (journal journal' : Option (Option (List ℕ))) : Type 0 where
+-- the input was read to its end and is a network list; of the legal history of a journal of it, which is that of a run with
+-- simulated slaves, just the report was written, and to the journal's output, if there is one, just the text of that journal
+pub record Runs (workers attempts : ℕ) (silent : Option ℕ) (limit : ℕ) (input input' output output' : Option (List ℕ)) (journal journal' : Option (Option (List ℕ))) : Type 0 where
   pub of : JournalView
   pub run : IsRun workers limit input input' of
-  pub reported : Appends output output' (report_text of.network of.entries)
-  pub recorded : AppendsIfThere journal journal' (text of)
-
--- the same, and each report in the history whose orders start a slave has the slave's identity among the frames that stand in
--- what the reader of received frames held
-pub record RunsHeard (format : Format) (received : Option (List ℕ)) (workers limit : ℕ) (input input' output output' : Option (List ℕ)) (journal journal' : Option (Option (List ℕ))) : Type 0 where
-  pub of : JournalView
-  pub run : IsRun workers limit input input' of
-  pub heard : IsAllHeard format received of.network of.seats of.entries
+  pub simulated : IsSimulated of.network workers attempts silent of.entries
   pub reported : Appends output output' (report_text of.network of.entries)
   pub recorded : AppendsIfThere journal journal' (text of)
 
@@ -58,9 +51,10 @@ pub record RefusesRun (input input' output output' : Option (List ℕ)) (journal
   pub unwritten : journal' ≡ journal
 
 -- nothing was written, or the report of such a history was to be written
-abbrev pub FailsToRun : ℕ → ℕ → Option (List ℕ) → Option (List ℕ) → Option (List ℕ) → Option (List ℕ) → Option (Option (List ℕ)) → Option (Option (List ℕ)) → Type 0
-FailsToRun workers limit input input' output output' journal journal' =
-    ((output' ≡ output) × (journal' ≡ journal)) ⊎ ((j : JournalView) × IsRun workers limit input input' j)
+abbrev pub FailsToRun : ℕ → ℕ → Option ℕ → ℕ → Option (List ℕ) → Option (List ℕ) → Option (List ℕ) → Option (List ℕ) → Option (Option (List ℕ)) → Option (Option (List ℕ)) → Type 0
+FailsToRun workers attempts silent limit input input' output output' journal journal' =
+    ((output' ≡ output) × (journal' ≡ journal))
+    ⊎ ((j : JournalView) × IsRun workers limit input input' j × IsSimulated j.network workers attempts silent j.entries)
 
 -- of the text of the journal of this history the beginning was written, and all of it where no write has failed
 abbrev pub WritesJournal : Network → ℕ → ℕ → List Entry → Option (Option (List ℕ)) → Option (Option (List ℕ)) → Bool → Type 0
