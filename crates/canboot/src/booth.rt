@@ -86,14 +86,7 @@ impl<'n, K: RunName, B: BusName, P: Port<B>> Booth<'n, K, B, P> {
         if seat_of(listed.as_slice(), self.workers, id) != self.seat.number() {
             return None;
         }
-        Some(live_round(
-            rt,
-            register,
-            &mut self.seat,
-            &mut self.bus,
-            id,
-            most,
-        ))
+        Some(live_round(rt, register, &mut self.seat, &mut self.bus, id, most))
     }
 
     /// The seat.

@@ -18,7 +18,13 @@ fn has(text: &[u8], part: &[u8]) -> bool {
 
 #[test]
 fn a_network_is_booted_on_a_bus(rt: HostRuntime) -> Result<(), Fail> {
-    let bus = bus_of(&rt, rt.alloc(), 126, b"read 5\nrequest 3 5\nrequest 3 05\nnonsense\nquit\n", ALL)?;
+    let bus = bus_of(
+        &rt,
+        rt.alloc(),
+        126,
+        b"read 5\nrequest 3 5\nrequest 3 05\nnonsense\nquit\n",
+        ALL,
+    )?;
     let printed = lives(&rt, rt.alloc(), bus)?;
     assert_eq!(&rt; printed.status, 0);
     assert!(&rt;
@@ -62,7 +68,10 @@ fn a_bus_that_ends_in_mid_boot_ends_the_run(rt: HostRuntime) -> Result<(), Fail>
 /// The bus goes on, and the operator waits for ever: that a message couldn't be written ends the run.
 #[test]
 fn a_message_that_can_not_be_written_ends_the_run(rt: HostRuntime) -> Result<(), Fail> {
-    let most = Most { messages: 40, ..ALL };
+    let most = Most {
+        messages: 40,
+        ..ALL
+    };
     let bus = bus_of(&rt, rt.alloc(), 1_000, b"quit\n", most)?;
     let printed = lives(&rt, rt.alloc(), bus)?;
     assert_eq!(&rt; printed.status, 3);

@@ -19,12 +19,12 @@ mod register;
 
 pub use book::Book;
 pub use closing::{Abandoned, BookFault, CloseKind, Closed};
-pub use copying::SoFar;
 pub use cm_nmt::Wire;
 pub use cm_recorder::{Recorder, Unrecorded};
 pub use cm_seat::{
     CallFault, Made, ReadFault, Receipt, RunName, Seat, SeatList, Seen, SharedManager,
 };
+pub use copying::SoFar;
 pub use fault::{CopyFault, OpenFault};
 pub use opened::{NotOpened, Opened};
 pub use register::{CloseFault, Register};

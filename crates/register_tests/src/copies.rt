@@ -50,15 +50,38 @@ fn fills_by_turns<K: RunName, R: Wait + Abort>(
         return Err(Fail::from("seats"));
     };
     let last = node(rt, 127);
-    let calls = [Call::StartNetwork, Call::Begin(last), Call::Read(1), Call::Begin(last)];
+    let calls = [
+        Call::StartNetwork,
+        Call::Begin(last),
+        Call::Read(1),
+        Call::Begin(last),
+    ];
     has(rt, alloc, &register, worker, &[], Phase::Idle);
     is_made(rt, register.call(rt, operator, calls[0]), 1, Reply::Started);
     is_made(rt, register.call(rt, worker, calls[1]), 2, Reply::Begun(1));
     has(rt, alloc, &register, operator, &calls[..2], Phase::Booting);
-    is_made(rt, register.call(rt, operator, calls[2]), 3, Reply::State(127));
-    is_made(rt, register.call(rt, worker, calls[3]), 4, Reply::Refused(5));
-    is_refused(rt, register.call(rt, worker, calls[1]), CallFault::JournalFull);
-    is_refused(rt, register.call(rt, operator, calls[2]), CallFault::JournalFull);
+    is_made(
+        rt,
+        register.call(rt, operator, calls[2]),
+        3,
+        Reply::State(127),
+    );
+    is_made(
+        rt,
+        register.call(rt, worker, calls[3]),
+        4,
+        Reply::Refused(5),
+    );
+    is_refused(
+        rt,
+        register.call(rt, worker, calls[1]),
+        CallFault::JournalFull,
+    );
+    is_refused(
+        rt,
+        register.call(rt, operator, calls[2]),
+        CallFault::JournalFull,
+    );
     has(rt, alloc, &register, worker, &calls, Phase::Booting);
     Ok(())
 }
