@@ -28,10 +28,12 @@ pub returns-clause-heard : goal.returns-clause-heard
 returns-clause-heard g c =
     let n : c.in_ok-setting.setting.network.now ≡ c.args.network.now = of_value c.set_up.result _ _ c.in_ok-setting.ensures.value c.set_up.ensures.network in
     let f : c.in_ok-setting.setting.options.format ≡ c.args.options.format = ap (λ (p : LiveOptions). p.format) (of_value c.set_up.result _ _ c.in_ok-setting.ensures.value c.set_up.ensures.options) in
+    let o : c.in_ok-setting.setting.options.workers ≡ c.args.options.workers = ap (λ (p : LiveOptions). p.workers) (of_value c.set_up.result _ _ c.in_ok-setting.ensures.value c.set_up.ensures.options) in
     let text = g.I.Read.remaining c.args.ends.received in
     IfOk-weaker c.live_on.result _ _
-    (λ l h. subst (λ (lines : Format). IsAllHeard lines text c.args.network.now l.recorded.history.items) f
-    (subst (λ (net : Network). IsAllHeard c.in_ok-setting.setting.options.format text net l.recorded.history.items) n h))
+    (λ l h. subst (λ (lines : Format). IsAllHeard lines text c.args.network.now (c.args.options.workers + 1) l.recorded.history.items) f
+    (subst (λ (workers : ℕ). IsAllHeard c.in_ok-setting.setting.options.format text c.args.network.now (workers + 1) l.recorded.history.items) o
+    (subst (λ (net : Network). IsAllHeard c.in_ok-setting.setting.options.format text net (c.in_ok-setting.setting.options.workers + 1) l.recorded.history.items) n h)))
     c.live_on.ensures.heard
 
 pub returns-clause-sent : goal.returns-clause-sent

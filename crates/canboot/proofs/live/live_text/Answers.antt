@@ -1,10 +1,12 @@
 use Rattle.std.proofs.Common.{◌≡◌, ℕ, ◌+◌, ◌∙◌, List, Result, Ok, Err, true, false, OnOk, IsOk, ap, inl, inr, refl, subst, sym}
-use Rattle.cm_netlist.specs.Network.{listing}
+use Rattle.std.specs.Prelude.{Option}
+use Rattle.cm_netlist.specs.Network.{Network, listing}
 use Rattle.cm_history.specs.declared.call.Entry.{Entry}
 use Rattle.cm_history.specs.OrderFrames.{frames_in}
 use Rattle.cm_format.specs.Text.{journal_of}
 use Rattle.cm_format.specs.declared.version.Version.TheVariants.{Two}
 use Rattle.cm_live.specs.Outlets.{SendsMessages}
+use Rattle.cm_live.specs.declared.outlet.Format.{Format}
 use Rattle.cm_recording.specs.Recorded.{contents_of}
 use Rattle.canboot.specs.Heard.{IsAllHeard}
 use Rattle.canboot.specs.Operated.{IsOperatedLive}
@@ -16,6 +18,10 @@ of_ok : {A E : Type 0} (r : Result A E) (P : Type 0) → OnOk r P → IsOk r →
 of_ok (Ok x) P h is = h
 of_ok (Err e) P h is = absurd (let p : false ≡ true = is in cc)
 
+-- what was heard in a history, of as many seats under another name
+all_heard_of : (format : Format) (text : Option (List ℕ)) (net : Network) (seats others : ℕ) (h k : List Entry) → seats ≡ others → h ≡ k → IsAllHeard format text net seats h → IsAllHeard format text net others k
+all_heard_of format text net seats others h k s e a = subst (λ (n : ℕ). IsAllHeard format text net n k) s (subst (λ (es : List Entry). IsAllHeard format text net seats es) e a)
+
 pub returns-in-Ok-live-clause-done : goal.returns-in-Ok-live-clause-done
 returns-in-Ok-live-clause-done g c = λ e.
     let s = c.written_status-status.ensures in
@@ -25,14 +31,14 @@ returns-in-Ok-live-clause-done g c = λ e.
     record {
       of = journal_of Two c.in-Ok.network (c.from-seats.result + 1) 1048576 c.as_slice-entries.result.now;
       run = record { list = c.in-Ok.ensures.list; version = refl; journal = c.is_journal.ensures; seats = ap (λ (n : ℕ). n + 1) c.from-seats.ensures; most = refl };
-      heard = subst (λ (h : List Entry). IsAllHeard c.args.options.format (g.I.Read.remaining c.args.ends.received) c.in-Ok.network h)
+      heard = all_heard_of c.args.options.format (g.I.Read.remaining c.args.ends.received) c.in-Ok.network (c.args.options.workers + 1) (c.from-seats.result + 1) _ _ (sym (ap (λ (n : ℕ). n + 1) c.from-seats.ensures))
           (sym c.as_slice-entries.ensures.value) c.in-Ok-live.ensures.heard;
       operated = subst (λ (h : List Entry). IsOperatedLive (g.T.Read.remaining c.args.ends.typed) h) (sym c.as_slice-entries.ensures.value) c.in-Ok-live.ensures.operated;
-      reported = of_ok c.put_report-report.result _ c.put_report-report.ensures (s.report (c.ending_status.ensures.done e));
-      recorded = w.all (sym c.has_failed.ensures ∙ s.journal (c.ending_status.ensures.done e));
+      reported = of_ok c.put_report-report.result _ c.put_report-report.ensures (s.report (c.ending_status.ensures.done e).0);
+      recorded = w.all (sym c.has_failed.ensures ∙ s.journal (c.ending_status.ensures.done e).0);
       sent = subst (λ (h : List Entry). SendsMessages g.W.Write.contents (frames_in (listing c.in-Ok.network) h) c.args.messages.now c.live.new.messages)
           (sym c.as_slice-entries.ensures.value) c.in-Ok-live.ensures.sent;
-      well = c.have_failed.ensures (s.messages (c.ending_status.ensures.done e));
+      well = c.have_failed.ensures (s.messages (c.ending_status.ensures.done e).0);
     }
 
 pub returns-in-Ok-live-clause-failed : goal.returns-in-Ok-live-clause-failed
@@ -43,7 +49,7 @@ returns-in-Ok-live-clause-failed g c = λ e. inr (record {
     written_alike _ _ _ _ _ _
         (same_journal c.in-Ok.network c.in-Ok.network (c.args.options.workers + 1) (c.from-seats.result + 1) 1048576 1048576 c.in-Ok-live.field-0.recorded.history.items c.as_slice-entries.result.now
         refl (sym (ap (λ (n : ℕ). n + 1) c.from-seats.ensures)) refl (sym c.as_slice-entries.ensures.value)) refl c.in-Ok-live.ensures.written,
-    subst (λ (h : List Entry). IsAllHeard c.args.options.format (g.I.Read.remaining c.args.ends.received) c.in-Ok.network h)
+    all_heard_of c.args.options.format (g.I.Read.remaining c.args.ends.received) c.in-Ok.network (c.args.options.workers + 1) (c.from-seats.result + 1) _ _ (sym (ap (λ (n : ℕ). n + 1) c.from-seats.ensures))
         (sym c.as_slice-entries.ensures.value) c.in-Ok-live.ensures.heard,
     subst (λ (h : List Entry). IsOperatedLive (g.T.Read.remaining c.args.ends.typed) h) (sym c.as_slice-entries.ensures.value) c.in-Ok-live.ensures.operated,
   );

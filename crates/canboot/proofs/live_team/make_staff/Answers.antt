@@ -2,8 +2,8 @@ use Rattle.std.proofs.Common.{◌<◌, length, arith}
 use Rattle.canboot.proofs.Fresh.{first_fresh, rest_fresh}
 use Rattle.canboot.proofs.live_team.make_staff.Goals as goal
 
-pub make_worker-requires : goal.make_worker-requires
-make_worker-requires g c =
+pub make_worker-requires-clause-list : goal.make_worker-requires-clause-list
+make_worker-requires-clause-list g c =
     let some : 0 < length c.loop-writer.seats.items = omega (arith, c.remove-seat.ensures.len, c.loop-writer.seats.ok.0) in
     first_fresh c.loop-writer.seats.items c.remove-seat.result some c.remove-seat.ensures.value c.loop-writer.invariant
 
