@@ -46,7 +46,7 @@ fn fills_by_turns<K: RunName, R: Wait + Abort>(
     let Ok((register, mut seats)) = opened.named::<K>() else {
         return Err(Fail::from("named"));
     };
-    let [operator, worker] = seats.as_mut_slice() else {
+    let (Some(mut worker), Some(mut operator)) = (seats.pop(), seats.pop()) else {
         return Err(Fail::from("seats"));
     };
     let last = node(rt, 127);
@@ -56,33 +56,43 @@ fn fills_by_turns<K: RunName, R: Wait + Abort>(
         Call::Read(1),
         Call::Begin(last),
     ];
-    has(rt, alloc, &register, worker, &[], Phase::Idle);
-    is_made(rt, register.call(rt, operator, calls[0]), 1, Reply::Started);
-    is_made(rt, register.call(rt, worker, calls[1]), 2, Reply::Begun(1));
-    has(rt, alloc, &register, operator, &calls[..2], Phase::Booting);
+    has(rt, alloc, &register, &worker, &[], Phase::Idle);
     is_made(
         rt,
-        register.call(rt, operator, calls[2]),
+        register.call(rt, &mut operator, calls[0]),
+        1,
+        Reply::Started,
+    );
+    is_made(
+        rt,
+        register.call(rt, &mut worker, calls[1]),
+        2,
+        Reply::Begun(1),
+    );
+    has(rt, alloc, &register, &operator, &calls[..2], Phase::Booting);
+    is_made(
+        rt,
+        register.call(rt, &mut operator, calls[2]),
         3,
         Reply::State(127),
     );
     is_made(
         rt,
-        register.call(rt, worker, calls[3]),
+        register.call(rt, &mut worker, calls[3]),
         4,
         Reply::Refused(5),
     );
     is_refused(
         rt,
-        register.call(rt, worker, calls[1]),
+        register.call(rt, &mut worker, calls[1]),
         CallFault::JournalFull,
     );
     is_refused(
         rt,
-        register.call(rt, operator, calls[2]),
+        register.call(rt, &mut operator, calls[2]),
         CallFault::JournalFull,
     );
-    has(rt, alloc, &register, worker, &calls, Phase::Booting);
+    has(rt, alloc, &register, &worker, &calls, Phase::Booting);
     Ok(())
 }
 
