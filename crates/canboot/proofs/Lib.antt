@@ -9,5 +9,6 @@ pub mod Requests
 pub mod Fresh
 pub mod Attempts
 pub mod Begins
+pub mod Calls
 pub mod Buses
 pub mod Simulated

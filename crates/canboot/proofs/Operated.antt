@@ -1,18 +1,11 @@
 -- What the operator and the other seats do in a live run, call by call and in the history.
 use Rattle.std.proofs.Common.{◌≡◌, ◌≢◌, ◌≤◌, ℕ, List, [], ◌∷◌, ◌++◌, length, sym, ap, subst, ◌∙◌, arith}
 use Rattle.std.specs.Prelude.{All, Option, Result, Ok, Err, IfOk, OnErr}
-use Rattle.std.proofs.lemmas.List.Elements.{All-append, All-cons, All-head, All-nil, All-same, All-tail}
-use Rattle.cm_boot.specs.declared.question.Question.{Question}
-use Rattle.cm_boot.specs.declared.question.Answer.{Answer}
+use Rattle.std.proofs.lemmas.List.Elements.{All-head, All-nil, All-tail}
 use Rattle.cm_history.specs.declared.call.Call.{Call}
 use Rattle.cm_history.specs.declared.call.Call.TheVariants as call
 use Rattle.cm_history.specs.declared.call.Entry.{Entry}
 use Rattle.cm_live.specs.Receiving.{IsNoReport}
-use Rattle.cm_netlist.specs.Network.{Network}
-use Rattle.cm_run.specs.Rounds.{Fail, HasRound, calls_in}
-use Rattle.cm_run.specs.declared.outcome.Attempt.{Attempt}
-use Rattle.cm_run.specs.declared.outcome.Attempt.TheVariants as attempt
-use Rattle.cm_run.specs.declared.outcome.Outcome.{Outcome}
 use Rattle.cm_seat.specs.Handing.{AreApart, HaveTheirCalls, count_calls}
 use Rattle.cm_seat.specs.SeatCalls.{calls_of, made}
 use Rattle.cm_seat.specs.Views.{SeatView}
@@ -72,29 +65,6 @@ pub watched : (typed : Option (List ℕ)) (r : Result Receipt CallFault) (old ne
     → IfOk r (λ k. (new.number ≡ old.number) × (new.list ≡ old.list ++ made k.position c k.reply ∷ [])) → OnErr r (new ≡ old) → IsOperators typed old upto → IsOperators typed new upto
 watched typed (Ok k) old new c upto w ok err o = operated_on typed old new upto upto (made k.position c k.reply) ok (quiet_typed typed c w upto) o
 watched typed (Err f) old new c upto w ok err o = subst (λ (s : SeatView). IsOperators typed s upto) (sym err) o
-
--- ---- a round makes no request
-
-calls_quiet : (i : ℕ) (t : Attempt) → NoRequests (calls_in i t)
-calls_quiet i (attempt.NotBegun f) = All-nil MakesNoRequest
-calls_quiet i (attempt.Refused r n) = All-cons MakesNoRequest (made r.position (call.Begin i) r.reply) [] tt (All-nil MakesNoRequest)
-calls_quiet i (attempt.NotReported r n a f) = All-cons MakesNoRequest (made r.position (call.Begin i) r.reply) [] tt (All-nil MakesNoRequest)
-calls_quiet i (attempt.Ended b n a r l) =
-    All-cons MakesNoRequest (made b.position (call.Begin i) b.reply) (made r.position (call.Report i n a) r.reply ∷ []) tt
-    (All-cons MakesNoRequest (made r.position (call.Report i n a) r.reply) [] tt (All-nil MakesNoRequest))
-
-module _ {B : Type 0} (Asks : B → ℕ → Question → Answer → B → Type 0) (net : Network) (i : ℕ) where
-  attempts_quiet : (b : B) (ts : List Attempt) (list : List Made) (c : B) → Fail Asks net i b ts list c → NoRequests list
-  attempts_quiet b [] list c f = All-same MakesNoRequest list [] f.0 (All-nil MakesNoRequest)
-  attempts_quiet b (t ∷ ts) list c f =
-      All-same MakesNoRequest list (calls_in i t ++ f.0) f.5 (All-append MakesNoRequest (calls_in i t) f.0 (calls_quiet i t) (attempts_quiet f.1 ts f.0 c f.4))
-
-  pub round_quiet : (m : ℕ) (o : Outcome) (old new : List Made) (b c : B) → HasRound Asks net i m o old new b c → NoRequests old → NoRequests new
-  round_quiet m o old new b c r quiet =
-      All-same MakesNoRequest new (old ++ r.added) r.grown
-      (All-append MakesNoRequest old r.added quiet
-      (All-same MakesNoRequest r.added (r.round.before ++ calls_in i r.round.final) r.round.calls
-      (All-append MakesNoRequest r.round.before (calls_in i r.round.final) (attempts_quiet b r.round.failed r.round.before r.round.between r.round.fails) (calls_quiet i r.round.final))))
 
 -- ---- the history
 

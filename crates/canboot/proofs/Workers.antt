@@ -1,10 +1,8 @@
--- The reports of a round are of its slave, and so, in a history, each is made by the seat of its slave's worker.
+-- In a history each report is made by the seat of its slave's worker.
 use Rattle.std.proofs.Common.{◌≡◌, ◌==◌, ◌+◌, ℕ, Bool, true, false, List, [], ◌∷◌, ◌++◌, refl, sym, subst}
 use Rattle.std.specs.Prelude.{Result, Ok, Err, IfOk, OnErr, if◌then◌else◌}
 use Rattle.std.proofs.lemmas.Bool.{eq-eqb}
-use Rattle.std.proofs.lemmas.List.Elements.{All-append, All-cons, All-head, All-nil, All-push, All-same, All-tail}
-use Rattle.cm_boot.specs.declared.question.Answer.{Answer}
-use Rattle.cm_boot.specs.declared.question.Question.{Question}
+use Rattle.std.proofs.lemmas.List.Elements.{All-cons, All-head, All-nil, All-push, All-same, All-tail}
 use Rattle.cm_history.specs.declared.call.Call.{Call}
 use Rattle.cm_history.specs.declared.call.Call.TheVariants as call
 use Rattle.cm_history.specs.declared.call.Entry.{Entry}
@@ -15,10 +13,6 @@ use Rattle.cm_seat.specs.declared.fault.CallFault.{CallFault}
 use Rattle.cm_seat.specs.declared.made.Made.{Made}
 use Rattle.cm_seat.specs.declared.made.Receipt.{Receipt}
 use Rattle.cm_live.specs.Receiving.{IsNoReport}
-use Rattle.cm_run.specs.Rounds.{Fail, HasRound, calls_in}
-use Rattle.cm_run.specs.declared.outcome.Attempt.{Attempt}
-use Rattle.cm_run.specs.declared.outcome.Attempt.TheVariants as attempt
-use Rattle.cm_run.specs.declared.outcome.Outcome.{Outcome}
 use Rattle.canboot.specs.Workers.{AreOfItsSeat, AreOfTheirSeats, IsOfItsSeat, seat_of}
 
 module _ (net : Network) (seats : ℕ) where
@@ -28,28 +22,6 @@ module _ (net : Network) (seats : ℕ) where
 
     pub none_own : AreOfItsSeat net seats seat []
     none_own = All-nil Own
-
-    -- ---- a round
-
-    attempt_own : (i : ℕ) → seat_of net seats i ≡ seat → (t : Attempt) → AreOfItsSeat net seats seat (calls_in i t)
-    attempt_own i own (attempt.NotBegun f) = none_own
-    attempt_own i own (attempt.Refused b r) = All-cons Own (made b.position (call.Begin i) b.reply) [] tt none_own
-    attempt_own i own (attempt.NotReported b n a f) = All-cons Own (made b.position (call.Begin i) b.reply) [] tt none_own
-    attempt_own i own (attempt.Ended b n a r l) =
-        All-cons Own (made b.position (call.Begin i) b.reply) (made r.position (call.Report i n a) r.reply ∷ []) tt
-        (All-cons Own (made r.position (call.Report i n a) r.reply) [] own none_own)
-
-    module _ {B : Type 0} (step : B → ℕ → Question → Answer → B → Type 0) (i : ℕ) (own : seat_of net seats i ≡ seat) where
-      attempts_own : (b : B) (ts : List Attempt) (list : List Made) (c : B) → Fail step net i b ts list c → AreOfItsSeat net seats seat list
-      attempts_own b [] list c f = All-same Own list [] f.0 none_own
-      attempts_own b (t ∷ ts) list c f =
-          All-same Own list (calls_in i t ++ f.0) f.5 (All-append Own (calls_in i t) f.0 (attempt_own i own t) (attempts_own f.1 ts f.0 c f.4))
-
-      pub round_own : (m : ℕ) (o : Outcome) (old new : List Made) (b c : B) → HasRound step net i m o old new b c → AreOfItsSeat net seats seat old → AreOfItsSeat net seats seat new
-      round_own m o old new b c r h =
-          let before = attempts_own b r.round.failed r.round.before r.round.between r.round.fails in
-          let added = All-same Own r.added (r.round.before ++ calls_in i r.round.final) r.round.calls (All-append Own r.round.before (calls_in i r.round.final) before (attempt_own i own r.round.final)) in
-          All-same Own new (old ++ r.added) r.grown (All-append Own old r.added h added)
 
     -- ---- a call that is no report
 

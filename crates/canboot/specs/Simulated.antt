@@ -17,8 +17,9 @@ use Rattle.cm_simulated.specs.declared.slave.SimSlave.{SimSlave}
 use Rattle.cm_run.specs.Rounds.{AreRounds}
 use Rattle.cm_run.specs.Running.{id_of}
 use Rattle.cm_run.specs.Shares.{share}
+use Rattle.cm_run.specs.declared.outcome.Last.{Last}
+use Rattle.cm_run.specs.declared.outcome.Last.TheVariants as last
 use Rattle.cm_run.specs.declared.outcome.Outcome.{Outcome}
-use Rattle.canboot.specs.Causes.{WasMade}
 
 -- the operator, who has seat 1, has made just two calls: the network was started, and then it was said that no time went by
 pub record IsOperated (entries : List Entry) : Type 0 where
@@ -45,7 +46,13 @@ slave_given net silent i = if is_silent silent i then None else agreeing_with (t
 abbrev pub IsBusOf : Network → Option ℕ → List ℕ → SimBus → Type 0
 IsBusOf net silent ids bus = (i : ℕ) → i < 128 → slave_at bus i ≡ (if is_one_of ids i then option_map put_on (slave_given net silent i) else None)
 
--- each call of the outcome's attempts was made
+-- each call of the attempt was made
+abbrev pub WasMade : Last → Type 0
+WasMade (last.Status s) = Unit {0}
+WasMade (last.Refused r) = Unit {0}
+WasMade (last.Fault f) = ⊥
+
+-- and so for the last attempt at a slave, behind which a round ends
 abbrev pub AreMade : Outcome → Type 0
 AreMade outcome = WasMade outcome.last
 

@@ -1,9 +1,10 @@
 use Rattle.std.proofs.Common.{◌≡◌, ◌-◌, ◌%◌, ◌+◌, ◌∙◌, ℕ, List, [], ap, sym, subst, arith}
 use Rattle.cm_netlist.specs.Network.{listed_ids}
-use Rattle.canboot.specs.Workers.{AreOfItsSeat, place_of, seat_of}
-use Rattle.canboot.proofs.Operated.{round_quiet}
+use Rattle.cm_seat.specs.declared.made.Made.{Made}
+use Rattle.canboot.specs.Typing.{MakesNoRequest}
+use Rattle.canboot.specs.Workers.{AreOfItsSeat, IsOfItsSeat, place_of, seat_of}
+use Rattle.canboot.proofs.Calls.{round_each}
 use Rattle.canboot.proofs.ReceivedRounds.{round_received}
-use Rattle.canboot.proofs.Workers.{round_own}
 use Rattle.canboot.proofs.booth.Booth.boot.Goals as goal
 
 pub invariant_of-self : goal.invariant_of-self
@@ -19,9 +20,9 @@ invariant_of-self g c =
     ap (λ (w : ℕ). place_of c.args.id (listed_ids net) % w + 2) (sym workers)
     ∙ (ap (λ (ids : List ℕ). place_of c.args.id ids % s.workers + 2) (sym listed) ∙ (sym c.seat_of.ensures ∙ (c.if-seat_of-number.false ∙ c.number.ensures.value))) in (
       round_received g.B.BusName.format g.B.BusName.text net c.args.id c.args.most c.live_round.result s.seat.list c.live_round.new.seat.list (record { log = []; heard = s.bus.heard }) c.live_round.new.bus round i.0,
-      round_quiet _ net c.args.id c.args.most c.live_round.result s.seat.list c.live_round.new.seat.list _ c.live_round.new.bus round i.1,
+      round_each MakesNoRequest c.args.id (λ p r. tt) (λ p n a r. tt) _ net c.args.most c.live_round.result s.seat.list c.live_round.new.seat.list _ c.live_round.new.bus round i.1,
       subst (λ (n : ℕ). AreOfItsSeat net seats n c.live_round.new.seat.list) (sym c.live_round.ensures.number)
-          (round_own net seats s.seat.number _ c.args.id own c.args.most c.live_round.result s.seat.list c.live_round.new.seat.list _ c.live_round.new.bus round i.2),
+          (round_each (λ (m : Made). IsOfItsSeat net seats s.seat.number m.call) c.args.id (λ p r. tt) (λ p n a r. own) _ net c.args.most c.live_round.result s.seat.list c.live_round.new.seat.list _ c.live_round.new.bus round i.2),
       i.3,
       i.4,
     )
