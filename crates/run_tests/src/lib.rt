@@ -15,6 +15,8 @@ mod reading;
 #[cfg(test)]
 mod rounds;
 #[cfg(test)]
+mod routed;
+#[cfg(test)]
 mod side_by_side;
 #[cfg(test)]
 mod support;
