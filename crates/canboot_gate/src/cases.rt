@@ -7,6 +7,7 @@ mod compared;
 mod run;
 mod scanner;
 mod text;
+mod watching;
 
 use crate::cases::case::Case;
 use crate::cases::run::{Outcome, run_case};

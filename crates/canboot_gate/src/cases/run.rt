@@ -1,6 +1,7 @@
 use crate::cases::case::{Case, Source};
 use crate::cases::compared::Compared;
 use crate::cases::text::{Part, Text};
+use crate::cases::watching::tell_story;
 use canboot::run_words;
 use std::alloc::{AllocError, Global};
 use std::fs::{self, File};
@@ -100,7 +101,18 @@ fn is_journal<R: Files + AllocGlobal>(
     }
 }
 
-/// Runs canboot as the case says.
+/// Tells a story of a watch. The status is 1 where it is none.
+fn run_story(alloc: Global, input: &mut Text<'_>, out: &mut Compared<'_>) -> io::Result<u8> {
+    let mut story = Vec::new(alloc);
+    input.write_to(&mut story)?;
+    Ok(if tell_story(alloc, story.as_slice(), out)? {
+        0
+    } else {
+        1
+    })
+}
+
+/// Runs canboot as the case says, or tells the story of a watch.
 pub fn run_case<
     R: Files<File = File>
         + Input<Reader = StdinLock<'static>>
@@ -132,8 +144,12 @@ pub fn run_case<
     let mut out = Compared::new(wanted(alloc, &case.out, &out_parts));
     let mut err = Compared::new(wanted(alloc, &case.err, &err_parts));
     let journal = Compared::new(wanted(alloc, &case.journal, &journal_parts));
-    let words = words_of(alloc, case)?;
-    let status = run_words(rt, words.as_slice(), &mut input, &mut out, &mut err, false);
+    let status = if let ["watch"] = case.words.as_slice() {
+        run_story(alloc, &mut input, &mut out)?
+    } else {
+        let words = words_of(alloc, case)?;
+        run_words(rt, words.as_slice(), &mut input, &mut out, &mut err, false)
+    };
     Ok(Outcome {
         same_out: out.is_same()?,
         same_err: err.is_same()?,

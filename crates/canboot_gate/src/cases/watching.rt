@@ -1,0 +1,130 @@
+//! Stories of a watch. A story is a journal, and behind it when what of it happened.
+
+use cm_history::Entry;
+use cm_journal::{Journal, journal_read};
+use cm_nmt::NodeId;
+use cm_watch::{Happening, Settings, Step, Watch};
+use std::alloc::Global;
+use std::io::{self, ErrorKind, Write};
+use std::str;
+
+/// The greatest time of a story, in ms: a watch is told none from 2 to the 62nd on.
+const LATEST: u64 = 1 << 61;
+
+/// A story as far as it was told.
+#[derive(Drop)]
+struct Story<'a> {
+    watch: Watch,
+    journal: &'a Journal,
+    /// How many entries were told.
+    told: usize,
+}
+
+/// What a line of a story says.
+#[derive(Clone, Copy)]
+enum Line {
+    Happened(Happening),
+    Turn,
+}
+
+/// The journal of a story, to the end of its `end` line, and the lines behind it.
+fn split_story(bytes: &[u8]) -> Option<(&[u8], &str)> {
+    let mut from: usize = 0;
+    for line in bytes.split(|byte| *byte == b'\n') {
+        from = from.checked_add(line.len())?.checked_add(1)?;
+        if line.starts_with(b"end ") {
+            let (journal, rest) = bytes.split_at_checked(from)?;
+            return Some((journal, str::from_utf8(rest).ok()?));
+        }
+    }
+    None
+}
+
+/// A node, in decimal.
+fn node_of(field: Option<&str>) -> Option<NodeId> {
+    NodeId::new(field?.parse::<u8>().ok()?)
+}
+
+impl<'a> Story<'a> {
+    /// The next entry of the journal.
+    fn next_entry(&mut self) -> Option<Entry> {
+        let entry = self.journal.entries.as_slice().get(self.told)?;
+        self.told = self.told.saturating_add(1);
+        Some(*entry)
+    }
+
+    /// What a line says behind its time.
+    fn read_line(&mut self, word: &str, first: Option<&str>, second: Option<&str>) -> Option<Line> {
+        match word {
+            "turn" => Some(Line::Turn),
+            "entry" => Some(Line::Happened(Happening::Called(self.next_entry()?))),
+            "ended" => Some(Line::Happened(Happening::Ended(node_of(first)?))),
+            "asked" => Some(Line::Happened(Happening::Asked(node_of(first)?))),
+            "heard" => {
+                let byte = u8::from_str_radix(second?, 16).ok()?;
+                Some(Line::Happened(Happening::Heard(node_of(first)?, byte)))
+            }
+            _ => None,
+        }
+    }
+
+    /// Tells the watch a line; of a turn the steps are written.
+    fn tell<W: Write>(&mut self, alloc: Global, line: &str, out: &mut W) -> io::Result<bool> {
+        let mut fields = line.split(' ');
+        let now_ms = fields.next().and_then(|field| field.parse::<u64>().ok());
+        let word = fields.next().unwrap_or("");
+        let (first, second) = (fields.next(), fields.next());
+        let Some(now_ms) = now_ms.filter(|ms| *ms < LATEST) else {
+            return Ok(false);
+        };
+        let network = &self.journal.network;
+        match self.read_line(word, first, second) {
+            Some(Line::Happened(happening)) => self.watch.take(network, now_ms, &happening),
+            Some(Line::Turn) => {
+                for step in &self.watch.turn(alloc, network, now_ms)? {
+                    put_step(now_ms, *step, out)?;
+                }
+            }
+            None => return Ok(false),
+        }
+        Ok(true)
+    }
+}
+
+/// Writes a step, in words.
+fn put_step<W: Write>(now_ms: u64, step: Step, out: &mut W) -> io::Result<()> {
+    match step {
+        Step::Lost(id) => writeln!(out, "{now_ms} lost {}", id.get()),
+        Step::Boot(id) => writeln!(out, "{now_ms} boot {}", id.get()),
+        Step::Signal(id, byte) => writeln!(out, "{now_ms} signal {} {byte:02X}", id.get()),
+        Step::TimeOver(ms) => writeln!(out, "{now_ms} time-over {ms}"),
+        Step::AllTried(ms) => writeln!(out, "{now_ms} all-tried {ms}"),
+    }
+}
+
+/// Tells the story of these bytes; the steps of its turns are written. The first line behind the journal is the settle
+/// time. `false` where something isn't as it has to be.
+pub fn tell_story<W: Write>(alloc: Global, bytes: &[u8], out: &mut W) -> io::Result<bool> {
+    let Some((journal, rest)) = split_story(bytes) else {
+        return Ok(false);
+    };
+    let Ok(journal) = journal_read(alloc, journal) else {
+        return Err(io::Error::from(ErrorKind::InvalidData));
+    };
+    let mut lines = rest.lines();
+    let settle = lines.next().and_then(|line| line.strip_prefix("settle "));
+    let Some(settle_ms) = settle.and_then(|field| field.parse::<u32>().ok()) else {
+        return Ok(false);
+    };
+    let mut story = Story {
+        watch: Watch::new(Settings { settle_ms }),
+        journal: &journal,
+        told: 0,
+    };
+    for line in lines {
+        if !story.tell(alloc, line, out)? {
+            return Ok(false);
+        }
+    }
+    Ok(story.told == journal.entries.len())
+}

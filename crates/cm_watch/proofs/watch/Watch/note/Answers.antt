@@ -1,0 +1,27 @@
+use Rattle.std.proofs.Common.{◌≡◌, ◌∙◌, ◌∷◌, ap, subst, sym}
+use Rattle.cm_history.specs.History.{is_empty, open_of}
+use Rattle.cm_netlist.specs.Network.{listing}
+use Rattle.cm_watch.specs.Kept.{course_after}
+use Rattle.cm_watch.specs.Pasts.{entries_in}
+use Rattle.cm_watch.specs.Watches.{AreSlaves}
+use Rattle.cm_watch.specs.declared.course.Course.{Course}
+use Rattle.cm_watch.specs.declared.settings.Settings.{Settings}
+use Rattle.cm_watch.proofs.Courses.{course_step, same_open}
+use Rattle.cm_watch.proofs.watch.Watch.note.Goals as goal
+
+pub returns : goal.returns
+returns c = λ s past w.
+    let net = c.args.network.now in
+    let t = c.args.now_ms in
+    let m = c.args.moment.now in
+    let old = c.args.self.now in
+    let before : AreSlaves old.slaves net old.settings past = subst (λ (x : Settings). AreSlaves old.slaves net x past) (sym w.settings) w.slaves in
+    let after : AreSlaves c.take_all.new.slaves net s ((t, m) ∷ past) = subst (λ (x : Settings). AreSlaves c.take_all.new.slaves net x ((t, m) ∷ past)) w.settings (c.take_all.ensures past before) in
+    let open_is = same_open c.take_all.new.slaves net s ((t, m) ∷ past) after in
+    record {
+      settings = w.settings;
+      slaves = after;
+      course = c.after-self.ensures (open_of (listing net) (entries_in ((t, m) ∷ past))) (c.none_pending-none_open.ensures ∙ ap is_empty open_is)
+          ∙ ap (λ (x : Course). course_after net t m (open_of (listing net) (entries_in ((t, m) ∷ past))) x) w.course
+          ∙ course_step net past t m;
+    }

@@ -1,0 +1,109 @@
+-- Working definitions: what is kept of a slave and of the network, and what one moment makes of it.
+use Rattle.std.specs.Prelude.{ℕ, Bool, None, Option, false, if◌then◌else◌, unwrap_or}
+use Rattle.std.specs.Option.{option_or}
+use Rattle.cm_history.specs.Machine.{phase_after}
+use Rattle.cm_history.specs.declared.phase.Phase.{Phase}
+use Rattle.cm_history.specs.declared.phase.Phase.TheVariants as phase
+use Rattle.cm_netlist.specs.Network.{Network, listing}
+use Rattle.std.specs.Prelude.{List}
+use Rattle.cm_watch.specs.Course.{end_by, is_end_given, is_over_given, is_stopped_in, over_by, phase_in, started_at, started_by, stopped_by}
+use Rattle.cm_watch.specs.Pasts.{Past}
+use Rattle.cm_watch.specs.Schedules.{blank_schedule, cause_by, schedule_after, schedule_in}
+use Rattle.cm_watch.specs.Signals.{boot_up_by, budget_in, full_budget, news_in, spends, spent, state_heard_by, state_told_by}
+use Rattle.cm_watch.specs.Slaves.{asked_by, booted_by, booted_since, busy_by, heard_by, heard_last, held_by, is_asked_in, is_busy_in, is_held_in, is_lost_given, is_tried_in, lost_by, tried_by}
+use Rattle.cm_watch.specs.declared.course.Course.{Course}
+use Rattle.cm_watch.specs.declared.happening.Happening.TheVariants as happening
+use Rattle.cm_watch.specs.declared.happening.Moment.{Moment}
+use Rattle.cm_watch.specs.declared.happening.Moment.TheVariants as moment
+use Rattle.cm_watch.specs.declared.schedule.Schedule.{Schedule}
+use Rattle.cm_watch.specs.declared.settings.Settings.{Settings}
+use Rattle.cm_watch.specs.declared.signals.Budget.{Budget}
+use Rattle.cm_watch.specs.declared.signals.News.{News}
+use Rattle.cm_watch.specs.declared.slave.Slave.{Slave}
+
+-- ---- a slave
+
+-- what is kept of i
+abbrev pub slave_of : Network → Settings → Past → ℕ → Slave
+slave_of net s past i = record {
+  heard = heard_last past i;
+  booted = booted_since past i;
+  is_busy = is_busy_in past i;
+  is_held = is_held_in past i;
+  is_lost = is_lost_given past i;
+  is_tried = is_tried_in past i;
+  is_asked = is_asked_in past i;
+  schedule = schedule_in net s past i;
+  news = news_in past i;
+  budget = budget_in net s past i;
+}
+
+-- nothing has happened
+abbrev pub blank_slave : Slave
+blank_slave = record {
+  heard = None;
+  booted = None;
+  is_busy = false;
+  is_held = false;
+  is_lost = false;
+  is_tried = false;
+  is_asked = false;
+  schedule = blank_schedule;
+  news = record { boot_up = false; heard = None; told = None };
+  budget = full_budget;
+}
+
+abbrev pub news_after : Moment → ℕ → News → News
+news_after m i n = record {
+  boot_up = unwrap_or (boot_up_by m i) n.boot_up;
+  heard = option_or (state_heard_by m i) n.heard;
+  told = option_or (state_told_by m i) n.told;
+}
+
+abbrev pub budget_after : ℕ → Moment → ℕ → Schedule → Budget → Budget
+budget_after t m i k b = if spends m k i then spent t b else b
+
+-- what is kept of i after the moment m at the time t
+abbrev pub slave_after : Network → Settings → ℕ → Moment → ℕ → Slave → Slave
+slave_after net s t m i k = record {
+  heard = option_or (heard_by t m i) k.heard;
+  booted = unwrap_or (booted_by t m i) k.booted;
+  is_busy = unwrap_or (busy_by m i) k.is_busy;
+  is_held = unwrap_or (held_by m i) k.is_held;
+  is_lost = unwrap_or (lost_by m i) k.is_lost;
+  is_tried = unwrap_or (tried_by m i) k.is_tried;
+  is_asked = unwrap_or (asked_by m i) k.is_asked;
+  schedule = schedule_after net s t i (cause_by m i) k.schedule;
+  news = news_after m i k.news;
+  budget = budget_after t m i k.schedule k.budget;
+}
+
+-- ---- the network
+
+-- what is kept of the network
+abbrev pub course_of : Network → Past → Course
+course_of net past = record {
+  phase = phase_in net past;
+  started = started_at past;
+  is_stopped = is_stopped_in past;
+  is_over_given = is_over_given past;
+  is_end_given = is_end_given past;
+}
+
+-- before any call
+abbrev pub blank_course : Course
+blank_course = record { phase = phase.Idle; started = None; is_stopped = false; is_over_given = false; is_end_given = false }
+
+-- the phase after the moment, with the slaves that are open then
+abbrev pub phase_behind : Network → Moment → List ℕ → Phase → Phase
+phase_behind net (moment.Happened (happening.Called e)) open_slaves p = phase_after (listing net) e.call e.reply open_slaves p
+phase_behind net _ open_slaves p = p
+
+abbrev pub course_after : Network → ℕ → Moment → List ℕ → Course → Course
+course_after net t m open_slaves c = record {
+  phase = phase_behind net m open_slaves c.phase;
+  started = option_or (started_by t m) c.started;
+  is_stopped = unwrap_or (stopped_by m) c.is_stopped;
+  is_over_given = unwrap_or (over_by m) c.is_over_given;
+  is_end_given = unwrap_or (end_by m) c.is_end_given;
+}

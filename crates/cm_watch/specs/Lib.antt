@@ -1,0 +1,12 @@
+pub mod Pasts
+pub mod Slaves
+pub mod Schedules
+pub mod Signals
+pub mod Course
+pub mod Steps
+pub mod Losses
+pub mod Limits
+pub mod Causes
+pub mod Kept
+pub mod Watches
+pub mod InOrder

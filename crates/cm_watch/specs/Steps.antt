@@ -1,0 +1,107 @@
+-- Which steps are given at a time, told from the past (own).
+use Rattle.std.specs.Prelude.{ℕ, Bool, false, true, ◌==◌, ◌&&◌, ◌||◌, not, if◌then◌else◌, nat_lt, ◌-◌, ◌++◌, max, min, List, [], ◌∷◌, map, filter, Option, Some, None, is_some, unwrap_or}
+use Rattle.std.specs.Option.{option_map_or}
+use Rattle.cm_history.specs.History.{is_empty}
+use Rattle.cm_history.specs.Phases.{is_booting, is_ready}
+use Rattle.cm_history.specs.declared.phase.Phase.{Phase}
+use Rattle.cm_netlist.specs.Network.{Network, entry, is_listed}
+use Rattle.cm_netlist.specs.declared.entry.SlaveEntry.{SlaveEntry}
+use Rattle.cm_nmt.specs.Listing.{node_ids}
+use Rattle.cm_watch.specs.Course.{is_end_given, is_over_given, is_stopped_in, phase_in, started_at}
+use Rattle.cm_watch.specs.Pasts.{Past}
+use Rattle.cm_watch.specs.Schedules.{is_due, is_own, schedule_in}
+use Rattle.cm_watch.specs.Signals.{budget_in, is_allowed, news_in, news_of}
+use Rattle.cm_watch.specs.Slaves.{booted_since, heard_last, is_asked_in, is_busy_in, is_held_in, is_lost_given, is_tried_in}
+use Rattle.cm_watch.specs.declared.happening.Moment.TheVariants as moment
+use Rattle.cm_watch.specs.declared.happening.Step.{Step}
+use Rattle.cm_watch.specs.declared.happening.Step.TheVariants as step
+use Rattle.cm_watch.specs.declared.schedule.Schedule.{Schedule}
+use Rattle.cm_watch.specs.declared.settings.Settings.{Settings}
+use Rattle.cm_watch.specs.declared.signals.Budget.{Budget}
+
+-- ---- a slave that is lost
+
+-- in which time the heartbeat of i has to come, in ms; 0 where it isn't watched (CiA 302-2, 1016h of the manager)
+abbrev pub heartbeat_of : Network → ℕ → ℕ
+heartbeat_of net i = option_map_or (λ (e : SlaveEntry). e.heartbeat_ms) (entry net i) 0
+
+-- what is booted since some time, and was heard last at another, wasn't heard within h ms
+abbrev pub is_overdue : ℕ → ℕ → Option ℕ → Option ℕ → Bool
+is_overdue h now heard None = false
+is_overdue h now heard (Some since) = nat_lt 0 h && nat_lt h (now - max (unwrap_or heard 0) since)
+
+-- i is booted and watched, neither an error control message of it nor the report that booted it came in time, and it wasn't
+-- given as lost since it was booted
+abbrev pub is_late : Network → Past → ℕ → ℕ → Bool
+is_late net past now i =
+    is_overdue (heartbeat_of net i) now (heard_last past i) (booted_since past i) && not (is_lost_given past i)
+
+-- ---- a slave that is to be booted
+
+-- the manager takes a boot: the network is started, and wasn't halted
+abbrev pub takes_boots : Phase → Bool
+takes_boots p = is_booting p || is_ready p
+
+-- the slave itself stands in the way: it isn't due, a worker has it, an operator holds it, or it has caused too much
+abbrev pub is_free : ℕ → Schedule → Bool → Bool → Budget → Bool
+is_free now k busy held b = is_due now k.due && (not busy && (not held && (not (is_own k.due) || is_allowed now b)))
+
+-- i is to be booted: the manager takes boots, all aren't stopped, or the operator has asked for it, and i is free for it
+abbrev pub is_to_be_booted : Network → Settings → Past → ℕ → ℕ → Bool
+is_to_be_booted net s past now i =
+    takes_boots (phase_in net past)
+    && ((not (is_stopped_in past) || is_asked_in past i)
+    && (is_listed net i
+    && is_free now (schedule_in net s past i) (is_busy_in past i) (is_held_in past i) (budget_in net s past i)))
+
+-- ---- a signal
+
+-- the manager is to be told of i: there is something, i may cause a step, and isn't booted just now
+abbrev pub is_to_be_told : Network → Settings → Past → ℕ → ℕ → Bool
+is_to_be_told net s past now i =
+    is_listed net i
+    && (is_some (news_of (news_in past i)) && (is_allowed now (budget_in net s past i) && not (is_to_be_booted net s past now i)))
+
+abbrev pub signal_of : Past → ℕ → Step
+signal_of past i = step.Signal i (unwrap_or (news_of (news_in past i)) 0)
+
+-- ---- the time
+
+-- the ms since the network was started, as far as a call can tell them
+abbrev pub elapsed_at : Past → ℕ → ℕ
+elapsed_at past now = min (now - unwrap_or (started_at past) 0) 0xFFFFFFFF
+
+-- the time for the boot of the mandatory slaves is over while they are being booted, and that wasn't given yet
+abbrev pub is_time_over : Network → Past → ℕ → Bool
+is_time_over net past now =
+    is_booting (phase_in net past)
+    && (not (is_over_given past) && (nat_lt 0 net.boot_time && nat_lt net.boot_time (now - unwrap_or (started_at past) 0)))
+
+-- each listed slave was tried
+abbrev pub are_tried : Network → Past → Bool
+are_tried net past = is_empty (filter (λ i. is_listed net i && not (is_tried_in past i)) node_ids)
+
+-- the network is ready, or all slaves were tried, and the time wasn't given yet
+abbrev pub is_end : Network → Past → Bool
+is_end net past =
+    takes_boots (phase_in net past) && (not (is_end_given past) && (is_ready (phase_in net past) || are_tried net past))
+
+-- ---- all steps
+
+-- a step where it is to be given
+abbrev pub step_if : Bool → Step → List Step
+step_if b s = if b then s ∷ [] else []
+
+-- the steps at a time: the slaves that are lost, those to be booted, the signals, each in rising order, and the time
+abbrev pub steps_at : Network → Settings → Past → ℕ → List Step
+steps_at net s past now =
+    map step.Lost (filter (is_late net past now) node_ids)
+    ++ map step.Boot (filter (is_to_be_booted net s past now) node_ids)
+    ++ map (signal_of past) (filter (is_to_be_told net s past now) node_ids)
+    ++ step_if (is_time_over net past now) (step.TimeOver (elapsed_at past now))
+    ++ step_if (is_end net past) (step.AllTried (elapsed_at past now))
+
+-- the past once the steps were given
+abbrev pub given : ℕ → List Step → Past → Past
+given now [] past = past
+given now (x ∷ steps) past = given now steps ((now, moment.Gave x) ∷ past)

@@ -1,0 +1,40 @@
+use cm_history::Entry;
+use cm_nmt::NodeId;
+
+/// What happens in a live run.
+#[derive(Clone, Copy)]
+pub enum Happening {
+    /// An error control message of the node came, with this byte (CiA 301, heartbeat and boot-up).
+    Heard(NodeId, u8),
+    /// A call was made: its entry of the history. Calls are told in the order of the history.
+    Called(Entry),
+    /// A worker's attempts at the slave have ended.
+    Ended(NodeId),
+    /// The operator asks for a boot of the slave.
+    Asked(NodeId),
+}
+
+/// What is to be done.
+#[derive(Clone, Copy)]
+pub enum Step {
+    /// The manager is to be told that the slave is lost.
+    Lost(NodeId),
+    /// The worker of the slave is to boot it.
+    Boot(NodeId),
+    /// The manager is to be told what the node sent: a boot-up message (0), or its state.
+    Signal(NodeId, u8),
+    /// The manager is to be told that so many ms went by since the network was started: the time for the boot of its
+    /// mandatory slaves is over.
+    TimeOver(u32),
+    /// The manager is to be told that so many ms went by: the network is ready, or all slaves were tried.
+    AllTried(u32),
+}
+
+/// What a past is made of: what has happened, and the steps that were given.
+#[derive(Clone, Copy)]
+pub enum Moment {
+    /// This happened.
+    Happened(Happening),
+    /// This step was given.
+    Gave(Step),
+}

@@ -1,0 +1,26 @@
+ghost use Rattle.cm_watch.specs.Causes.{IsNotForgotten};
+ghost use Rattle.cm_watch.specs.Limits.{IsOneInTenSeconds, IsToldInTime};
+ghost use Rattle.cm_watch.specs.Losses.{IsLostOnce};
+
+/// Behind a step that gave a slave as lost none does, until a report boots it.
+pub fn lost_once()
+    ensures { IsLostOnce }
+{}
+
+/// Once it has caused 64 steps at once, a node causes at most one in any 10 s by itself, until it was quiet for ten
+/// minutes.
+pub fn one_in_ten_seconds()
+    ensures { IsOneInTenSeconds }
+{}
+
+/// What is to be told of a node is given at each time that is 10 s or more behind the last step that it caused by
+/// itself, unless it is booted just then.
+pub fn told_in_time()
+    ensures { IsToldInTime }
+{}
+
+/// Once the network was started, each slave is booted, or with a worker, or held, or given up, or it is to be booted at
+/// some time.
+pub fn none_forgotten()
+    ensures { IsNotForgotten }
+{}

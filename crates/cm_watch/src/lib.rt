@@ -1,0 +1,28 @@
+//! What a live run does next, told from what has happened: a value with no runtime, clock, channel, writer or register
+//! in it (own).
+//!
+//! A [`Watch`] is told each happening with its time, and gives the steps that are to be made: that a slave is lost, is to be
+//! booted, has sent something, or that time has gone by. What it gives is told by specs/ of the list of what has happened and
+//! was given so far, its past. That each slave is given as lost once, that none is forgotten, and that one which babbles
+//! causes at most one step in 10 s, are laws of every past.
+#![tactic(auto)]
+
+mod course;
+mod happening;
+mod in_order;
+mod laws;
+mod schedule;
+mod settings;
+mod signals;
+mod slave;
+mod watch;
+
+pub use course::Course;
+pub use happening::{Happening, Moment, Step};
+pub use in_order::{InOrder, Placed};
+pub use laws::{lost_once, none_forgotten, one_in_ten_seconds, told_in_time};
+pub use schedule::{Again, Cause, Due, Schedule};
+pub use settings::Settings;
+pub use signals::{Budget, News};
+pub use slave::Slave;
+pub use watch::Watch;

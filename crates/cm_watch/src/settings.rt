@@ -1,0 +1,6 @@
+/// What a watch goes by beside the network list.
+#[derive(Clone, Copy)]
+pub struct Settings {
+    /// How long the boot-up message of a slave is waited for behind a reset, in ms.
+    pub settle_ms: u32,
+}

@@ -1,0 +1,322 @@
+ghost use Rattle.std.specs.Prelude.{◌≡◌, ◌<◌, ◌^◌, ℕ, List, [], ◌∷◌, ◌++◌, map, filter, IfOk, OnOk, OnErr};
+ghost use Rattle.cm_history.specs.History.{is_empty};
+ghost use Rattle.cm_netlist.specs.Network.{Network as NetworkList};
+ghost use Rattle.cm_nmt.specs.Listing.{node_ids};
+ghost use Rattle.cm_watch.specs.Kept.{course_of};
+ghost use Rattle.cm_watch.specs.Limits.{AreLimited};
+ghost use Rattle.cm_watch.specs.Pasts.{Past};
+ghost use Rattle.cm_watch.specs.Steps.{given, heartbeat_of, steps_at};
+ghost use Rattle.cm_watch.specs.Watches.{AreSlaves, Watches, elapsed_by, is_end_by, is_given_by, is_late_by, is_pending_by, is_time_over_by, is_to_be_booted_by, is_to_be_told_by, kept_at, signal_by, step_by, steps_by};
+ghost use Rattle.cm_watch.specs.declared.happening.Moment.TheVariants.{Gave, Happened};
+ghost use Rattle.cm_watch.specs.declared.happening.Step.TheVariants as step;
+ghost use Rattle.cm_watch.specs.declared.settings.Settings.{Settings as WatchSettings};
+
+use crate::course::{Course, is_mandatory};
+use crate::happening::{Happening, Moment, Step};
+use crate::schedule::{Again, Schedule};
+use crate::settings::Settings;
+use crate::signals::{Budget, MOST_AT_ONCE, News};
+use crate::slave::{Slave, is_overdue};
+use cm_history::Phase;
+use cm_netlist::Network;
+use cm_nmt::NodeId;
+use std::alloc::{AllocError, Global};
+
+/// What a live run does next, told from what has happened and the network list.
+#[derive(Clone, Copy)]
+pub struct Watch {
+    settings: Settings,
+    course: Course,
+    /// Of each node, that of node i at place i.
+    slaves: [Slave; 128],
+}
+
+/// What is kept of all slaves after the moment.
+fn take_all(
+    slaves: &mut [Slave; 128],
+    network: &Network,
+    settings: Settings,
+    now: u64,
+    moment: &Moment,
+)
+    requires { now < 2 ^ 62 }
+    ensures { (past : Past) → AreSlaves slaves.old network.now settings past
+        → AreSlaves slaves.new network.now settings ((now, moment.now) ∷ past) }
+{
+    for number in 1..128u8 {
+        if let Some(id) = NodeId::new(number) {
+            let place = usize::from(number);
+            slaves[place] = slaves[place].after(network, settings, now, moment, id);
+        }
+    }
+}
+
+/// In which time the heartbeat of the node has to come, in ms; 0 where it isn't watched.
+fn heartbeat_of(network: &Network, id: NodeId) -> u16
+    ensures { result ≡ heartbeat_of network.now id }
+{
+    match network.entry(id) {
+        Some(entry) => entry.heartbeat_ms,
+        None => 0,
+    }
+}
+
+/// What a step of a node is.
+#[derive(Clone, Copy)]
+enum Kind {
+    Lost,
+    Boot,
+    Signal,
+}
+
+/// What a listed slave may still be.
+#[derive(Clone, Copy)]
+enum Pending {
+    /// Mandatory, and not booted.
+    Open,
+    /// Not tried.
+    Untried,
+}
+
+impl Watch {
+    /// A watch of a network of which nothing has happened.
+    pub fn new(settings: Settings) -> Watch
+        ensures { (net : NetworkList) → Watches result net settings [] }
+    {
+        let again = Again {
+            count: 0,
+            last: None,
+        };
+        let blank = Slave {
+            heard: None,
+            booted: None,
+            is_busy: false,
+            is_held: false,
+            is_lost: false,
+            is_tried: false,
+            is_asked: false,
+            schedule: Schedule { due: None, again },
+            news: News {
+                boot_up: false,
+                heard: None,
+                told: None,
+            },
+            budget: Budget {
+                left: MOST_AT_ONCE,
+                last: None,
+            },
+        };
+        Watch {
+            settings,
+            course: Course {
+                phase: Phase::Idle,
+                started: None,
+                is_stopped: false,
+                is_over_given: false,
+                is_end_given: false,
+            },
+            slaves: [blank; 128],
+        }
+    }
+
+    /// The moment came then.
+    fn note(&mut self, network: &Network, now_ms: u64, moment: &Moment)
+        requires { now_ms < 2 ^ 62 }
+        ensures { (s : WatchSettings) (past : Past) → Watches self.old network.now s past
+            → Watches self.new network.now s ((now_ms, moment.now) ∷ past) }
+    {
+        take_all(&mut self.slaves, network, self.settings, now_ms, moment);
+        let none_open = self.none_pending(network, Pending::Open);
+        self.course = self.course.after(network, now_ms, moment, none_open);
+    }
+
+    /// This happened then.
+    pub fn take(&mut self, network: &Network, now_ms: u64, happening: &Happening)
+        requires { now_ms < 2 ^ 62 }
+        ensures { (s : WatchSettings) (past : Past) → Watches self.old network.now s past
+            → Watches self.new network.now s ((now_ms, Happened happening.now) ∷ past) }
+    {
+        self.note(network, now_ms, &Moment::Happened(*happening));
+    }
+
+    fn slave(&self, id: NodeId) -> Slave
+        ensures { result ≡ kept_at self.now.slaves id }
+    {
+        self.slaves[usize::from(id.get())]
+    }
+
+    /// Whether the slave is lost now.
+    fn is_late(&self, network: &Network, now: u64, id: NodeId) -> bool
+        ensures { result ≡ is_late_by self.now network.now now id }
+    {
+        let slave = self.slave(id);
+        let heartbeat_ms = heartbeat_of(network, id);
+        is_overdue(heartbeat_ms, now, slave.heard, slave.booted) && !slave.is_lost
+    }
+
+    /// Whether the slave is to be booted now.
+    fn is_to_be_booted(&self, network: &Network, now: u64, id: NodeId) -> bool
+        ensures { result ≡ is_to_be_booted_by self.now network.now now id }
+    {
+        let slave = self.slave(id);
+        self.course.takes_boots()
+            && (!self.course.is_stopped || slave.is_asked)
+            && network.listed(id)
+            && slave.is_free(now)
+    }
+
+    /// Whether the manager is to be told of the node now.
+    fn is_to_be_told(&self, network: &Network, now: u64, id: NodeId) -> bool
+        ensures { result ≡ is_to_be_told_by self.now network.now now id }
+    {
+        let slave = self.slave(id);
+        network.listed(id)
+            && slave.news.to_tell().is_some()
+            && slave.budget.is_allowed(now)
+            && !self.is_to_be_booted(network, now, id)
+    }
+
+    fn signal(&self, id: NodeId) -> Step
+        ensures { result ≡ signal_by self.now id }
+    {
+        Step::Signal(id, self.slave(id).news.to_tell().unwrap_or(0))
+    }
+
+    /// Whether this step of the node is to be given now.
+    fn is_given(&self, network: &Network, now: u64, kind: Kind, id: NodeId) -> bool
+        ensures { result ≡ is_given_by self.now network.now now kind id }
+    {
+        match kind {
+            Kind::Lost => self.is_late(network, now, id),
+            Kind::Boot => self.is_to_be_booted(network, now, id),
+            Kind::Signal => self.is_to_be_told(network, now, id),
+        }
+    }
+
+    /// This step of the node.
+    fn step(&self, kind: Kind, id: NodeId) -> Step
+        ensures { result ≡ step_by self.now kind id }
+    {
+        match kind {
+            Kind::Lost => Step::Lost(id),
+            Kind::Boot => Step::Boot(id),
+            Kind::Signal => self.signal(id),
+        }
+    }
+
+    /// Adds the steps of this kind, in rising order.
+    fn add_steps(
+        &self,
+        network: &Network,
+        now: u64,
+        kind: Kind,
+        steps: &mut Vec<Step>,
+    ) -> Result<(), AllocError>
+        ensures { OnOk result (steps.new.items ≡ steps.old.items
+            ++ map (step_by self.now kind) (filter (is_given_by self.now network.now now kind) node_ids)) }
+    {
+        for number in 1..128u8 {
+            if let Some(id) = NodeId::new(number) {
+                if self.is_given(network, now, kind, id) {
+                    steps.push(self.step(kind, id))?;
+                }
+            }
+        }
+        Ok(())
+    }
+
+    /// Whether the node is a slave that is this still.
+    fn is_pending(&self, network: &Network, pending: Pending, id: NodeId) -> bool
+        ensures { result ≡ is_pending_by self.now.slaves network.now pending id }
+    {
+        let slave = self.slave(id);
+        match pending {
+            Pending::Open => is_mandatory(network, id) && slave.booted.is_none(),
+            Pending::Untried => network.listed(id) && !slave.is_tried,
+        }
+    }
+
+    /// Whether no slave is this any more.
+    fn none_pending(&self, network: &Network, pending: Pending) -> bool
+        ensures { result
+            ≡ is_empty (filter (is_pending_by self.now.slaves network.now pending) node_ids) }
+    {
+        for number in 1..128u8 {
+            if let Some(id) = NodeId::new(number) {
+                if self.is_pending(network, pending, id) {
+                    return false;
+                }
+            }
+        }
+        true
+    }
+
+    /// The ms since the network was started.
+    fn elapsed(&self, now: u64) -> u32
+        ensures { result ≡ elapsed_by self.now now }
+    {
+        let started = self.course.started.unwrap_or(0);
+        now.saturating_sub(started).min(0xFFFF_FFFF) as u32
+    }
+
+    /// Whether the time for the boot of the mandatory slaves is over now.
+    fn is_time_over(&self, network: &Network, now: u64) -> bool
+        ensures { result ≡ is_time_over_by self.now network.now now }
+    {
+        let most = network.boot_time();
+        let started = self.course.started.unwrap_or(0);
+        self.course.phase.is_booting()
+            && !self.course.is_over_given
+            && 0 < most
+            && u64::from(most) < now.saturating_sub(started)
+    }
+
+    /// Whether the network is ready, or all slaves were tried, and that wasn't given yet.
+    fn is_end(&self, network: &Network) -> bool
+        ensures { result ≡ is_end_by self.now network.now }
+    {
+        self.course.takes_boots()
+            && !self.course.is_end_given
+            && (self.course.phase.is_ready() || self.none_pending(network, Pending::Untried))
+    }
+
+    fn steps(&self, alloc: Global, network: &Network, now: u64) -> Result<Vec<Step>, AllocError>
+        ensures { IfOk result (λ steps. steps.items ≡ steps_by self.now network.now now) }
+    {
+        let mut steps = Vec::new(alloc);
+        self.add_steps(network, now, Kind::Lost, &mut steps)?;
+        self.add_steps(network, now, Kind::Boot, &mut steps)?;
+        self.add_steps(network, now, Kind::Signal, &mut steps)?;
+        if self.is_time_over(network, now) {
+            steps.push(Step::TimeOver(self.elapsed(now)))?;
+        }
+        if self.is_end(network) {
+            steps.push(Step::AllTried(self.elapsed(now)))?;
+        }
+        Ok(steps)
+    }
+
+    /// The steps that are to be made now. They count as given. Where memory is refused nothing is given.
+    pub fn turn(
+        &mut self,
+        alloc: Global,
+        network: &Network,
+        now_ms: u64,
+    ) -> Result<Vec<Step>, AllocError>
+        requires { now_ms < 2 ^ 62 }
+        ensures steps { (s : WatchSettings) (past : Past) → Watches self.old network.now s past
+            → IfOk result (λ steps. steps.items ≡ steps_at network.now s past now_ms) }
+        ensures given { (s : WatchSettings) (past : Past) → Watches self.old network.now s past
+            → IfOk result (λ steps. Watches self.new network.now s (given now_ms steps.items past)) }
+        ensures limited { (s : WatchSettings) (past : Past) (i : ℕ) → Watches self.old network.now s past
+            → AreLimited network.now s past i
+            → IfOk result (λ steps. AreLimited network.now s (given now_ms steps.items past) i) }
+        ensures refused { OnErr result (self.new ≡ self.old) }
+    {
+        let steps = self.steps(alloc, network, now_ms)?;
+        for step in &steps {
+            self.note(network, now_ms, &Moment::Gave(*step));
+        }
+        Ok(steps)
+    }
+}
