@@ -1,5 +1,5 @@
 -- No cause for a boot is forgotten.
-use Rattle.std.proofs.Common.{◌≡◌, ℕ, ◌==◌, ◌&&◌, ◌||◌, not, Bool, true, false, [], ◌∷◌, refl, Option, Some, None, is_some, unwrap_or}
+use Rattle.std.proofs.Common.{◌≡◌, ℕ, ◌==◌, ◌&&◌, ◌||◌, Bool, true, false, [], ◌∷◌, refl, Option, Some, None, is_some, unwrap_or}
 use Rattle.std.specs.Bool.{if◌then◌else◌}
 use Rattle.std.specs.Prelude.{option_map}
 use Rattle.std.specs.Option.{option_or}
@@ -12,14 +12,12 @@ use Rattle.cm_history.specs.declared.call.Reply.{Reply}
 use Rattle.cm_netlist.specs.Network.{Network}
 use Rattle.cm_watch.specs.Causes.{IsNotForgotten, given_up_by, is_given_up_in}
 use Rattle.cm_watch.specs.Course.{started_at, started_by}
-use Rattle.cm_watch.specs.Pasts.{Past}
 use Rattle.cm_watch.specs.Schedules.{cause_by, cause_by_call, schedule_after, schedule_in}
 use Rattle.cm_watch.specs.Slaves.{booted_by, booted_since, busy_by, held_by, is_busy_in, is_held_in}
 use Rattle.cm_watch.specs.declared.happening.Happening.TheVariants as happening
 use Rattle.cm_watch.specs.declared.happening.Moment.{Moment}
 use Rattle.cm_watch.specs.declared.happening.Moment.TheVariants as moment
 use Rattle.cm_watch.specs.declared.happening.Step.TheVariants as step
-use Rattle.cm_watch.specs.declared.schedule.Cause.{Cause}
 use Rattle.cm_watch.specs.declared.schedule.Cause.TheVariants as cause
 use Rattle.cm_watch.specs.declared.schedule.Schedule.{Schedule}
 use Rattle.cm_watch.specs.declared.settings.Settings.{Settings}

@@ -1,9 +1,9 @@
 -- What is kept of the network is what the past says: a slave is booted where the history says so, and the phase is that of the
 -- history.
-use Rattle.std.proofs.Common.{◌≡◌, ◌∙◌, ℕ, ◌≤◌, ◌<◌, ◌&&◌, ◌||◌, not, Bool, true, false, List, [], ◌∷◌, ap, refl, sym, Option, Some, None, is_some, unwrap_or}
+use Rattle.std.proofs.Common.{◌≡◌, ◌∙◌, ℕ, ◌&&◌, ◌||◌, not, Bool, true, false, List, [], ◌∷◌, ap, refl, sym, Option, Some, None, is_some, unwrap_or}
 use Rattle.std.specs.Bool.{if◌then◌else◌}
 use Rattle.std.specs.List.{filter}
-use Rattle.cm_history.specs.History.{boots, clears, is_booted, is_empty, open_of, phase_of}
+use Rattle.cm_history.specs.History.{boots, clears, is_booted, open_of, phase_of}
 use Rattle.cm_history.specs.declared.call.Entry.{Entry}
 use Rattle.cm_history.proofs.PhaseSteps.{phase_more}
 use Rattle.cm_netlist.specs.Network.{Network, listing}
@@ -11,9 +11,8 @@ use Rattle.cm_nmt.specs.Listing.{is_mandatory, node_ids}
 use Rattle.cm_watch.specs.Kept.{course_after, course_of, phase_behind}
 use Rattle.cm_watch.specs.Pasts.{Past, entries_in, with_entry}
 use Rattle.cm_watch.specs.Slaves.{booted_by, booted_since}
-use Rattle.cm_watch.specs.Watches.{AreSlaves, is_pending_by, kept_at}
+use Rattle.cm_watch.specs.Watches.{AreSlaves, is_pending_by}
 use Rattle.cm_watch.specs.declared.watch.Pending.TheVariants as pending
-use Rattle.cm_watch.specs.declared.course.Course.{Course}
 use Rattle.cm_watch.specs.declared.happening.Happening.TheVariants as happening
 use Rattle.cm_watch.specs.declared.happening.Moment.{Moment}
 use Rattle.cm_watch.specs.declared.happening.Moment.TheVariants as moment

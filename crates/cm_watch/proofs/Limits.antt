@@ -1,12 +1,10 @@
 -- The steps that a node causes by itself are limited, and what follows from that.
-use Rattle.std.proofs.Common.{◌≡◌, ◌≢◌, ◌∙◌, ℕ, zero, suc, ◌+◌, ◌-◌, ◌≤◌, ◌<◌, ◌==◌, ◌&&◌, ◌||◌, not, nat_lt, ◌⊎◌, inl, inr, Bool, true, false, cond, List, [], ◌∷◌, ◌++◌, ap, sym, refl, arith, subst, map, Option, Some, None, eq-eqb}
+use Rattle.std.proofs.Common.{◌≡◌, ◌≢◌, ◌∙◌, ℕ, zero, suc, ◌+◌, ◌-◌, ◌≤◌, ◌<◌, ◌==◌, ◌&&◌, ◌||◌, not, nat_lt, ◌⊎◌, inl, inr, Bool, true, false, cond, List, [], ◌∷◌, ◌++◌, ap, sym, refl, arith, subst, map, Option, Some, None}
 use Rattle.std.proofs.lemmas.Grind.{common_steps}
-use Rattle.std.proofs.lemmas.Bool.{ne_eqb}
 use Rattle.std.specs.Bool.{if◌then◌else◌}
 use Rattle.std.specs.Option.{is_some}
 use Rattle.std.specs.List.{filter, range_with_len}
 use Rattle.cm_netlist.specs.Network.{Network, is_listed}
-use Rattle.cm_nmt.specs.Listing.{node_ids}
 use Rattle.cm_nmt.proofs.Both.{and_left, and_right}
 use Rattle.cm_nmt.proofs.Ids.{unfold_ids}
 use Rattle.cm_watch.specs.Limits.{AreBetween, AreLimited, IsOneInTenSeconds, IsToldInTime, caused_in}
@@ -16,7 +14,6 @@ use Rattle.cm_watch.specs.Signals.{budget_in, is_allowed, left_now, news_in, new
 use Rattle.cm_watch.specs.Slaves.{is_asked_in, is_busy_in, is_held_in}
 use Rattle.cm_watch.specs.Course.{is_stopped_in, phase_in}
 use Rattle.cm_watch.specs.Steps.{elapsed_at, given, is_end, is_free, is_late, is_time_over, is_to_be_booted, is_to_be_told, signal_of, step_if, steps_at, takes_boots}
-use Rattle.cm_watch.specs.declared.happening.Moment.{Moment}
 use Rattle.cm_watch.specs.declared.happening.Moment.TheVariants as moment
 use Rattle.cm_watch.specs.declared.happening.Step.{Step}
 use Rattle.cm_watch.specs.declared.happening.Step.TheVariants as step

@@ -9,8 +9,8 @@ use Rattle.cm_watch.specs.Kept.{course_of, slave_of}
 use Rattle.cm_watch.specs.Pasts.{Past}
 use Rattle.cm_watch.specs.Signals.{is_allowed, news_of}
 use Rattle.cm_watch.specs.Slaves.{is_tried_in}
-use Rattle.cm_watch.specs.Steps.{are_tried, elapsed_at, given, heartbeat_of, is_end, is_free, is_late, is_overdue, is_time_over, is_to_be_booted, is_to_be_told, signal_of, step_if, steps_at, takes_boots}
-use Rattle.cm_watch.specs.Watches.{Watches, are_tried_by, elapsed_by, is_end_by, is_late_by, is_time_over_by, is_to_be_booted_by, is_given_by, is_pending_by, is_to_be_told_by, kept_at, signal_by, step_by, steps_by, steps_of_kind}
+use Rattle.cm_watch.specs.Steps.{are_tried, elapsed_at, given, heartbeat_of, is_end, is_free, is_late, is_overdue, is_time_over, is_to_be_booted, is_to_be_told, signal_of, steps_at, takes_boots}
+use Rattle.cm_watch.specs.Watches.{Watches, are_tried_by, elapsed_by, is_end_by, is_late_by, is_time_over_by, is_to_be_booted_by, is_pending_by, is_to_be_told_by, signal_by, steps_by, steps_of_kind}
 use Rattle.cm_watch.specs.declared.watch.Kind.TheVariants as kind
 use Rattle.cm_watch.specs.declared.watch.Pending.TheVariants as pending
 use Rattle.cm_watch.specs.declared.course.Course.{Course}

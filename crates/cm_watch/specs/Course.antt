@@ -1,5 +1,5 @@
 -- What a past says of the network as a whole (own).
-use Rattle.std.specs.Prelude.{ℕ, Bool, true, false, if◌then◌else◌, List, [], ◌∷◌, Option, Some, None, unwrap_or}
+use Rattle.std.specs.Prelude.{ℕ, Bool, true, false, if◌then◌else◌, [], ◌∷◌, Option, Some, None, unwrap_or}
 use Rattle.std.specs.Option.{option_or}
 use Rattle.cm_history.specs.History.{is_start_by, phase_of}
 use Rattle.cm_history.specs.Orders.{is_start_all, is_stop_all}

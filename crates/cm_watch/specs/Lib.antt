@@ -10,3 +10,4 @@ pub mod Causes
 pub mod Kept
 pub mod Watches
 pub mod InOrder
+pub mod Telling

@@ -1,5 +1,5 @@
 -- What the manager is told of what a node sent, and how often (own, but where a standard is named).
-use Rattle.std.specs.Prelude.{ℕ, Bool, true, false, ◌==◌, ◌&&◌, ◌||◌, not, if◌then◌else◌, ◌-◌, ◌%◌, nat_lt, List, [], ◌∷◌, Option, Some, None, is_some, unwrap_or}
+use Rattle.std.specs.Prelude.{ℕ, Bool, true, false, ◌==◌, ◌&&◌, ◌||◌, if◌then◌else◌, ◌-◌, ◌%◌, nat_lt, [], ◌∷◌, Option, Some, None, unwrap_or}
 use Rattle.std.specs.Option.{option_or}
 use Rattle.cm_netlist.specs.Network.{Network}
 use Rattle.cm_watch.specs.Pasts.{Past}

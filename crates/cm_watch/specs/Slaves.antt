@@ -1,7 +1,7 @@
 -- What a past says of each slave (own, but where a standard is named). A past is given with its newest moment first:
 -- `(t, m) ∷ past` is `past`, and then the moment m at the time t, in ms. Each definition looks back for the newest moment
 -- that decides.
-use Rattle.std.specs.Prelude.{ℕ, Bool, true, false, ◌==◌, if◌then◌else◌, List, [], ◌∷◌, Option, Some, None, unwrap_or}
+use Rattle.std.specs.Prelude.{ℕ, Bool, true, false, ◌==◌, if◌then◌else◌, [], ◌∷◌, Option, Some, None, unwrap_or}
 use Rattle.std.specs.Option.{option_or}
 use Rattle.cm_history.specs.History.{boots, clears, holds_by, is_start_by}
 use Rattle.cm_watch.specs.Pasts.{Past}

@@ -8,7 +8,6 @@ use Rattle.cm_watch.specs.Kept.{blank_slave, course_of, slave_of}
 use Rattle.cm_watch.specs.Pasts.{Past}
 use Rattle.cm_watch.specs.Signals.{is_allowed, news_of}
 use Rattle.cm_watch.specs.Steps.{heartbeat_of, is_free, is_overdue, step_if, takes_boots}
-use Rattle.cm_watch.specs.declared.course.Course.{Course}
 use Rattle.cm_watch.specs.declared.happening.Step.{Step}
 use Rattle.cm_watch.specs.declared.happening.Step.TheVariants as step
 use Rattle.cm_watch.specs.declared.settings.Settings.{Settings}
@@ -101,3 +100,7 @@ steps_by w net now =
     ++ steps_of_kind w net now kind.Signal
     ++ step_if (is_time_over_by w net now) (step.TimeOver (elapsed_by w now))
     ++ step_if (is_end_by w net) (step.AllTried (elapsed_by w now))
+
+-- i isn't booted, isn't held, and is to be booted at no time
+abbrev pub is_given_up_by : Watch → ℕ → Bool
+is_given_up_by w i = let k = kept_at w.slaves i in is_none k.booted && (not k.is_held && is_none k.schedule.due)

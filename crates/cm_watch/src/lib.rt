@@ -15,6 +15,7 @@ mod schedule;
 mod settings;
 mod signals;
 mod slave;
+mod telling;
 mod watch;
 
 pub use course::Course;
@@ -25,4 +26,5 @@ pub use schedule::{Again, Cause, Due, Schedule};
 pub use settings::Settings;
 pub use signals::{Budget, News};
 pub use slave::Slave;
+pub use telling::Told;
 pub use watch::Watch;

@@ -6,7 +6,8 @@ ghost use Rattle.cm_watch.specs.Kept.{course_of};
 ghost use Rattle.cm_watch.specs.Limits.{AreLimited};
 ghost use Rattle.cm_watch.specs.Pasts.{Past};
 ghost use Rattle.cm_watch.specs.Steps.{given, heartbeat_of, steps_at};
-ghost use Rattle.cm_watch.specs.Watches.{AreSlaves, Watches, elapsed_by, is_end_by, is_given_by, is_late_by, is_pending_by, is_time_over_by, is_to_be_booted_by, is_to_be_told_by, kept_at, signal_by, step_by, steps_by};
+ghost use Rattle.cm_watch.specs.Telling.{given_up_of, told_of};
+ghost use Rattle.cm_watch.specs.Watches.{AreSlaves, Watches, elapsed_by, is_end_by, is_given_by, is_given_up_by, is_late_by, is_pending_by, is_time_over_by, is_to_be_booted_by, is_to_be_told_by, kept_at, signal_by, step_by, steps_by};
 ghost use Rattle.cm_watch.specs.declared.happening.Moment.TheVariants.{Gave, Happened};
 ghost use Rattle.cm_watch.specs.declared.happening.Step.TheVariants as step;
 ghost use Rattle.cm_watch.specs.declared.settings.Settings.{Settings as WatchSettings};
@@ -17,6 +18,7 @@ use crate::schedule::{Again, Schedule};
 use crate::settings::Settings;
 use crate::signals::{Budget, MOST_AT_ONCE, News};
 use crate::slave::{Slave, is_overdue};
+use crate::telling::{Told, back_while, becomes, unwatched_by};
 use cm_history::Phase;
 use cm_netlist::Network;
 use cm_nmt::NodeId;
@@ -52,7 +54,7 @@ fn take_all(
 }
 
 /// In which time the heartbeat of the node has to come, in ms; 0 where it isn't watched.
-fn heartbeat_of(network: &Network, id: NodeId) -> u16
+pub(crate) fn heartbeat_of(network: &Network, id: NodeId) -> u16
     ensures { result ≡ heartbeat_of network.now id }
 {
     match network.entry(id) {
@@ -294,6 +296,51 @@ impl Watch {
             steps.push(Step::AllTried(self.elapsed(now)))?;
         }
         Ok(steps)
+    }
+
+    /// Whether the slave is given up, once a worker's attempts at it have ended.
+    fn is_given_up(&self, id: NodeId) -> bool
+        ensures { result ≡ is_given_up_by self.now id }
+    {
+        let slave = self.slave(id);
+        slave.booted.is_none() && !slave.is_held && slave.schedule.due.is_none()
+    }
+
+    /// The slave that the end of a worker's attempts gives up.
+    fn given_up(&self, happening: &Happening) -> Option<NodeId>
+        ensures { (net : NetworkList) (s : WatchSettings) (past : Past) → Watches self.now net s past
+            → result ≡ given_up_of net s past happening.now }
+    {
+        match happening {
+            Happening::Ended(id) => {
+                let _in_range = id.get();
+                if self.is_given_up(*id) {
+                    Some(*id)
+                } else {
+                    None
+                }
+            }
+            _ => None,
+        }
+    }
+
+    /// What an operator is told behind this happening, beside what it is. It isn't taken by that.
+    pub fn told(&self, network: &Network, now_ms: u64, happening: &Happening) -> Told
+        requires { now_ms < 2 ^ 62 }
+        ensures { (s : WatchSettings) (past : Past) → Watches self.now network.now s past
+            → result ≡ told_of network.now s past now_ms happening.now }
+    {
+        let mut after = *self;
+        after.take(network, now_ms, happening);
+        let (old, new) = (self.course, after.course);
+        Told {
+            is_ready: becomes(old.phase.is_ready(), new.phase.is_ready()),
+            is_halted: becomes(old.phase.is_halted(), new.phase.is_halted()),
+            is_stopped: becomes(old.is_stopped, new.is_stopped),
+            back: back_while(old.is_stopped, happening),
+            unwatched: unwatched_by(network, happening),
+            given_up: self.given_up(happening),
+        }
     }
 
     /// The steps that are to be made now. They count as given. Where memory is refused nothing is given.

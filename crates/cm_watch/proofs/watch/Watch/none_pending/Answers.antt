@@ -1,4 +1,4 @@
-use Rattle.std.proofs.Common.{◌≡◌, ◌<◌, arith, true, false, rules, sym, ℕ, Bool}
+use Rattle.std.proofs.Common.{◌≡◌, arith, true, false, rules, sym, ℕ, Bool}
 use Rattle.std.proofs.lemmas.Grind.{common_steps}
 use Rattle.cm_watch.specs.Watches.{is_pending_by}
 use Rattle.cm_watch.proofs.Lists.{none_chosen, none_more, one_chosen}

@@ -1,4 +1,4 @@
-use Rattle.std.proofs.Common.{◌≡◌, ◌∙◌, ◌∷◌, ap, subst, sym}
+use Rattle.std.proofs.Common.{◌∙◌, ◌∷◌, ap, subst, sym}
 use Rattle.cm_history.specs.History.{is_empty, open_of}
 use Rattle.cm_netlist.specs.Network.{listing}
 use Rattle.cm_watch.specs.Kept.{course_after}
