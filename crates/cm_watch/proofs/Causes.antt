@@ -126,6 +126,7 @@ module _ (net : Network) (s : Settings) (i t : ℕ) where
         | false ↦ before
       ]
   moment_case (moment.Gave (step.Signal j n)) at b busy held up k before = before
+  moment_case (moment.Gave (step.LeftOut j n)) at b busy held up k before = before
   moment_case (moment.Gave (step.TimeOver ms)) at b busy held up k before = before
   moment_case (moment.Gave (step.AllTried ms)) at b busy held up k before = before
 

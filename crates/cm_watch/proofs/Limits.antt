@@ -13,7 +13,7 @@ use Rattle.cm_watch.specs.Schedules.{cause_by, is_due, is_own, is_quiet_for, sch
 use Rattle.cm_watch.specs.Signals.{budget_in, is_allowed, left_now, news_in, news_of, spends, spent}
 use Rattle.cm_watch.specs.Slaves.{is_asked_in, is_busy_in, is_held_in}
 use Rattle.cm_watch.specs.Course.{is_stopped_in, phase_in}
-use Rattle.cm_watch.specs.Steps.{elapsed_at, given, is_end, is_free, is_late, is_time_over, is_to_be_booted, is_to_be_told, signal_of, step_if, steps_at, takes_boots}
+use Rattle.cm_watch.specs.Steps.{elapsed_at, given, is_end, is_free, is_late, is_left_out, is_time_over, is_to_be_booted, is_to_be_told, left_out_of, signal_of, step_if, steps_at, takes_boots}
 use Rattle.cm_watch.specs.declared.happening.Moment.TheVariants as moment
 use Rattle.cm_watch.specs.declared.happening.Step.{Step}
 use Rattle.cm_watch.specs.declared.happening.Step.TheVariants as step
@@ -160,11 +160,16 @@ module _ (net : Network) (s : Settings) (now : ℕ) where
   abbrev touch_none : ℕ → ℕ → Bool
   touch_none x i = false
 
-  losses_same : (p : ℕ → Bool) (past : Past) (i : ℕ) → Same (given now (map step.Lost (filter p (range_with_len 1 127))) past) past i
-  losses_same p past i = untouched step.Lost touch_none (λ x i e. false_true e) (λ x i k e. refl) (λ x i e. refl) p i (λ x chose. refl) 1 127 past
+  -- steps that touch nobody
+  quiet_same : (f : ℕ → Step) → ((x i : ℕ) (k : Schedule) → spends (moment.Gave (f x)) k i ≡ false) → ((x i : ℕ) → cause_by (moment.Gave (f x)) i ≡ None)
+      → (p : ℕ → Bool) (past : Past) (i : ℕ) → Same (given now (map f (filter p (range_with_len 1 127))) past) past i
+  quiet_same f free idle p past i = untouched f touch_none (λ x i e. false_true e) (λ x i k e. free x i k) (λ x i e. idle x i) p i (λ x chose. refl) 1 127 past
 
-  losses_limited : (p : ℕ → Bool) (past : Past) (i : ℕ) → AreLimited net s past i → AreLimited net s (given now (map step.Lost (filter p (range_with_len 1 127))) past) i
-  losses_limited p past i = all_limited step.Lost touch_none (λ x i e. false_true e) (λ x i k e. refl) (λ x i e. refl) p past (λ j chose e. false_true e) 1 127 past i (λ j high. (refl, refl))
+  quiet_limited : (f : ℕ → Step) → ((x i : ℕ) (k : Schedule) → spends (moment.Gave (f x)) k i ≡ false) → ((x i : ℕ) → cause_by (moment.Gave (f x)) i ≡ None)
+      → (p : ℕ → Bool) (past : Past) (i : ℕ) → AreLimited net s past i → AreLimited net s (given now (map f (filter p (range_with_len 1 127))) past) i
+  quiet_limited f free idle p past i =
+      all_limited f touch_none (λ x i e. false_true e) (λ x i k e. free x i k) (λ x i e. idle x i) p past
+      (λ j chose e. false_true (sym (free j j (schedule_in net s past j)) ∙ e)) 1 127 past i (λ j high. (refl, refl))
 
   boot_spends : (x i : ℕ) (k : Schedule) → (x == i) ≡ false → spends (moment.Gave (step.Boot x)) k i ≡ false
   boot_spends x i k e = ap (λ (b : Bool). b && is_own k.due) e
@@ -231,25 +236,30 @@ module _ (net : Network) (s : Settings) (now : ℕ) where
       let ids = range_with_len 1 127 in
       let losses = map step.Lost (filter (is_late net past now) ids) in
       let boots = map step.Boot (filter (is_to_be_booted net s past now) ids) in
+      let counts = map (left_out_of past) (filter (is_left_out net s past now) ids) in
       let signals = map (signal_of past) (filter (is_to_be_told net s past now) ids) in
       let over = step_if (is_time_over net past now) (step.TimeOver (elapsed_at past now)) in
       let ended = step_if (is_end net past) (step.AllTried (elapsed_at past now)) in
       let lost = given now losses past in
       let booted = given now boots lost in
-      let told = given now signals booted in
-      let lost_is : (j : ℕ) → Same lost past j = λ j. losses_same (is_late net past now) past j in
-      let booted_is : (j : ℕ) → is_to_be_booted net s past now j ≡ false → Same booted past j = λ j idle.
+      let counted = given now counts booted in
+      let told = given now signals counted in
+      let lost_is : (j : ℕ) → Same lost past j = λ j. quiet_same step.Lost (λ x i k. refl) (λ x i. refl) (is_late net past now) past j in
+      let counted_is : (j : ℕ) → is_to_be_booted net s past now j ≡ false → Same counted past j = λ j idle.
+      let here = quiet_same (left_out_of past) (λ x i k. refl) (λ x i. refl) (is_left_out net s past now) booted j in
       let same = untouched step.Boot (λ x k. x == k) eqb_same boot_spends boot_causes (is_to_be_booted net s past now) j (not_booted past j idle) 1 127 lost in
-      (same.0 ∙ (lost_is j).0, same.1 ∙ (lost_is j).1) in
+      (here.0 ∙ (same.0 ∙ (lost_is j).0), here.1 ∙ (same.1 ∙ (lost_is j).1)) in
       let all = time_limited (is_end net past) (step.AllTried (elapsed_at past now)) (given now over told) i (λ k. refl)
       (time_limited (is_time_over net past now) (step.TimeOver (elapsed_at past now)) told i (λ k. refl)
-      (signals_limited past booted i booted_is
+      (signals_limited past counted i counted_is
+      (quiet_limited (left_out_of past) (λ x i k. refl) (λ x i. refl) (is_left_out net s past now) booted i
       (boots_limited past lost i lost_is
-      (losses_limited (is_late net past now) past i limited)))) in
-      let path : given now (losses ++ boots ++ signals ++ over ++ ended) past ≡ given now ended (given now over told) =
-      given-append now (losses ++ boots ++ signals ++ over) ended past
-      ∙ ap (given now ended) (given-append now (losses ++ boots ++ signals) over past
-      ∙ ap (given now over) (given-append now (losses ++ boots) signals past ∙ ap (given now signals) (given-append now losses boots past))) in
-      let here : AreLimited net s (given now (losses ++ boots ++ signals ++ over ++ ended) past) i = subst (λ (ps : Past). AreLimited net s ps i) (sym path) all in
+      (quiet_limited step.Lost (λ x i k. refl) (λ x i. refl) (is_late net past now) past i limited))))) in
+      let path : given now (losses ++ boots ++ counts ++ signals ++ over ++ ended) past ≡ given now ended (given now over told) =
+      given-append now (losses ++ boots ++ counts ++ signals ++ over) ended past
+      ∙ ap (given now ended) (given-append now (losses ++ boots ++ counts ++ signals) over past
+      ∙ ap (given now over) (given-append now (losses ++ boots ++ counts) signals past
+      ∙ ap (given now signals) (given-append now (losses ++ boots) counts past ∙ ap (given now counts) (given-append now losses boots past)))) in
+      let here : AreLimited net s (given now (losses ++ boots ++ counts ++ signals ++ over ++ ended) past) i = subst (λ (ps : Past). AreLimited net s ps i) (sym path) all in
       subst (λ (nodes : List ℕ). AreLimited net s (given now (map step.Lost (filter (is_late net past now) nodes) ++ map step.Boot (filter (is_to_be_booted net s past now) nodes)
-      ++ map (signal_of past) (filter (is_to_be_told net s past now) nodes) ++ over ++ ended) past) i) (sym unfold_ids) here
+      ++ map (left_out_of past) (filter (is_left_out net s past now) nodes) ++ map (signal_of past) (filter (is_to_be_told net s past now) nodes) ++ over ++ ended) past) i) (sym unfold_ids) here

@@ -7,10 +7,10 @@ use Rattle.cm_netlist.specs.Network.{Network, is_listed}
 use Rattle.cm_nmt.specs.Listing.{node_ids}
 use Rattle.cm_watch.specs.Kept.{course_of, slave_of}
 use Rattle.cm_watch.specs.Pasts.{Past}
-use Rattle.cm_watch.specs.Signals.{is_allowed, news_of}
+use Rattle.cm_watch.specs.Signals.{is_allowed, news_of, pending_of}
 use Rattle.cm_watch.specs.Slaves.{is_tried_in}
-use Rattle.cm_watch.specs.Steps.{are_tried, elapsed_at, given, heartbeat_of, is_end, is_free, is_late, is_overdue, is_time_over, is_to_be_booted, is_to_be_told, signal_of, steps_at, takes_boots}
-use Rattle.cm_watch.specs.Watches.{Watches, are_tried_by, elapsed_by, is_end_by, is_late_by, is_time_over_by, is_to_be_booted_by, is_pending_by, is_to_be_told_by, signal_by, steps_by, steps_of_kind}
+use Rattle.cm_watch.specs.Steps.{are_tried, elapsed_at, given, heartbeat_of, is_end, is_free, is_late, is_left_out, is_overdue, is_time_over, is_to_be_booted, is_to_be_told, left_out_of, signal_of, steps_at, takes_boots}
+use Rattle.cm_watch.specs.Watches.{Watches, are_tried_by, elapsed_by, is_end_by, is_late_by, is_left_out_by, is_pending_by, is_time_over_by, is_to_be_booted_by, is_to_be_told_by, kept_at, left_out_by, signal_by, steps_by, steps_of_kind}
 use Rattle.cm_watch.specs.declared.watch.Kind.TheVariants as kind
 use Rattle.cm_watch.specs.declared.watch.Pending.TheVariants as pending
 use Rattle.cm_watch.specs.declared.course.Course.{Course}
@@ -35,6 +35,14 @@ module _ (w : Watch) (net : Network) (s : Settings) (past : Past) (has : Watches
   same_told now i low high =
       ap (λ (k : Slave). is_listed net i && (is_some (news_of k.news) && (is_allowed now k.budget && not (is_to_be_booted_by w net now i)))) (has.slaves i low high)
       ∙ ap (λ (b : Bool). let k = slave_of net s past i in is_listed net i && (is_some (news_of k.news) && (is_allowed now k.budget && not b))) (same_boot now i low high)
+
+  same_left_out : (now i : ℕ) → 1 ≤ i → i < 128 → is_left_out_by w net now i ≡ is_left_out net s past now i
+  same_left_out now i low high =
+      ap (λ (b : Bool). b && nat_lt (pending_of (kept_at w.slaves i).news) (kept_at w.slaves i).news.changes) (same_told now i low high)
+      ∙ ap (λ (k : Slave). is_to_be_told net s past now i && nat_lt (pending_of k.news) k.news.changes) (has.slaves i low high)
+
+  same_amount : (i : ℕ) → 1 ≤ i → i < 128 → left_out_by w i ≡ left_out_of past i
+  same_amount i low high = ap (λ (k : Slave). step.LeftOut i (k.news.changes - pending_of k.news)) (has.slaves i low high)
 
   same_signal : (i : ℕ) → 1 ≤ i → i < 128 → signal_by w i ≡ signal_of past i
   same_signal i low high = ap (λ (k : Slave). step.Signal i (unwrap_or (news_of k.news) 0)) (has.slaves i low high)
@@ -65,10 +73,13 @@ module _ (w : Watch) (net : Network) (s : Settings) (past : Past) (has : Watches
       let signals : steps_of_kind w net now kind.Signal ≡ map (signal_of past) (filter (is_to_be_told net s past now) node_ids) =
       ap (map (signal_by w)) (same_chosen (is_to_be_told_by w net now) (is_to_be_told net s past now) (same_told now))
       ∙ same_mapped (signal_by w) (signal_of past) (is_to_be_told net s past now) same_signal in
+      let left_out : steps_of_kind w net now kind.LeftOut ≡ map (left_out_of past) (filter (is_left_out net s past now) node_ids) =
+      ap (map (left_out_by w)) (same_chosen (is_left_out_by w net now) (is_left_out net s past now) (same_left_out now))
+      ∙ same_mapped (left_out_by w) (left_out_of past) (is_left_out net s past now) same_amount in
       let over : is_time_over_by w net now ≡ is_time_over net past now = same_over now in
       let ended : is_end_by w net ≡ is_end net past = same_end in
       let elapsed : elapsed_by w now ≡ elapsed_at past now = same_elapsed now in
-      rw (losses, boots, signals, over, ended, elapsed) refl
+      rw (losses, boots, left_out, signals, over, ended, elapsed) refl
 
 -- one step more
 pub given_more : (now : ℕ) (xs : List Step) (x : Step) (past : Past) → given now (xs ++ x ∷ []) past ≡ (now, moment.Gave x) ∷ given now xs past

@@ -9,7 +9,7 @@ use Rattle.std.specs.Prelude.{List}
 use Rattle.cm_watch.specs.Course.{end_by, is_end_given, is_over_given, is_stopped_in, over_by, phase_in, started_at, started_by, stopped_by}
 use Rattle.cm_watch.specs.Pasts.{Past}
 use Rattle.cm_watch.specs.Schedules.{blank_schedule, cause_by, schedule_after, schedule_in}
-use Rattle.cm_watch.specs.Signals.{boot_up_by, budget_in, full_budget, news_in, spends, spent, state_heard_by, state_told_by}
+use Rattle.cm_watch.specs.Signals.{boot_up_by, changes_by, budget_in, full_budget, news_in, spends, spent, state_heard_by, state_told_by}
 use Rattle.cm_watch.specs.Slaves.{asked_by, booted_by, booted_since, busy_by, heard_by, heard_last, held_by, is_asked_in, is_busy_in, is_held_in, is_lost_given, is_tried_in, lost_by, tried_by}
 use Rattle.cm_watch.specs.declared.course.Course.{Course}
 use Rattle.cm_watch.specs.declared.happening.Happening.TheVariants as happening
@@ -49,7 +49,7 @@ blank_slave = record {
   is_tried = false;
   is_asked = false;
   schedule = blank_schedule;
-  news = record { boot_up = false; heard = None; told = None };
+  news = record { boot_up = false; heard = None; told = None; changes = 0 };
   budget = full_budget;
 }
 
@@ -58,6 +58,7 @@ news_after m i n = record {
   boot_up = unwrap_or (boot_up_by m i) n.boot_up;
   heard = option_or (state_heard_by m i) n.heard;
   told = option_or (state_told_by m i) n.told;
+  changes = changes_by m i n.heard n.changes;
 }
 
 abbrev pub budget_after : ℕ → Moment → ℕ → Schedule → Budget → Budget

@@ -1,5 +1,5 @@
 -- What the manager is told of what a node sent, and how often (own, but where a standard is named).
-use Rattle.std.specs.Prelude.{ℕ, Bool, true, false, ◌==◌, ◌&&◌, ◌||◌, if◌then◌else◌, ◌-◌, ◌%◌, nat_lt, [], ◌∷◌, Option, Some, None, unwrap_or}
+use Rattle.std.specs.Prelude.{ℕ, Bool, true, false, ◌==◌, ◌&&◌, ◌||◌, not, if◌then◌else◌, ◌+◌, ◌-◌, ◌%◌, min, nat_lt, [], ◌∷◌, Option, Some, None, unwrap_or}
 use Rattle.std.specs.Option.{option_or}
 use Rattle.cm_netlist.specs.Network.{Network}
 use Rattle.cm_watch.specs.Pasts.{Past}
@@ -46,6 +46,30 @@ abbrev pub is_boot_up_left : Past → ℕ → Bool
 is_boot_up_left [] i = false
 is_boot_up_left (x ∷ past) i = unwrap_or (boot_up_by x.1 i) (is_boot_up_left past i)
 
+-- it isn't the state that was heard
+abbrev pub is_other : Option ℕ → ℕ → Bool
+is_other None s = true
+is_other (Some t) s = not (t == s)
+
+-- it is another state than the one heard before, or a boot-up message
+abbrev pub is_change : Option ℕ → ℕ → Bool
+is_change heard s = s == 0 || is_other heard s
+
+-- how many changes of state of i were heard that weren't told, with the state that was heard before the moment: none is left
+-- where the manager is told of the state heard last, and that state where it is told of a boot-up message
+abbrev pub changes_by : Moment → ℕ → Option ℕ → ℕ → ℕ
+changes_by (moment.Happened (happening.Heard j b)) i heard n = if j == i && is_change heard (b % 128) then min (n + 1) 0xFFFFFFFF else n
+changes_by (moment.Gave (step.Signal j b)) i heard n = if j == i then (if is_other heard (b % 128) then 1 else 0) else n
+changes_by _ i heard n = n
+
+abbrev pub changes_in : Past → ℕ → ℕ
+changes_in [] i = 0
+changes_in (x ∷ past) i = changes_by x.1 i (state_heard past i) (changes_in past i)
+
+-- how many of them are told now, or next: a boot-up message and the state heard behind it, else one
+abbrev pub pending_of : News → ℕ
+pending_of n = if n.boot_up && is_other n.heard 0 then 2 else 1
+
 -- what is to be told: a boot-up message, else the state heard last, where it isn't the one that was told last
 abbrev pub news_of : News → Option ℕ
 news_of n = news_from n.boot_up n.heard n.told
@@ -58,7 +82,7 @@ news_of n = news_from n.boot_up n.heard n.told
 
 -- what was heard and told of i
 abbrev pub news_in : Past → ℕ → News
-news_in past i = record { boot_up = is_boot_up_left past i; heard = state_heard past i; told = state_told past i }
+news_in past i = record { boot_up = is_boot_up_left past i; heard = state_heard past i; told = state_told past i; changes = changes_in past i }
 
 -- ---- how much a node may cause by itself
 

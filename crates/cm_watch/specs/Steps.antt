@@ -10,7 +10,7 @@ use Rattle.cm_nmt.specs.Listing.{node_ids}
 use Rattle.cm_watch.specs.Course.{is_end_given, is_over_given, is_stopped_in, phase_in, started_at}
 use Rattle.cm_watch.specs.Pasts.{Past}
 use Rattle.cm_watch.specs.Schedules.{is_due, is_own, schedule_in}
-use Rattle.cm_watch.specs.Signals.{budget_in, is_allowed, news_in, news_of}
+use Rattle.cm_watch.specs.Signals.{budget_in, is_allowed, news_in, news_of, pending_of}
 use Rattle.cm_watch.specs.Slaves.{booted_since, heard_last, is_asked_in, is_busy_in, is_held_in, is_lost_given, is_tried_in}
 use Rattle.cm_watch.specs.declared.happening.Moment.TheVariants as moment
 use Rattle.cm_watch.specs.declared.happening.Step.{Step}
@@ -65,6 +65,13 @@ is_to_be_told net s past now i =
 abbrev pub signal_of : Past → ℕ → Step
 signal_of past i = step.Signal i (unwrap_or (news_of (news_in past i)) 0)
 
+-- more changes of i were heard than are told now, or next: so many are left out
+abbrev pub is_left_out : Network → Settings → Past → ℕ → ℕ → Bool
+is_left_out net s past now i = is_to_be_told net s past now i && nat_lt (pending_of (news_in past i)) (news_in past i).changes
+
+abbrev pub left_out_of : Past → ℕ → Step
+left_out_of past i = step.LeftOut i ((news_in past i).changes - pending_of (news_in past i))
+
 -- ---- the time
 
 -- the ms since the network was started, as far as a call can tell them
@@ -92,11 +99,13 @@ is_end net past =
 abbrev pub step_if : Bool → Step → List Step
 step_if b s = if b then s ∷ [] else []
 
--- the steps at a time: the slaves that are lost, those to be booted, the signals, each in rising order, and the time
+-- the steps at a time: the slaves that are lost, those to be booted, what is left out, the signals, each in rising order, and
+-- the time
 abbrev pub steps_at : Network → Settings → Past → ℕ → List Step
 steps_at net s past now =
     map step.Lost (filter (is_late net past now) node_ids)
     ++ map step.Boot (filter (is_to_be_booted net s past now) node_ids)
+    ++ map (left_out_of past) (filter (is_left_out net s past now) node_ids)
     ++ map (signal_of past) (filter (is_to_be_told net s past now) node_ids)
     ++ step_if (is_time_over net past now) (step.TimeOver (elapsed_at past now))
     ++ step_if (is_end net past) (step.AllTried (elapsed_at past now))

@@ -6,7 +6,7 @@ use Rattle.cm_netlist.specs.Network.{Network, is_listed, listing}
 use Rattle.cm_nmt.specs.Listing.{is_mandatory, node_ids}
 use Rattle.cm_watch.specs.Kept.{blank_slave, course_of, slave_of}
 use Rattle.cm_watch.specs.Pasts.{Past}
-use Rattle.cm_watch.specs.Signals.{is_allowed, news_of}
+use Rattle.cm_watch.specs.Signals.{is_allowed, news_of, pending_of}
 use Rattle.cm_watch.specs.Steps.{heartbeat_of, is_free, is_overdue, step_if, takes_boots}
 use Rattle.cm_watch.specs.declared.happening.Step.{Step}
 use Rattle.cm_watch.specs.declared.happening.Step.TheVariants as step
@@ -51,6 +51,12 @@ is_to_be_told_by w net now i =
 abbrev pub signal_by : Watch → ℕ → Step
 signal_by w i = step.Signal i (unwrap_or (news_of (kept_at w.slaves i).news) 0)
 
+abbrev pub is_left_out_by : Watch → Network → ℕ → ℕ → Bool
+is_left_out_by w net now i = is_to_be_told_by w net now i && nat_lt (pending_of (kept_at w.slaves i).news) (kept_at w.slaves i).news.changes
+
+abbrev pub left_out_by : Watch → ℕ → Step
+left_out_by w i = step.LeftOut i ((kept_at w.slaves i).news.changes - pending_of (kept_at w.slaves i).news)
+
 -- a mandatory slave isn't booted
 abbrev pub is_open_by : List Slave → Network → ℕ → Bool
 is_open_by slaves net i = is_mandatory (listing net) i && not (is_some (kept_at slaves i).booted)
@@ -70,11 +76,13 @@ are_tried_by w net = is_empty (filter (is_pending_by w.slaves net pending.Untrie
 abbrev pub is_given_by : Watch → Network → ℕ → Kind → ℕ → Bool
 is_given_by w net now kind.Lost i = is_late_by w net now i
 is_given_by w net now kind.Boot i = is_to_be_booted_by w net now i
+is_given_by w net now kind.LeftOut i = is_left_out_by w net now i
 is_given_by w net now kind.Signal i = is_to_be_told_by w net now i
 
 abbrev pub step_by : Watch → Kind → ℕ → Step
 step_by w kind.Lost i = step.Lost i
 step_by w kind.Boot i = step.Boot i
+step_by w kind.LeftOut i = left_out_by w i
 step_by w kind.Signal i = signal_by w i
 
 -- the steps of one kind, in rising order
@@ -97,6 +105,7 @@ abbrev pub steps_by : Watch → Network → ℕ → List Step
 steps_by w net now =
     steps_of_kind w net now kind.Lost
     ++ steps_of_kind w net now kind.Boot
+    ++ steps_of_kind w net now kind.LeftOut
     ++ steps_of_kind w net now kind.Signal
     ++ step_if (is_time_over_by w net now) (step.TimeOver (elapsed_by w now))
     ++ step_if (is_end_by w net) (step.AllTried (elapsed_by w now))

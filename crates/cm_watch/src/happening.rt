@@ -23,6 +23,8 @@ pub enum Step {
     Boot(NodeId),
     /// The manager is to be told what the node sent: a boot-up message (0), or its state.
     Signal(NodeId, u8),
+    /// The operator is to be told that so many changes of state of the node were left out.
+    LeftOut(NodeId, u32),
     /// The manager is to be told that so many ms went by since the network was started: the time for the boot of its
     /// mandatory slaves is over.
     TimeOver(u32),

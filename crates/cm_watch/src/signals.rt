@@ -1,6 +1,6 @@
 ghost use Rattle.std.specs.Prelude.{◌≡◌};
 ghost use Rattle.cm_watch.specs.Kept.{budget_after, news_after};
-ghost use Rattle.cm_watch.specs.Signals.{boot_up_by, is_allowed, left_now, news_of, spends, spent, state_heard_by, state_told_by};
+ghost use Rattle.cm_watch.specs.Signals.{boot_up_by, changes_by, is_allowed, is_change, is_other, left_now, news_of, pending_of, spends, spent, state_heard_by, state_told_by};
 
 use crate::happening::{Happening, Moment, Step};
 use crate::schedule::{Schedule, is_quiet_for};
@@ -24,6 +24,8 @@ pub struct News {
     pub heard: Option<u8>,
     /// The state that was told last.
     pub told: Option<u8>,
+    /// How many changes of state were heard that weren't told.
+    pub changes: u32,
 }
 
 /// How many steps a node may cause by itself.
@@ -65,6 +67,37 @@ fn boot_up_by(moment: &Moment, id: NodeId) -> Option<bool>
     }
 }
 
+/// Whether it isn't the state that was heard.
+fn is_other(heard: Option<u8>, state: u8) -> bool
+    ensures { result ≡ is_other heard state }
+{
+    match heard {
+        Some(before) => before != state,
+        None => true,
+    }
+}
+
+/// Whether it is another state than the one heard before, or a boot-up message.
+fn is_change(heard: Option<u8>, state: u8) -> bool
+    ensures { result ≡ is_change heard state }
+{
+    state == 0 || is_other(heard, state)
+}
+
+/// How many changes were heard, where it was this state before the moment.
+fn changes_by(moment: &Moment, id: NodeId, heard: Option<u8>, changes: u32) -> u32
+    ensures { result ≡ changes_by moment.now id heard changes }
+{
+    match moment {
+        Moment::Happened(Happening::Heard(node, byte))
+            if *node == id && is_change(heard, *byte % 128) => { changes.saturating_add(1) }
+        Moment::Gave(Step::Signal(node, byte)) if *node == id => {
+            u32::from(is_other(heard, *byte % 128))
+        }
+        _ => changes,
+    }
+}
+
 impl News {
     /// What was heard and told of the node after the moment.
     pub(crate) fn after(self, moment: &Moment, id: NodeId) -> News
@@ -74,6 +107,18 @@ impl News {
             boot_up: boot_up_by(moment, id).unwrap_or(self.boot_up),
             heard: state_heard_by(moment, id).or(self.heard),
             told: state_told_by(moment, id).or(self.told),
+            changes: changes_by(moment, id, self.heard, self.changes),
+        }
+    }
+
+    /// How many changes of state are told now, or next.
+    pub(crate) fn pending(self) -> u32
+        ensures { result ≡ pending_of self }
+    {
+        if self.boot_up && is_other(self.heard, 0) {
+            2
+        } else {
+            1
         }
     }
 

@@ -7,7 +7,7 @@ ghost use Rattle.cm_watch.specs.Limits.{AreLimited};
 ghost use Rattle.cm_watch.specs.Pasts.{Past};
 ghost use Rattle.cm_watch.specs.Steps.{given, heartbeat_of, steps_at};
 ghost use Rattle.cm_watch.specs.Telling.{given_up_of, told_of};
-ghost use Rattle.cm_watch.specs.Watches.{AreSlaves, Watches, elapsed_by, is_end_by, is_given_by, is_given_up_by, is_late_by, is_pending_by, is_time_over_by, is_to_be_booted_by, is_to_be_told_by, kept_at, signal_by, step_by, steps_by};
+ghost use Rattle.cm_watch.specs.Watches.{AreSlaves, Watches, elapsed_by, is_end_by, is_given_by, is_given_up_by, is_late_by, is_left_out_by, is_pending_by, is_time_over_by, is_to_be_booted_by, is_to_be_told_by, kept_at, left_out_by, signal_by, step_by, steps_by};
 ghost use Rattle.cm_watch.specs.declared.happening.Moment.TheVariants.{Gave, Happened};
 ghost use Rattle.cm_watch.specs.declared.happening.Step.TheVariants as step;
 ghost use Rattle.cm_watch.specs.declared.settings.Settings.{Settings as WatchSettings};
@@ -68,6 +68,7 @@ pub(crate) fn heartbeat_of(network: &Network, id: NodeId) -> u16
 enum Kind {
     Lost,
     Boot,
+    LeftOut,
     Signal,
 }
 
@@ -102,6 +103,7 @@ impl Watch {
                 boot_up: false,
                 heard: None,
                 told: None,
+                changes: 0,
             },
             budget: Budget {
                 left: MOST_AT_ONCE,
@@ -184,6 +186,21 @@ impl Watch {
         Step::Signal(id, self.slave(id).news.to_tell().unwrap_or(0))
     }
 
+    /// Whether changes of state of the node were left out that are to be told now.
+    fn is_left_out(&self, network: &Network, now: u64, id: NodeId) -> bool
+        ensures { result ≡ is_left_out_by self.now network.now now id }
+    {
+        let news = self.slave(id).news;
+        self.is_to_be_told(network, now, id) && news.pending() < news.changes
+    }
+
+    fn left_out(&self, id: NodeId) -> Step
+        ensures { result ≡ left_out_by self.now id }
+    {
+        let news = self.slave(id).news;
+        Step::LeftOut(id, news.changes.saturating_sub(news.pending()))
+    }
+
     /// Whether this step of the node is to be given now.
     fn is_given(&self, network: &Network, now: u64, kind: Kind, id: NodeId) -> bool
         ensures { result ≡ is_given_by self.now network.now now kind id }
@@ -191,6 +208,7 @@ impl Watch {
         match kind {
             Kind::Lost => self.is_late(network, now, id),
             Kind::Boot => self.is_to_be_booted(network, now, id),
+            Kind::LeftOut => self.is_left_out(network, now, id),
             Kind::Signal => self.is_to_be_told(network, now, id),
         }
     }
@@ -202,6 +220,7 @@ impl Watch {
         match kind {
             Kind::Lost => Step::Lost(id),
             Kind::Boot => Step::Boot(id),
+            Kind::LeftOut => self.left_out(id),
             Kind::Signal => self.signal(id),
         }
     }
@@ -288,6 +307,7 @@ impl Watch {
         let mut steps = Vec::new(alloc);
         self.add_steps(network, now, Kind::Lost, &mut steps)?;
         self.add_steps(network, now, Kind::Boot, &mut steps)?;
+        self.add_steps(network, now, Kind::LeftOut, &mut steps)?;
         self.add_steps(network, now, Kind::Signal, &mut steps)?;
         if self.is_time_over(network, now) {
             steps.push(Step::TimeOver(self.elapsed(now)))?;

@@ -3,7 +3,7 @@
 use cm_history::Entry;
 use cm_journal::{Journal, journal_read};
 use cm_nmt::NodeId;
-use cm_watch::{Happening, Settings, Step, Watch};
+use cm_watch::{Happening, Settings, Step, Told, Watch};
 use std::alloc::Global;
 use std::io::{self, ErrorKind, Write};
 use std::str;
@@ -79,7 +79,10 @@ impl<'a> Story<'a> {
         };
         let network = &self.journal.network;
         match self.read_line(word, first, second) {
-            Some(Line::Happened(happening)) => self.watch.take(network, now_ms, &happening),
+            Some(Line::Happened(happening)) => {
+                put_told(now_ms, self.watch.told(network, now_ms, &happening), out)?;
+                self.watch.take(network, now_ms, &happening);
+            }
             Some(Line::Turn) => {
                 for step in &self.watch.turn(alloc, network, now_ms)? {
                     put_step(now_ms, *step, out)?;
@@ -96,13 +99,44 @@ fn put_step<W: Write>(now_ms: u64, step: Step, out: &mut W) -> io::Result<()> {
     match step {
         Step::Lost(id) => writeln!(out, "{now_ms} lost {}", id.get()),
         Step::Boot(id) => writeln!(out, "{now_ms} boot {}", id.get()),
+        Step::LeftOut(id, count) => writeln!(out, "{now_ms} left-out {} {count}", id.get()),
         Step::Signal(id, byte) => writeln!(out, "{now_ms} signal {} {byte:02X}", id.get()),
         Step::TimeOver(ms) => writeln!(out, "{now_ms} time-over {ms}"),
         Step::AllTried(ms) => writeln!(out, "{now_ms} all-tried {ms}"),
     }
 }
 
-/// Tells the story of these bytes; the steps of its turns are written. The first line behind the journal is the settle
+/// Writes a word and a node, where there is one.
+fn put_node<W: Write>(
+    now_ms: u64,
+    word: &str,
+    node: Option<NodeId>,
+    out: &mut W,
+) -> io::Result<()> {
+    match node {
+        Some(id) => writeln!(out, "{now_ms} {word} {}", id.get()),
+        None => Ok(()),
+    }
+}
+
+/// Writes what an operator is told, in words.
+fn put_told<W: Write>(now_ms: u64, told: Told, out: &mut W) -> io::Result<()> {
+    let states = [
+        (told.is_ready, "ready"),
+        (told.is_halted, "halted"),
+        (told.is_stopped, "stopped"),
+    ];
+    for (is, word) in states {
+        if is {
+            writeln!(out, "{now_ms} {word}")?;
+        }
+    }
+    put_node(now_ms, "back", told.back, out)?;
+    put_node(now_ms, "unwatched", told.unwatched, out)?;
+    put_node(now_ms, "given-up", told.given_up, out)
+}
+
+/// Tells the story of these bytes; what is told of it and the steps of its turns are written. The first line behind the journal is the settle
 /// time. `false` where something isn't as it has to be.
 pub fn tell_story<W: Write>(alloc: Global, bytes: &[u8], out: &mut W) -> io::Result<bool> {
     let Some((journal, rest)) = split_story(bytes) else {
