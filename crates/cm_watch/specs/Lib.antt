@@ -11,3 +11,4 @@ pub mod Kept
 pub mod Watches
 pub mod InOrder
 pub mod Telling
+pub mod Paces

@@ -52,15 +52,15 @@ abbrev pub given_up_of : Network → Settings → Past → Happening → Option 
 given_up_of net s past (happening.Ended j) = if is_given_up_at net s past j then Some j else None
 given_up_of net s past _ = None
 
--- what is told of a happening at a time:
+-- what is told of a happening, whenever it comes:
 --   the network has become ready, or was halted
 --   all were stopped
 --   while all are stopped: a slave is back
 --   a slave is booted that isn't watched
 --   a slave was given up
-abbrev pub told_of : Network → Settings → Past → ℕ → Happening → Told
-told_of net s past now h =
-    let after = (now, moment.Happened h) ∷ past in
+abbrev pub told_of : Network → Settings → Past → Happening → Told
+told_of net s past h =
+    let after = (0, moment.Happened h) ∷ past in
     record {
       is_ready = becomes (is_ready (phase_in net past)) (is_ready (phase_in net after));
       is_halted = becomes (is_halted (phase_in net past)) (is_halted (phase_in net after));

@@ -4,13 +4,15 @@
 //! A [`Watch`] is told each happening with its time, and gives the steps that are to be made: that a slave is lost, is to be
 //! booted, has sent something, or that time has gone by. What it gives is told by specs/ of the list of what has happened and
 //! was given so far, its past. That each slave is given as lost once, that none is forgotten, and that one which babbles
-//! causes at most one step in 10 s, are laws of every past.
+//! causes at most one step in 10 s, are laws of every past. What an operator is told behind a happening is [`Told`]; in the
+//! order of the history it comes by [`InOrder`]; and when the time may be looked at, [`Pace`] says.
 #![tactic(auto)]
 
 mod course;
 mod happening;
 mod in_order;
 mod laws;
+mod pace;
 mod schedule;
 mod settings;
 mod signals;
@@ -22,6 +24,7 @@ pub use course::Course;
 pub use happening::{Happening, Moment, Step};
 pub use in_order::{InOrder, Placed};
 pub use laws::{lost_once, none_forgotten, one_in_ten_seconds, told_in_time};
+pub use pace::Pace;
 pub use schedule::{Again, Cause, Due, Schedule};
 pub use settings::Settings;
 pub use signals::{Budget, News};

@@ -152,7 +152,7 @@ fn settle_of(network: &Network, settings: Settings, id: NodeId) -> u32
 
 /// It settles for so many ms.
 fn settling(now: u64, ms: u32) -> Due
-    requires { now < 2 ^ 62 }
+    requires { now < 2 ^ 63 }
     ensures { result ≡ settling now ms }
 {
     Due {
@@ -201,7 +201,7 @@ impl Again {
 
 /// Its boot-up message came.
 fn boot_up_due(now: u64, due: Option<Due>, again: Again) -> Due
-    requires { now < 2 ^ 62 }
+    requires { now < 2 ^ 63 }
     ensures { result ≡ boot_up_due now due again }
 {
     match due {
@@ -223,7 +223,7 @@ fn boot_up_due(now: u64, due: Option<Due>, again: Again) -> Due
 
 /// It is lost, and was reset.
 fn lost_due(settings: Settings, now: u64, again: Again) -> Due
-    requires { now < 2 ^ 62 }
+    requires { now < 2 ^ 63 }
     ensures { result ≡ lost_due settings now again }
 {
     let pause = pause_of(again.count_now(now));
@@ -244,7 +244,7 @@ impl Schedule {
         id: NodeId,
         cause: Cause,
     ) -> Option<Due>
-        requires { now < 2 ^ 62 }
+        requires { now < 2 ^ 63 }
         ensures { result ≡ due_after network.now settings now id cause self.due self.again }
     {
         match cause {
@@ -266,7 +266,7 @@ impl Schedule {
         moment: &Moment,
         id: NodeId,
     ) -> Schedule
-        requires { now < 2 ^ 62 }
+        requires { now < 2 ^ 63 }
         ensures { result
             ≡ schedule_after network.now settings now id (cause_by moment.now id) self }
     {

@@ -198,7 +198,7 @@ impl Slave {
         moment: &Moment,
         id: NodeId,
     ) -> Slave
-        requires { now < 2 ^ 62 }
+        requires { now < 2 ^ 63 }
         ensures { result ≡ slave_after network.now settings now moment.now id self.now }
     {
         Slave {

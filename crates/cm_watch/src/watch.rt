@@ -41,7 +41,7 @@ fn take_all(
     now: u64,
     moment: &Moment,
 )
-    requires { now < 2 ^ 62 }
+    requires { now < 2 ^ 63 }
     ensures { (past : Past) → AreSlaves slaves.old network.now settings past
         → AreSlaves slaves.new network.now settings ((now, moment.now) ∷ past) }
 {
@@ -125,7 +125,7 @@ impl Watch {
 
     /// The moment came then.
     fn note(&mut self, network: &Network, now_ms: u64, moment: &Moment)
-        requires { now_ms < 2 ^ 62 }
+        requires { now_ms < 2 ^ 63 }
         ensures { (s : WatchSettings) (past : Past) → Watches self.old network.now s past
             → Watches self.new network.now s ((now_ms, moment.now) ∷ past) }
     {
@@ -136,7 +136,7 @@ impl Watch {
 
     /// This happened then.
     pub fn take(&mut self, network: &Network, now_ms: u64, happening: &Happening)
-        requires { now_ms < 2 ^ 62 }
+        requires { now_ms < 2 ^ 63 }
         ensures { (s : WatchSettings) (past : Past) → Watches self.old network.now s past
             → Watches self.new network.now s ((now_ms, Happened happening.now) ∷ past) }
     {
@@ -345,13 +345,12 @@ impl Watch {
     }
 
     /// What an operator is told behind this happening, beside what it is. It isn't taken by that.
-    pub fn told(&self, network: &Network, now_ms: u64, happening: &Happening) -> Told
-        requires { now_ms < 2 ^ 62 }
+    pub fn told(&self, network: &Network, happening: &Happening) -> Told
         ensures { (s : WatchSettings) (past : Past) → Watches self.now network.now s past
-            → result ≡ told_of network.now s past now_ms happening.now }
+            → result ≡ told_of network.now s past happening.now }
     {
         let mut after = *self;
-        after.take(network, now_ms, happening);
+        after.take(network, 0, happening);
         let (old, new) = (self.course, after.course);
         Told {
             is_ready: becomes(old.phase.is_ready(), new.phase.is_ready()),
@@ -370,7 +369,7 @@ impl Watch {
         network: &Network,
         now_ms: u64,
     ) -> Result<Vec<Step>, AllocError>
-        requires { now_ms < 2 ^ 62 }
+        requires { now_ms < 2 ^ 63 }
         ensures steps { (s : WatchSettings) (past : Past) → Watches self.old network.now s past
             → IfOk result (λ steps. steps.items ≡ steps_at network.now s past now_ms) }
         ensures given { (s : WatchSettings) (past : Past) → Watches self.old network.now s past

@@ -80,7 +80,7 @@ impl<'a> Story<'a> {
         let network = &self.journal.network;
         match self.read_line(word, first, second) {
             Some(Line::Happened(happening)) => {
-                put_told(now_ms, self.watch.told(network, now_ms, &happening), out)?;
+                put_told(now_ms, self.watch.told(network, &happening), out)?;
                 self.watch.take(network, now_ms, &happening);
             }
             Some(Line::Turn) => {

@@ -1,0 +1,123 @@
+-- What a line of an operator asks for (own).
+use Rattle.std.specs.Prelude.{ℕ, Bool, ◌+◌, ◌-◌, ◌*◌, ◌==◌, nat_le, ◌&&◌, if◌then◌else◌, not, true, false, List, [], ◌∷◌, filter, bytes_eq, codes, Option, Some, None}
+use Rattle.cm_text.specs.FieldReading.{◌>>=◌}
+use Rattle.cm_text.specs.Words.{Words, split}
+use Rattle.cm_history.specs.declared.call.Call.{Call}
+use Rattle.cm_history.specs.declared.call.Call.TheVariants as call
+use Rattle.cm_live.specs.declared.console.Command.{Command}
+use Rattle.cm_live.specs.declared.console.Command.TheVariants.{Make, Request, Boot, Start, Status, Help, Quit}
+use Rattle.cm_live.specs.declared.verb.Verb.{Verb}
+use Rattle.cm_live.specs.declared.verb.Verb.TheVariants as verb
+
+-- the number, if it lies in this range
+abbrev pub within : ℕ → ℕ → ℕ → Option ℕ
+within least most n = if nat_le least n && nat_le n most then Some n else None
+
+-- what a decimal digit is worth
+abbrev pub digit_of : ℕ → Option ℕ
+digit_of b = if nat_le 48 b && nat_le b 57 then Some (b - 48) else None
+
+-- what a hexadecimal digit is worth: 0 to 9, A to F, a to f
+abbrev pub hex_digit_of : ℕ → Option ℕ
+hex_digit_of b = if nat_le 48 b && nat_le b 57 then Some (b - 48)
+    else (if nat_le 65 b && nat_le b 70 then Some (b - 55)
+    else (if nat_le 97 b && nat_le b 102 then Some (b - 87) else None))
+
+-- the number of one to three decimal digits, 0 to 255, with no 0 in front
+abbrev pub decimal_of : List ℕ → Option ℕ
+decimal_of (a ∷ []) = digit_of a
+decimal_of (a ∷ b ∷ []) = digit_of a >>= (λ m. digit_of b >>= (λ n. within 10 99 (m * 10 + n)))
+decimal_of (a ∷ b ∷ c ∷ []) = digit_of a >>= (λ l. digit_of b >>= (λ m. digit_of c >>= (λ n. within 100 255 ((l * 10 + m) * 10 + n))))
+decimal_of _ = None
+
+-- the number of one or two hexadecimal digits
+abbrev pub hexadecimal_of : List ℕ → Option ℕ
+hexadecimal_of (a ∷ []) = hex_digit_of a
+hexadecimal_of (a ∷ b ∷ []) = hex_digit_of a >>= (λ m. hex_digit_of b >>= (λ n. Some (m * 16 + n)))
+hexadecimal_of _ = None
+
+-- the number that a word spells: hexadecimal digits behind "0x", else decimal ones
+abbrev pub number_of : List ℕ → Option ℕ
+number_of (a ∷ b ∷ digits) = if a == 48 && b == 120 then hexadecimal_of digits else decimal_of (a ∷ b ∷ digits)
+number_of w = decimal_of w
+
+-- the node-ID that a word spells (CiA 301)
+abbrev pub node_of : List ℕ → Option ℕ
+node_of w = number_of w >>= (λ n. within 1 127 n)
+
+-- the first word of a line that spells a call as a journal does
+abbrev pub call_verb_of : List ℕ → Option Verb
+call_verb_of w =
+    if bytes_eq w (codes "request") then Some verb.Request
+    else (if bytes_eq w (codes "read") then Some verb.Read
+    else (if bytes_eq w (codes "hold") then Some verb.Hold
+    else (if bytes_eq w (codes "release") then Some verb.Release
+    else (if bytes_eq w (codes "lost") then Some verb.Lost else None))))
+
+-- the first word of a line that asks one slave or all to do something
+abbrev pub order_verb_of : List ℕ → Option Verb
+order_verb_of w =
+    if bytes_eq w (codes "boot") then Some verb.Boot
+    else (if bytes_eq w (codes "start") then Some verb.Start
+    else (if bytes_eq w (codes "stop") then Some verb.Stop
+    else (if bytes_eq w (codes "reset") then Some verb.Reset
+    else (if bytes_eq w (codes "preop") then Some verb.PreOperational else None))))
+
+-- the first word of a line that is for the run
+abbrev pub run_verb_of : List ℕ → Option Verb
+run_verb_of w =
+    if bytes_eq w (codes "status") then Some verb.Status
+    else (if bytes_eq w (codes "help") then Some verb.Help
+    else (if bytes_eq w (codes "quit") then Some verb.Quit
+    else (if bytes_eq w (codes "exit") then Some verb.Quit else None)))
+
+-- the first that there is
+abbrev pub first_of : {A : Type 0} → Option A → Option A → Option A
+first_of None y = y
+first_of (Some x) y = Some x
+
+-- the first word of a line
+abbrev pub verb_of : List ℕ → Option Verb
+verb_of w = first_of (call_verb_of w) (first_of (order_verb_of w) (run_verb_of w))
+
+-- the request to a node that a word spells, with this value
+abbrev pub request_to : ℕ → List ℕ → Option Command
+request_to value w = node_of w >>= (λ n. Some (Request n value))
+
+-- what a line asks for whose first word is this, by the words behind it: a request to all nodes has target 128, and the
+-- values are those of object 1F82h, 4 stop, 5 start, 6 reset node, 127 enter pre-operational (CiA 302-2, request NMT)
+abbrev pub command_with : Verb → Words → Option Command
+command_with verb.Request (t ∷ v ∷ []) = number_of t >>= (λ m. number_of v >>= (λ n. Some (Request m n)))
+command_with verb.Read (t ∷ []) = number_of t >>= (λ m. Some (Make (call.Read m)))
+command_with verb.Hold (t ∷ []) = node_of t >>= (λ n. Some (Make (call.Hold n)))
+command_with verb.Release (t ∷ []) = node_of t >>= (λ n. Some (Make (call.Release n)))
+command_with verb.Lost (t ∷ []) = node_of t >>= (λ n. Some (Make (call.Lost n)))
+command_with verb.Boot (t ∷ []) = node_of t >>= (λ n. Some (Boot n))
+command_with verb.Start [] = Some Start
+command_with verb.Start (t ∷ []) = request_to 5 t
+command_with verb.Stop [] = Some (Request 128 4)
+command_with verb.Stop (t ∷ []) = request_to 4 t
+command_with verb.Reset (t ∷ []) = request_to 6 t
+command_with verb.PreOperational (t ∷ []) = request_to 127 t
+command_with verb.Status [] = Some Status
+command_with verb.Help [] = Some Help
+command_with verb.Quit [] = Some Quit
+command_with _ _ = None
+
+-- what these words ask for
+abbrev pub command_of : Words → Option Command
+command_of [] = None
+command_of (w ∷ ws) = verb_of w >>= (λ v. command_with v ws)
+
+-- whether a word has no bytes
+abbrev pub is_empty_word : List ℕ → Bool
+is_empty_word [] = true
+is_empty_word (b ∷ bs) = false
+
+-- those of these parts that have bytes
+abbrev pub some_words : Words → Words
+some_words ws = filter (λ w. not (is_empty_word w)) ws
+
+-- what a line asks for, whose words stand between its spaces; nothing where it is no such line
+abbrev pub asked_by : List ℕ → Option Command
+asked_by line = command_of (some_words (split 32 line))

@@ -1,0 +1,142 @@
+//! What an operator types, and what it asks for.
+ghost use Rattle.std.specs.Prelude.{◌≡◌, ◌∷◌, [], None, Some, MatchOption, MatchResult, IfOk, IfErr, List, ℕ};
+ghost use Rattle.cm_text.specs.Left.{left};
+ghost use Rattle.cm_text.specs.Words.{split};
+ghost use Rattle.cm_live.specs.Console.{asked_by, command_with, request_to, some_words};
+
+use crate::numbers::{node_of, number_of};
+use crate::verb::{Verb, verb_of};
+use cm_history::Call;
+use cm_nmt::NodeId;
+use cm_text::Fields;
+
+/// What a line of an operator asks for.
+#[derive(Clone, Copy)]
+pub enum Command {
+    /// This call is to be made; it is no request.
+    Make(Call),
+    /// A request of this target and value is to be made (CiA 302-2, request NMT).
+    Request(u8, u8),
+    /// This slave is to be booted now.
+    Boot(NodeId),
+    /// The network is to be started.
+    Start,
+    /// The report of what has happened so far.
+    Status,
+    /// What there is to type.
+    Help,
+    /// The run is to end.
+    Quit,
+}
+
+/// What is wrong with a line of an operator.
+#[derive(Clone, Copy)]
+pub enum BadLine {
+    /// It has no words.
+    Empty,
+    /// Its first word is none that there is.
+    NoSuchWord,
+    /// The words behind the first are not those that it takes.
+    NoSuchWords,
+}
+
+/// The next word: what stands between spaces.
+fn next_word<'a>(fields: &mut Fields<'a>) -> Option<&'a [u8]>
+    ensures { MatchOption result
+        ((some_words (left fields.old) ≡ []) × (left fields.new ≡ []))
+        (λ w. some_words (left fields.old) ≡ w.now ∷ some_words (left fields.new)) }
+{
+    while let Some(word) = fields.next_field() {
+        if !word.is_empty() {
+            return Some(word);
+        }
+    }
+    None
+}
+
+/// The request to the node that a word spells, with this value.
+fn request_to(value: u8, word: &[u8]) -> Option<Command>
+    ensures { result ≡ request_to value word.now }
+{
+    let node = node_of(word)?;
+    Some(Command::Request(node.get(), value))
+}
+
+/// What a line asks for whose first word is this, with no word behind it.
+fn command_alone(verb: Verb) -> Option<Command>
+    ensures { result ≡ command_with verb [] }
+{
+    match verb {
+        Verb::Start => Some(Command::Start),
+        Verb::Stop => Some(Command::Request(128, 4)),
+        Verb::Status => Some(Command::Status),
+        Verb::Help => Some(Command::Help),
+        Verb::Quit => Some(Command::Quit),
+        _ => None,
+    }
+}
+
+/// What a line asks for whose first word is this, with one word behind it.
+fn command_with_one(verb: Verb, word: &[u8]) -> Option<Command>
+    ensures { result ≡ command_with verb (word.now ∷ []) }
+{
+    match verb {
+        Verb::Read => Some(Command::Make(Call::Read(number_of(word)?))),
+        Verb::Hold => Some(Command::Make(Call::Hold(node_of(word)?))),
+        Verb::Release => Some(Command::Make(Call::Release(node_of(word)?))),
+        Verb::Lost => Some(Command::Make(Call::Lost(node_of(word)?))),
+        Verb::Boot => Some(Command::Boot(node_of(word)?)),
+        Verb::Start => request_to(5, word),
+        Verb::Stop => request_to(4, word),
+        Verb::Reset => request_to(6, word),
+        Verb::PreOperational => request_to(127, word),
+        _ => None,
+    }
+}
+
+/// What a line asks for whose first word is this, with two words behind it.
+fn command_with_two(verb: Verb, first: &[u8], second: &[u8]) -> Option<Command>
+    ensures { result ≡ command_with verb (first.now ∷ second.now ∷ []) }
+{
+    match verb {
+        Verb::Request => {
+            let target = number_of(first)?;
+            Some(Command::Request(target, number_of(second)?))
+        }
+        _ => None,
+    }
+}
+
+/// What a line asks for whose first word is this, by the words behind it.
+fn command_with(verb: Verb, words: &mut Fields<'_>) -> Option<Command>
+    ensures { result ≡ command_with verb (some_words (left words.old)) }
+{
+    let Some(first) = next_word(words) else {
+        return command_alone(verb);
+    };
+    let Some(second) = next_word(words) else {
+        return command_with_one(verb, first);
+    };
+    if next_word(words).is_some() {
+        return None;
+    }
+    command_with_two(verb, first, second)
+}
+
+/// What a line asks for: words with spaces around and between them.
+pub fn read_command(line: &[u8]) -> Result<Command, BadLine>
+    ensures taken { IfOk result (λ command. asked_by line.now ≡ Some command) }
+    ensures bad { IfErr result (λ bad. asked_by line.now ≡ None) }
+{
+    let mut words = Fields::new(line, b' ');
+    let Some(word) = next_word(&mut words) else {
+        return Err(BadLine::Empty);
+    };
+    let Some(verb) = verb_of(word) else {
+        return Err(BadLine::NoSuchWord);
+    };
+    match command_with(verb, &mut words) {
+        Some(command) => Ok(command),
+        None => Err(BadLine::NoSuchWords),
+    }
+}
