@@ -5,3 +5,4 @@ pub mod Hearing
 pub mod Places
 pub mod Cutting
 pub mod Receiving
+pub mod Console

@@ -1,25 +1,14 @@
-use cm_history::{Call, Reply};
+use cm_history::Entry;
 use cm_nmt::NodeId;
 use cm_seat::CallFault;
-
-/// What a worker's attempts at a slave came to.
-#[derive(Clone, Copy, Debug, PartialEq, Eq)]
-pub enum Tried {
-    /// The slave is booted.
-    Booted,
-    /// It isn't.
-    NotBooted,
-    /// A call couldn't be made.
-    NotCalled(CallFault),
-}
 
 /// What the threads of a live run tell the one that watches the network.
 #[derive(Debug, Drop)]
 pub enum Happening {
-    /// A worker made a call, which got this reply.
-    Called(Call, Reply),
-    /// A worker's attempts at a slave have ended.
-    Ended(NodeId, Tried),
+    /// An entry of the history was recorded, before which so many stand.
+    Entered(u64, Entry),
+    /// A worker's attempts at a slave have ended; where a call couldn't be made, why.
+    Ended(NodeId, Option<CallFault>),
     /// An error control message of a listed node: a boot-up message, or another state than the last one's.
     /// The byte is the message's.
     Told(NodeId, u8),

@@ -11,9 +11,9 @@
 //! told to the one that watches the network ([`Happening`]).
 #![tactic(auto)]
 
-mod announcing;
 mod bus;
 mod bus_name;
+mod console;
 mod event;
 mod happening;
 mod heartbeats;
@@ -21,19 +21,22 @@ mod line_counter;
 mod line_cutter;
 mod listening;
 mod live_port;
+mod numbers;
 mod outlet;
 mod port;
 mod received;
 mod receiving;
+mod telling;
 mod typed_line;
 mod typing;
+mod verb;
 mod wire;
 
-pub use announcing::Announcing;
 pub use bus::LiveBus;
 pub use bus_name::BusName;
+pub use console::{BadLine, Command, read_command};
 pub use event::Event;
-pub use happening::{Happening, Tried};
+pub use happening::Happening;
 pub use heartbeats::Heartbeats;
 pub use line_cutter::LineCutter;
 pub use listening::Listening;
@@ -42,6 +45,7 @@ pub use outlet::{Format, Outlet};
 pub use port::Port;
 pub use received::Received;
 pub use receiving::{FrameCutter, Routes, Source};
+pub use telling::Telling;
 pub use typed_line::TypedLine;
 pub use typing::{TypedCutter, TypedRoute, TypedSource};
 pub use wire::LiveWire;

@@ -11,7 +11,7 @@ use cm_simulated::SimWire;
 use std::io::Write;
 use std::marker::{Model, PhantomData};
 use std::sync::Arc;
-use std::sync::atomic::{AtomicBool, Ordering};
+use std::sync::atomic::{AtomicBool, AtomicU64, Ordering};
 
 /// A wire to a CAN bus: each NMT frame is written as the message with identifier 000h. The frames sent are
 /// kept, in memory that is taken before. Once a write has failed nothing more is written, and frames are kept
@@ -22,6 +22,7 @@ pub struct LiveWire<W: Write + Drop, B: BusName> {
     kept: SimWire,
     outlet: Outlet<W>,
     broken: Arc<AtomicBool>,
+    handed: Arc<AtomicU64>,
     of: PhantomData<B>,
 }
 
@@ -43,9 +44,15 @@ impl<W: Write + Drop, B: BusName> Model for LiveWire<W, B> {
 }
 
 impl<W: Write + Drop, B: BusName> LiveWire<W, B> {
-    /// A wire over these kept frames, of which there are none yet. `broken` is set once a write has failed. The
-    /// conditions say that `B` knows in what lines frames are written, and what the writer has.
-    pub fn new(kept: SimWire, outlet: Outlet<W>, broken: Arc<AtomicBool>) -> LiveWire<W, B>
+    /// A wire over these kept frames, of which there are none yet. `broken` is set once a write has failed,
+    /// and `handed` counts the frames that were written. The conditions say that `B` knows in what lines frames are written,
+    /// and what the writer has.
+    pub fn new(
+        kept: SimWire,
+        outlet: Outlet<W>,
+        broken: Arc<AtomicBool>,
+        handed: Arc<AtomicU64>,
+    ) -> LiveWire<W, B>
         requires unused { kept.sent ≡ [] }
         requires format { outlet.format ≡ B.message_format }
         requires before { W.contents outlet.writer ≡ B.before }
@@ -55,6 +62,7 @@ impl<W: Write + Drop, B: BusName> LiveWire<W, B> {
             kept,
             outlet,
             broken,
+            handed,
             of: PhantomData,
         }
     }
@@ -113,6 +121,8 @@ impl<W: Write + Drop, B: BusName> Wire for LiveWire<W, B> {
         self.kept.send(Frame { command, target });
         if self.outlet.has_failed() {
             self.broken.store(true, Ordering::SeqCst);
+        } else {
+            self.handed.fetch_add(1, Ordering::SeqCst);
         }
     }
 }

@@ -42,6 +42,13 @@ impl<T: Drop> InOrder<T> {
         Ok(())
     }
 
+    /// How many were told.
+    pub fn count(&self) -> u64
+        ensures { result ≡ self.now.next }
+    {
+        self.next
+    }
+
     /// Where the next waits.
     fn place_of_next(&self) -> Option<usize>
         ensures found { IfSome result (λ i. IsFirstAt self.now.waiting.items i self.now.next) }
