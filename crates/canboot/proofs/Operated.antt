@@ -13,7 +13,8 @@ use Rattle.cm_seat.specs.declared.fault.CallFault.{CallFault}
 use Rattle.cm_seat.specs.declared.made.Made.{Made}
 use Rattle.cm_seat.specs.declared.made.Receipt.{Receipt}
 use Rattle.canboot.specs.Operated.{EndsWithOperator, IsOperatedLive, IsOperators, RequestsIfOperator}
-use Rattle.canboot.specs.Typing.{AreTyped, BeginsWithStart, IsOfWatch, IsTypedCall, MakesNoRequest, NoRequests}
+use Rattle.cm_live.specs.Console.{IsOfWatch}
+use Rattle.canboot.specs.Typing.{AreTyped, BeginsWithStart, IsTypedCall, MakesNoRequest, NoRequests}
 use Rattle.canboot.proofs.Lists.{each_list}
 
 abbrev pub IsQuiet : SeatView → Type 0

@@ -21,9 +21,8 @@ mod progress;
 mod rounds;
 mod running;
 mod simulation;
+mod telling;
 mod timed;
-mod typing;
-mod watched;
 mod watching;
 
 pub use canboot_check::{

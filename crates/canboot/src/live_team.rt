@@ -1,12 +1,13 @@
 //! The workers of a live run: who they are, their threads, and what each does.
 ghost use Rattle.std.specs.Prelude.{◌≡◌, ◌+◌, ◌≤◌, [], All};
+ghost use Rattle.canboot.specs.Causes.{fault_of};
 
 use crate::booth::Booth;
 use crate::heard_seat::HeardSeat;
 use crate::live::Setting;
-use cm_live::{Announcing, BusName, Happening, LiveBus, LivePort, Outlet, Received, Tried};
+use cm_live::{BusName, Happening, LiveBus, LivePort, Outlet, Received};
 use cm_nmt::NodeId;
-use cm_register::{RunName, Seat, SharedManager};
+use cm_register::{CallFault, RunName, Seat, SharedManager};
 use cm_run::{Last, Outcome};
 use crossbeam_channel::{Receiver, Sender};
 use std::alloc::{AllocError, Global};
@@ -25,12 +26,13 @@ pub(crate) struct Worker<'n, R: Wait + Clock + Drop, K: RunName, B: BusName, W: 
     attempts: u8,
 }
 
-/// What an outcome comes to.
-fn tried_of(outcome: &Outcome) -> Tried {
+/// Why a call couldn't be made, if one couldn't.
+fn fault_of(outcome: &Outcome) -> Option<CallFault>
+    ensures { result ≡ fault_of outcome.now.last }
+{
     match outcome.last {
-        Last::Status(status) if status.is_good() => Tried::Booted,
-        Last::Status(_) | Last::Refused(_) => Tried::NotBooted,
-        Last::Fault(fault) => Tried::NotCalled(fault),
+        Last::Status(_) | Last::Refused(_) => None,
+        Last::Fault(fault) => Some(fault),
     }
 }
 
@@ -44,7 +46,7 @@ fn boot_handed<
     W: Write + Drop,
 >(
     rt: &R,
-    announcing: &Announcing<'_, M>,
+    register: &M,
     booth: &mut Booth<'n, K, B, LivePort<R, B, W>>,
     jobs: &Receiver<NodeId>,
     happenings: &Sender<Happening>,
@@ -61,11 +63,11 @@ fn boot_handed<
             return;
         }
         // Another worker's slave never comes: the watcher hands out each to its own.
-        let tried = match booth.boot(rt, announcing, id, attempts) {
-            Some(outcome) => tried_of(&outcome),
-            None => Tried::NotBooted,
+        let fault = match booth.boot(rt, register, id, attempts) {
+            Some(outcome) => fault_of(&outcome),
+            None => None,
         };
-        let _ = happenings.send(rt, Happening::Ended(id, tried));
+        let _ = happenings.send(rt, Happening::Ended(id, fault));
     }
 }
 
@@ -84,18 +86,8 @@ fn work<
         happenings,
         attempts,
     } = worker;
-    if let Ok(tells) = happenings.clone() {
-        let announcing = Announcing::new(register, tells);
-        boot_handed(
-            rt,
-            &announcing,
-            &mut booth,
-            &jobs,
-            &happenings,
-            attempts.clamp(1, 10),
-            over,
-        );
-    }
+    let attempts = attempts.clamp(1, 10);
+    boot_handed(rt, register, &mut booth, &jobs, &happenings, attempts, over);
     booth.into_seat()
 }
 

@@ -1,32 +1,29 @@
 //! The seat of the operator of a live run.
-ghost use Rattle.std.specs.Prelude.{◌≡◌, [], Err, IfSome, false};
+ghost use Rattle.std.specs.Prelude.{◌≡◌, [], Err, IsTrue, false};
 ghost use Rattle.cm_nmt.specs.Bits.{has_bit};
 ghost use Rattle.cm_live.specs.Receiving.{IsReceivedList};
 ghost use Rattle.canboot.specs.Operated.{IsOperators};
-ghost use Rattle.canboot.specs.Typing.{IsOfWatch, request_line};
+ghost use Rattle.cm_live.specs.Console.{IsOfWatch};
+ghost use Rattle.canboot.specs.Typing.{SpellsRequest};
 ghost use Rattle.canboot.specs.Workers.{AreOfItsSeat};
 
 use crate::opening::{NoHistory, not_called, started};
 use cm_history::Call;
-use cm_live::{BusName, TypedLine};
+use cm_live::{BusName, Command, TypedLine, read_command};
 use cm_register::{CallFault, RunName, Seat, SharedManager};
 use cm_seat::Receipt;
-use cm_text::Fields;
 use std::marker::{Model, PhantomData};
 use std::sync::Wait;
 
-/// The target and the value of the request that the line spells.
-fn read_request(line: &[u8]) -> Option<(u8, u8)>
-    ensures { IfSome result (λ r. line.now ≡ request_line r.0 r.1) }
+/// Whether the line spells the request: by itself, or as the start of all nodes.
+fn spells(line: &[u8], target: u8, value: u8) -> bool
+    ensures { IsTrue result → SpellsRequest line.now target value }
 {
-    let mut fields = Fields::new(line, b' ');
-    fields.keyword(b"request")?;
-    let target = fields.decimal(255)? as u8;
-    let value = fields.decimal(255)? as u8;
-    if !fields.is_done() {
-        return None;
+    match read_command(line) {
+        Ok(Command::Request(of, to)) => of == target && to == value,
+        Ok(Command::Start) => target == 128 && value == 5,
+        _ => false,
     }
-    Some((target, value))
 }
 
 /// The operator's seat, which has started the network. Its requests are those that were typed, in their order, and it
@@ -102,10 +99,7 @@ impl<K: RunName, B: BusName> OperatorSeat<K, B> {
         value: u8,
     ) -> Result<Option<Receipt>, CallFault> {
         let place = line.place();
-        let Some(spelled) = read_request(line.line()) else {
-            return Ok(None);
-        };
-        if place <= self.last || spelled.0 != target || spelled.1 != value {
+        if place <= self.last || !spells(line.line(), target, value) {
             return Ok(None);
         }
         let receipt = register.call(rt, &mut self.seat, Call::Request(target, value))?;

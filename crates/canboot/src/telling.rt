@@ -1,15 +1,15 @@
 //! What a live run tells of its history: each entry once, in their order, behind its frames.
 
-use crate::progress::{EntryWords, Node};
+use crate::progress::{EntryWords, GivenUp, Nodes, has_words};
 use cm_history::{Call, Entry, MOST_ENTRIES, Reply};
 use cm_netlist::Network;
-use cm_nmt::NodeId;
-use cm_sequential::{Manager, frames};
-use cm_watch::{InOrder, Placed, Told};
+use cm_nmt::{NodeId, Status};
+use cm_sequential::frames;
+use cm_watch::{InOrder, Placed, Told, Watch};
 use std::alloc::{AllocError, Global};
 use std::io::Write;
 
-/// From which entry on it is told that the journal is nearly full: nine tenths of the most that there may be.
+/// Behind how many entries it is told that the journal is nearly full: nine tenths of the most that there may be.
 const NEARLY_FULL: u64 = MOST_ENTRIES as u64 / 10 * 9;
 
 /// What is to be told once its frames were handed to the wire.
@@ -17,8 +17,21 @@ const NEARLY_FULL: u64 = MOST_ENTRIES as u64 / 10 * 9;
 struct Untold<T> {
     value: T,
     told: Told,
-    /// How many frames were handed to the wire then.
+    /// Whether the network was halted before it.
+    is_halted: bool,
+    /// Its place in the history, counted from 1.
+    place: u64,
+    /// How many frames were handed to the wire with it.
     frames: u64,
+}
+
+/// What came of the boots of a slave.
+#[derive(Clone, Copy)]
+struct Boots {
+    /// How many were begun since it was last handed to its worker.
+    attempts: u8,
+    /// The status of the last.
+    status: Option<Status>,
 }
 
 /// What is told of the entries of the history: each once, in the order of the history, once its frames were handed to
@@ -29,15 +42,22 @@ pub(crate) struct Teller {
     untold: Vec<Untold<Entry>>,
     /// How many frames the entries so far have.
     frames: u64,
+    /// Of each node, that of node i at place i.
+    boots: [Boots; 128],
 }
 
 impl Teller {
     /// Nothing was told.
     pub(crate) fn new(alloc: Global) -> Teller {
+        let none = Boots {
+            attempts: 0,
+            status: None,
+        };
         Teller {
             order: InOrder::new(alloc),
             untold: Vec::new(alloc),
             frames: 0,
+            boots: [none; 128],
         }
     }
 
@@ -60,29 +80,190 @@ impl Teller {
         }
     }
 
+    /// What came of the boots of a node.
+    fn boots(&self, id: NodeId) -> Boots {
+        self.boots[usize::from(id.get())]
+    }
+
+    /// The slave is handed to its worker.
+    pub(crate) fn hand_out(&mut self, id: NodeId) {
+        self.boots[usize::from(id.get())].attempts = 0;
+    }
+
+    /// Counts the boots in an entry.
+    fn count(&mut self, entry: &Entry) {
+        match (&entry.call, entry.reply) {
+            (Call::Begin(id), Reply::Begun(_)) => {
+                let boots = &mut self.boots[usize::from(id.get())];
+                boots.attempts = boots.attempts.saturating_add(1);
+            }
+            (Call::Report(id, _, _), Reply::Reported(status)) => {
+                self.boots[usize::from(id.get())].status = Some(status);
+            }
+            _ => {}
+        }
+    }
+
     /// The entry, and what is told with it, waits for its frames.
     pub(crate) fn wait(
         &mut self,
         network: &Network,
-        entry: Entry,
-        told: Told,
+        entry: &Entry,
+        told: &Told,
+        is_halted: bool,
     ) -> Result<(), AllocError> {
+        self.count(entry);
         let count = frames(network, entry.orders).len() as u64;
         self.frames = self.frames.saturating_add(count);
         self.untold.push(Untold {
-            value: entry,
-            told,
+            value: *entry,
+            told: *told,
+            is_halted,
+            place: self.order.count(),
             frames: self.frames,
-        })
+        })?;
+        Ok(())
     }
 
-    /// The next that waits, once so many frames were handed to the wire.
-    pub(crate) fn next_handed(&mut self, handed: u64) -> Option<(Entry, Told)> {
-        match self.untold.first() {
-            Some(first) if first.frames <= handed => {}
-            _ => return None,
+    /// Tells the next entry that waits, if so many frames were handed to the wire as it has with those before it; at the
+    /// end of a run, all. Whether it did.
+    pub(crate) fn tell_next<E: Write>(
+        &mut self,
+        err: &mut E,
+        network: &Network,
+        watch: &Watch,
+        running: Nodes,
+        handed: u64,
+        is_end: bool,
+    ) -> bool {
+        let is_handed = match self.untold.first() {
+            Some(first) => first.frames <= handed,
+            None => return false,
+        };
+        if !is_handed && !is_end {
+            return false;
         }
-        let Untold { value, told, .. } = self.untold.remove(0);
-        Some((value, told))
+        let untold = self.untold.remove(0);
+        let words = EntryWords {
+            network,
+            entry: &untold.value,
+            is_handed,
+            is_halted: untold.is_halted,
+            place: untold.place,
+            unbooted: self.unbooted(&untold.value, watch),
+        };
+        if has_words(&untold.value) {
+            let _ = writeln!(err, "{words}");
+        }
+        self.tell_told(err, &running, &untold.value, &untold.told);
+        if untold.place == NEARLY_FULL {
+            let left = u64::from(MOST_ENTRIES) - NEARLY_FULL;
+            let _ = writeln!(err, "the journal is nearly full: {left} entries are left");
+        }
+        true
     }
+
+    /// The slave that a request starts though it isn't booted, with the status of its last boot.
+    fn unbooted(&self, entry: &Entry, watch: &Watch) -> Option<Option<Status>> {
+        match (&entry.call, entry.reply) {
+            (Call::Request(target, 5), Reply::Done) => {
+                let id = NodeId::new(*target)?;
+                if watch.is_booted(id) {
+                    None
+                } else {
+                    Some(self.boots(id).status)
+                }
+            }
+            _ => None,
+        }
+    }
+
+    /// Tells what became of the network with an entry.
+    fn tell_told<E: Write>(&self, err: &mut E, running: &Nodes, entry: &Entry, told: &Told) {
+        if told.is_stopped {
+            tell_stopped(err, entry);
+        }
+        if told.is_halted {
+            tell_halted(err, running, entry);
+        }
+        if told.is_ready {
+            let _ = writeln!(err, "network ready");
+        }
+        if let Some(id) = told.back {
+            let number = id.get();
+            let _ = writeln!(
+                err,
+                "node {number} is back; the network is stopped: boot {number}, or start"
+            );
+        }
+        if let Some(id) = told.unwatched {
+            let number = id.get();
+            let _ = writeln!(err, "node {number} isn't watched: it has no heartbeat time");
+        }
+    }
+
+    /// Whether the next entry that waits has halted the network.
+    pub(crate) fn is_halt_next(&self) -> bool {
+        match self.untold.first() {
+            Some(first) => first.told.is_halted,
+            None => false,
+        }
+    }
+
+    /// Tells that a slave was given up.
+    pub(crate) fn tell_given_up<E: Write>(&self, err: &mut E, network: &Network, id: NodeId) {
+        let boots = self.boots(id);
+        let given_up = GivenUp {
+            network,
+            id,
+            attempts: boots.attempts,
+            status: boots.status,
+        };
+        let _ = writeln!(err, "{given_up}");
+    }
+}
+
+/// Tells that all nodes were stopped, and by what.
+fn tell_stopped<E: Write>(err: &mut E, entry: &Entry) {
+    match &entry.call {
+        Call::Lost(id) => {
+            let number = id.get();
+            let _ = writeln!(err, "all nodes are stopped: node {number} was lost");
+        }
+        _ => {
+            let _ = writeln!(err, "all nodes are stopped");
+        }
+    }
+}
+
+/// Tells that the network was halted, by what, and which nodes run on.
+fn tell_halted<E: Write>(err: &mut E, running: &Nodes, entry: &Entry) {
+    let _ = match (&entry.call, entry.reply) {
+        (Call::Report(id, _, _), Reply::Reported(status)) => {
+            let number = id.get();
+            let letter = status.letter();
+            write!(err, "network halted: node {number} has status {letter}")
+        }
+        _ => write!(err, "network halted"),
+    };
+    if running.0.contains(&true) {
+        let _ = write!(err, "; {running} run on");
+    }
+    let _ = writeln!(err, "; once that is mended, type start");
+}
+
+/// Tells that the time for the boot of the mandatory slaves is over, and which aren't booted.
+pub(crate) fn tell_time_over<E: Write>(err: &mut E, network: &Network, watch: &Watch) {
+    let mut open = [false; 128];
+    for id in network.listed_ids().as_slice() {
+        open[usize::from(id.get())] = network.mandatory(*id) && !watch.is_booted(*id);
+    }
+    let open = Nodes(open);
+    let _ = writeln!(err, "boot time over: mandatory and not booted: {open}");
+}
+
+/// Tells that changes of state of a node were left out.
+pub(crate) fn tell_left_out<E: Write>(err: &mut E, id: NodeId, count: u32) {
+    let number = id.get();
+    let _ = writeln!(err, "node {number}: {count} changes of state, left out");
 }

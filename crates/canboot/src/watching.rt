@@ -1,24 +1,37 @@
-//! How a live run watches its network: which calls it makes when what happens, and what it says of it.
+//! How a live run goes on: what happens is told to the watch, and the steps that it gives are made.
 
-ghost use Rattle.canboot.specs.Typing.{IsOfWatch};
+ghost use Rattle.std.specs.Prelude.{◌≡◌, ◌<◌, ◌^◌};
+ghost use Rattle.cm_live.specs.Console.{IsOfWatch};
 
+use crate::live::Setting;
 use crate::live_register::LiveRegister;
 use crate::operator_seat::OperatorSeat;
-use crate::progress::signal_words;
-use crate::watched::{Watched, Watching, slaves_of};
-use cm_history::{Call, Phase, Reply};
-use cm_live::{BusName, Happening, Heartbeats, Tried, TypedLine};
+use crate::progress::Nodes;
+use crate::telling::{Teller, tell_left_out, tell_time_over};
+use cm_history::{Call, Entry};
+use cm_live::{BusName, Happening, TypedLine};
+use cm_netlist::Network;
 use cm_nmt::NodeId;
-use cm_register::{CallFault, Receipt, RunName};
+use cm_register::{CallFault, RunName};
+use cm_watch::{Happening as Watched, Pace, Settings, Step, Watch};
 use crossbeam_channel::{Receiver, Sender};
 use std::alloc::{AllocError, Global};
 use std::io::Write;
+use std::sync::Wait;
 use std::sync::atomic::{AtomicBool, Ordering};
-use std::sync::{Arc, Wait};
-use std::time::{Clock, Duration, Instant};
+use std::time::{Clock, Duration};
 
 /// How long nothing may happen before the time is looked at, in ms.
 const TURN_MS: u64 = 5;
+
+/// How long what was received while the process was stopped is waited for between two looks at it, in ms.
+const CATCH_UP_MS: u64 = 20;
+
+/// How many happenings are taken at most before the time is looked at.
+const MOST_TAKEN: u32 = 65_536;
+
+/// The state operational, as object 1F82h reads it (CiA 302-2).
+const OPERATIONAL: u8 = 5;
 
 /// How a live run ends.
 #[derive(Clone, Copy, Debug, PartialEq, Eq)]
@@ -29,6 +42,8 @@ pub(crate) enum Ending {
     NotHeard,
     /// A frame couldn't be written.
     NotWritten,
+    /// Memory was refused.
+    OutOfMemory,
     /// A call couldn't be made.
     NotCalled(CallFault),
 }
@@ -37,82 +52,73 @@ pub(crate) enum Ending {
 #[derive(Drop)]
 pub(crate) struct Watcher<
     'w,
+    'a,
+    'n,
     R: Wait + Clock + Drop,
     K: RunName,
     B: BusName,
     M: LiveRegister<K, R>,
 > {
-    pub(crate) rt: &'w R,
+    pub(crate) setting: &'w Setting<'a, 'n, R>,
     pub(crate) register: &'w M,
     pub(crate) operator: OperatorSeat<K, B>,
     /// The lines that the operator types.
     pub(crate) typed: Receiver<TypedLine<B>>,
-    slaves: Vec<Watched>,
     /// The slaves that each worker is to boot.
     jobs: Vec<Sender<NodeId>>,
-    heartbeats: Arc<Heartbeats>,
-    broken: Arc<AtomicBool>,
-    /// Set once a line of the journal couldn't be written.
-    pub(crate) unrecorded: Arc<AtomicBool>,
-    start: Instant,
-    pub(crate) settle_ms: u64,
-    /// How long the run goes on behind the end of what the operator types, in ms.
-    rest_ms: u64,
+    pub(crate) watch: Watch,
+    pub(crate) teller: Teller,
+    pace: Pace,
     pub(crate) ends_at: Option<u64>,
-    phase: Phase,
-    /// The time for the boot of the mandatory slaves was told to be over.
-    is_time_told: bool,
-    /// The time was told with which the network was ready, or all slaves were tried.
-    is_end_told: bool,
     /// It was told that a line of the journal couldn't be written.
-    pub(crate) is_unrecorded_told: bool,
+    is_unrecorded_told: bool,
 }
 
-impl<'w, R: Wait + Clock + Drop, K: RunName, B: BusName, M: LiveRegister<K, R>> Watcher<
+/// Whether this was set by another thread.
+fn is_set(flag: &AtomicBool) -> bool {
+    flag.load(Ordering::SeqCst)
+}
+
+/// What memory that was refused ends a run with.
+pub(crate) fn had<T>(made: Result<T, AllocError>) -> Result<T, Ending> {
+    match made {
+        Ok(made) => Ok(made),
+        Err(_) => Err(Ending::OutOfMemory),
+    }
+}
+
+impl<'w, 'a, 'n, R: Wait + Clock + Drop, K: RunName, B: BusName, M: LiveRegister<K, R>> Watcher<
     'w,
+    'a,
+    'n,
     R,
     K,
     B,
     M,
 > {
-    /// A watcher of the register's network, which was started.
+    /// A watcher of the register's network, which the operator has started.
     pub(crate) fn new(
-        alloc: Global,
-        of: Watching<'w, R, K, B, M>,
-    ) -> Result<Watcher<'w, R, K, B, M>, AllocError> {
-        let slaves = slaves_of(alloc, of.register.network(), of.settle_ms)?;
-        let Watching {
-            rt,
+        setting: &'w Setting<'a, 'n, R>,
+        register: &'w M,
+        operator: OperatorSeat<K, B>,
+        typed: Receiver<TypedLine<B>>,
+        jobs: Vec<Sender<NodeId>>,
+    ) -> Watcher<'w, 'a, 'n, R, K, B, M> {
+        let settings = Settings {
+            settle_ms: setting.options.settle_ms,
+        };
+        Watcher {
+            setting,
             register,
             operator,
             typed,
             jobs,
-            heartbeats,
-            broken,
-            unrecorded,
-            start,
-            settle_ms,
-            rest_ms,
-        } = of;
-        Ok(Watcher {
-            rt,
-            register,
-            operator,
-            typed,
-            slaves,
-            jobs,
-            heartbeats,
-            broken,
-            unrecorded,
-            start,
-            settle_ms,
-            rest_ms,
+            watch: Watch::new(settings),
+            teller: Teller::new(setting.alloc),
+            pace: Pace::new(),
             ends_at: None,
-            phase: Phase::Booting,
-            is_time_told: false,
-            is_end_told: false,
             is_unrecorded_told: false,
-        })
+        }
     }
 
     /// The operator's seat, once nothing is watched any more.
@@ -121,271 +127,287 @@ impl<'w, R: Wait + Clock + Drop, K: RunName, B: BusName, M: LiveRegister<K, R>> 
         operator
     }
 
+    /// The network list.
+    pub(crate) fn network(&self) -> &'n Network {
+        self.setting.network
+    }
+
     /// The time since the run began, in ms.
-    fn now(&self) -> u64 {
-        match self.start.elapsed(self.rt) {
-            Ok(time) => u64::try_from(time.as_millis()).unwrap_or(u64::MAX),
+    fn now(&self) -> u64
+        ensures { result < 2 ^ 63 }
+    {
+        match self.setting.start.elapsed(self.setting.rt) {
+            Ok(time) => u64::try_from(time.as_millis()).unwrap_or(0).min(1 << 62),
             Err(_) => 0,
         }
     }
 
-    pub(crate) fn call(&mut self, call: Call) -> Result<Receipt, Ending>
+    /// Makes a call that is neither a report nor a request.
+    pub(crate) fn call(&mut self, call: Call) -> Result<(), Ending>
         requires { IsOfWatch call }
     {
-        match self.operator.call(self.rt, self.register, call) {
-            Ok(receipt) => Ok(receipt),
+        match self.operator.call(self.setting.rt, self.register, call) {
+            Ok(_) => Ok(()),
             Err(fault) => Err(Ending::NotCalled(fault)),
         }
     }
 
-    /// The place of a node among the listed ones.
-    pub(crate) fn place_of(&self, id: NodeId) -> Option<usize> {
-        self.slaves.iter().position(|slave| slave.id == id)
-    }
-
-    /// Lets its worker boot the slave, now or once it has ended what it does with it.
-    pub(crate) fn boot(&mut self, place: usize) {
+    /// Lets its worker boot the slave.
+    fn boot(&mut self, id: NodeId) {
+        self.teller.hand_out(id);
+        let listed = self.network().listed_ids();
         let workers = self.jobs.len();
-        let Some(slave) = self.slaves.get_mut(place) else {
+        let Some(place) = listed.as_slice().iter().position(|listed| *listed == id) else {
             return;
         };
-        slave.due = None;
-        if slave.is_busy {
-            slave.is_again = true;
-            return;
-        }
         if workers == 0 {
             return;
         }
-        slave.is_busy = true;
         if let Some(jobs) = self.jobs.get(place % workers) {
-            let _ = jobs.send(self.rt, slave.id);
+            let _ = jobs.send(self.setting.rt, id);
         }
     }
 
-    /// The slave isn't booted any more; it is booted again at this time, or once its boot-up message comes.
-    pub(crate) fn clear(&mut self, place: usize, due: Option<u64>) {
-        if let Some(slave) = self.slaves.get_mut(place) {
-            slave.booted_at = None;
-            slave.due = due;
-        }
-    }
-
-    /// All slaves were reset.
-    pub(crate) fn clear_all(&mut self, now: u64) {
-        let due = now.saturating_add(self.settle_ms);
-        for slave in self.slaves.iter_mut() {
-            slave.booted_at = None;
-            slave.due = Some(due);
-        }
-    }
-
-    /// A slave is lost.
-    pub(crate) fn lose<E: Write>(
-        &mut self,
-        err: &mut E,
-        id: NodeId,
-        now: u64,
-    ) -> Result<Receipt, Ending> {
-        let receipt = self.call(Call::Lost(id))?;
-        let number = id.get();
-        let _ = writeln!(err, "node {number}: lost");
-        let Some(place) = self.place_of(id) else {
-            return Ok(receipt);
-        };
-        let network = self.register.network();
-        let startup = network.startup();
-        let is_mandatory = network.mandatory(id);
-        self.clear(place, None);
-        if receipt.reply != Reply::Handled || is_mandatory && startup.stops_all_on_error() {
-            return Ok(receipt);
-        }
-        if is_mandatory && startup.resets_all_on_error() {
-            self.clear_all(now);
-        } else {
-            self.clear(place, Some(now.saturating_add(self.settle_ms)));
-        }
-        Ok(receipt)
-    }
-
-    /// A node was heard in an error control message.
-    fn hear<E: Write>(&mut self, err: &mut E, id: NodeId, byte: u8) -> Result<(), Ending> {
-        let receipt = self.call(Call::Signal(id, byte))?;
-        let number = id.get();
-        let words = signal_words(byte);
-        let _ = writeln!(err, "node {number}: {words}");
-        if receipt.reply == Reply::BootAgain {
-            if let Some(place) = self.place_of(id) {
-                self.clear(place, None);
-                self.boot(place);
+    /// What the watch is told, and what an operator is told with it.
+    pub(crate) fn note<E: Write>(&mut self, err: &mut E, happening: &Watched, now: u64)
+        requires { now < 2 ^ 63 }
+    {
+        let network = self.network();
+        let told = self.watch.take(network, now, happening);
+        if let Some(id) = told.given_up {
+            if !self.watch.phase().is_halted() {
+                self.teller.tell_given_up(err, network, id);
             }
+        }
+    }
+
+    /// An entry of the history is told to the watch, and waits to be told in words.
+    fn take_entry(&mut self, entry: &Entry, now: u64) -> Result<(), AllocError>
+        requires { now < 2 ^ 63 }
+    {
+        let network = self.network();
+        let is_halted = self.watch.phase().is_halted();
+        let told = self.watch.take(network, now, &Watched::Called(*entry));
+        self.teller.wait(network, entry, &told, is_halted)
+    }
+
+    /// The entries that come next in the history are told to the watch, and wait to be told in words.
+    fn take_entries(&mut self, now: u64) -> Result<(), Ending>
+        requires { now < 2 ^ 63 }
+    {
+        for _ in self.setting.rt.forever() {
+            let Some(entry) = self.teller.next() else {
+                break;
+            };
+            had(self.take_entry(&entry, now))?;
         }
         Ok(())
     }
 
-    /// A worker's attempts at a slave have ended.
-    fn end(&mut self, id: NodeId, tried: Tried, now: u64) -> Result<(), Ending> {
-        let Some(place) = self.place_of(id) else {
-            return Ok(());
-        };
-        let is_again = match self.slaves.get_mut(place) {
-            Some(slave) => {
-                slave.is_busy = false;
-                slave.has_ended = true;
-                if tried == Tried::Booted {
-                    slave.booted_at = Some(now);
-                }
-                let is_again = slave.is_again;
-                slave.is_again = false;
-                is_again
-            }
-            None => false,
-        };
-        if let Tried::NotCalled(fault) = tried {
-            return Err(Ending::NotCalled(fault));
-        }
-        if is_again {
-            self.boot(place);
-        }
-        self.tell_end(now)
-    }
-
-    /// Once each slave was tried, the manager is told the time: where no slave is mandatory, the network becomes
-    /// ready with that.
-    fn tell_end(&mut self, now: u64) -> Result<(), Ending> {
-        if self.slaves.iter().all(|slave| slave.has_ended) {
-            self.tell_elapsed(now)
-        } else {
-            Ok(())
-        }
-    }
-
-    /// The manager is told the time, once: where the network is ready, or each slave was tried.
-    fn tell_elapsed(&mut self, now: u64) -> Result<(), Ending> {
-        if self.is_end_told {
-            return Ok(());
-        }
-        self.is_end_told = true;
-        self.call(Call::Elapsed(now.min(0xFFFF_FFFF) as u32))?;
-        Ok(())
+    /// An entry of the history was recorded.
+    fn enter(&mut self, position: u64, entry: Entry, now: u64) -> Result<(), Ending>
+        requires { now < 2 ^ 63 }
+    {
+        had(self.teller.take(position, entry))?;
+        self.take_entries(now)
     }
 
     /// Takes one thing that has happened.
-    fn take<E: Write>(
-        &mut self,
-        alloc: Global,
-        err: &mut E,
-        happening: Happening,
-        now: u64,
-    ) -> Result<(), Ending> {
+    fn take<E: Write>(&mut self, err: &mut E, happening: Happening, now: u64) -> Result<(), Ending>
+        requires { now < 2 ^ 63 }
+    {
         match happening {
-            Happening::Called(call, reply) => {
-                self.tell_call(err, &call, reply);
-                Ok(())
-            }
-            Happening::Ended(id, tried) => self.end(id, tried, now),
-            Happening::Told(id, byte) => self.hear(err, id, byte),
-            Happening::Typed => self.obey_next(alloc, err, now),
+            Happening::Entered(position, entry) => self.enter(position, entry, now)?,
+            Happening::Ended(_, Some(fault)) => return Err(Ending::NotCalled(fault)),
+            Happening::Ended(id, None) => self.note(err, &Watched::Ended(id), now),
+            Happening::Told(id, byte) => self.note(err, &Watched::Heard(id, byte), now),
+            Happening::Typed => self.obey_next(err, now)?,
             Happening::NoMoreTyped => {
-                self.ends_at = Some(now.saturating_add(self.rest_ms));
-                Ok(())
+                let rest_ms = u64::from(self.setting.options.seconds) * 1000;
+                self.ends_at = Some(now.saturating_add(rest_ms));
             }
-            Happening::NoMoreHeard => Err(Ending::NotHeard),
-        }
-    }
-
-    /// Whether the heartbeat of a slave that is booted didn't come in its time.
-    fn is_late(&self, slave: &Watched, now: u64) -> bool {
-        let Some(booted_at) = slave.booted_at else {
-            return false;
-        };
-        if slave.heartbeat_ms == 0 {
-            return false;
-        }
-        let heard = self.heartbeats.last(slave.id).unwrap_or(0).max(booted_at);
-        now.saturating_sub(heard) > u64::from(slave.heartbeat_ms)
-    }
-
-    /// Does for each slave what is due: those that are to be booted are, and those whose heartbeat is late are lost.
-    fn watch_slaves<E: Write>(&mut self, err: &mut E, now: u64) -> Result<(), Ending> {
-        for place in 0..self.slaves.len() {
-            let Some(slave) = self.slaves.get(place).copied() else {
-                break;
-            };
-            if slave.due.is_some_and(|due| due <= now) {
-                self.boot(place);
-            }
-            if self.is_late(&slave, now) {
-                self.lose(err, slave.id, now)?;
-            }
+            Happening::NoMoreHeard => return Err(Ending::NotHeard),
         }
         Ok(())
     }
 
-    /// Tells the manager, once, that the time for the boot of the mandatory slaves is over.
-    fn watch_time(&mut self, now: u64) -> Result<(), Ending> {
-        let most = self.register.network().boot_time();
-        if self.is_time_told || most == 0 || now <= u64::from(most) {
-            return Ok(());
-        }
-        self.is_time_told = true;
-        self.call(Call::Elapsed(now.min(0xFFFF_FFFF) as u32))?;
-        Ok(())
-    }
-
-    /// Says where the network has become ready, or was halted; a network that is ready is told the time.
-    fn tell_phase<E: Write>(&mut self, err: &mut E, now: u64) -> Result<(), Ending> {
-        let phase = self.manager().map_or(self.phase, |manager| manager.phase());
-        if phase == self.phase {
-            return Ok(());
-        }
-        self.phase = phase;
-        if phase == Phase::Halted {
-            let _ = writeln!(err, "network halted");
-        }
-        if phase != Phase::Ready {
-            return Ok(());
-        }
-        let _ = writeln!(err, "network ready");
-        self.tell_elapsed(now)
-    }
-
-    /// One turn: takes what happens next, if something does in time, and then looks at the time.
-    fn turn<E: Write>(
+    /// Takes what has happened, if something has within this time, and then all else that has.
+    fn take_all<E: Write>(
         &mut self,
-        alloc: Global,
         err: &mut E,
         happenings: &Receiver<Happening>,
+        wait_ms: u64,
     ) -> Result<(), Ending> {
-        if let Ok(happening) = happenings.recv_timeout(self.rt, Duration::from_millis(TURN_MS)) {
+        let wait = Duration::from_millis(wait_ms);
+        let mut next = happenings.recv_timeout(self.setting.rt, wait).ok();
+        for _ in 0..MOST_TAKEN {
+            let Some(happening) = next else {
+                return Ok(());
+            };
             let now = self.now();
-            self.take(alloc, err, happening, now)?;
+            self.take(err, happening, now)?;
+            next = happenings.try_recv(self.setting.rt).ok();
         }
-        if self.broken.load(Ordering::SeqCst) {
+        Ok(())
+    }
+
+    /// The state in an error control message that came since the watch noted one, and that is the state that it noted last:
+    /// another state, and a boot-up message, comes as a happening of its own.
+    fn heard_again(&self, id: NodeId) -> Option<u8> {
+        let (at, state) = self.setting.heartbeats.last(id)?;
+        let noted = self.watch.heard(id)?;
+        if state != 0 && self.watch.state_heard(id) == Some(state) && noted <= at {
+            Some(state)
+        } else {
+            None
+        }
+    }
+
+    /// The slaves that were heard again are noted.
+    fn take_heartbeats(&mut self, now: u64)
+        requires { now < 2 ^ 63 }
+    {
+        let network = self.network();
+        for id in network.listed_ids().as_slice() {
+            if let Some(state) = self.heard_again(*id) {
+                let _told = self.watch.take(network, now, &Watched::Heard(*id, state));
+            }
+        }
+    }
+
+    /// Makes a step.
+    fn make<E: Write>(&mut self, err: &mut E, step: Step) -> Result<(), Ending> {
+        match step {
+            Step::Lost(id) => self.call(Call::Lost(id))?,
+            Step::Boot(id) => self.boot(id),
+            Step::Signal(id, byte) => self.call(Call::Signal(id, byte))?,
+            Step::LeftOut(id, count) => tell_left_out(err, id, count),
+            Step::TimeOver(ms) => {
+                tell_time_over(err, self.network(), &self.watch);
+                self.call(Call::Elapsed(ms))?;
+            }
+            Step::AllTried(ms) => self.call(Call::Elapsed(ms))?,
+        }
+        Ok(())
+    }
+
+    /// Looks at the time, and makes the steps that the watch gives.
+    fn make_steps<E: Write>(&mut self, err: &mut E, now: u64) -> Result<(), Ending>
+        requires { now < 2 ^ 63 }
+    {
+        let network = self.network();
+        let steps = had(self.watch.turn(self.setting.alloc, network, now))?;
+        for step in steps.as_slice() {
+            self.make(err, *step)?;
+        }
+        Ok(())
+    }
+
+    /// The nodes that are operational now, as the manager knows it.
+    fn running(&self) -> Nodes {
+        let mut running = [false; 128];
+        if let Some(manager) = self
+            .register
+            .manager(self.setting.rt, self.operator.as_seat())
+        {
+            for id in self.network().listed_ids().as_slice() {
+                running[usize::from(id.get())] = manager.state(*id) == OPERATIONAL;
+            }
+        }
+        Nodes(running)
+    }
+
+    /// Tells the next entry that waits, if its frames were handed to the wire; at the end of the run, also if not. Whether
+    /// it did.
+    fn tell_next<E: Write>(&mut self, err: &mut E, handed: u64, is_end: bool) -> bool {
+        let running = if self.teller.is_halt_next() {
+            self.running()
+        } else {
+            Nodes([false; 128])
+        };
+        let network = self.network();
+        self.teller
+            .tell_next(err, network, &self.watch, running, handed, is_end)
+    }
+
+    /// Tells what is to be told by now.
+    fn tell<E: Write>(&mut self, err: &mut E, is_end: bool) {
+        let handed = self.setting.handed.load(Ordering::SeqCst);
+        for _ in self.setting.rt.forever() {
+            if !self.tell_next(err, handed, is_end) {
+                break;
+            }
+        }
+        if is_set(&self.setting.unrecorded) && !self.is_unrecorded_told {
+            self.is_unrecorded_told = true;
+            let _ = writeln!(err, "journal: write failed; what follows isn't recorded");
+        }
+    }
+
+    /// Why the run has to end now, if it has.
+    fn end_at(&self, now: u64) -> Result<(), Ending> {
+        if is_set(&self.setting.broken) {
             return Err(Ending::NotWritten);
         }
-        let now = self.now();
-        self.watch_slaves(err, now)?;
-        self.watch_time(now)?;
-        self.tell_phase(err, now)?;
+        if is_set(&self.setting.untold) {
+            return Err(Ending::OutOfMemory);
+        }
         match self.ends_at {
             Some(at) if at <= now => Err(Ending::Asked),
             _ => Ok(()),
         }
     }
 
+    /// One turn: takes what has happened, and looks at the time once that was all that was received. The answer is how long
+    /// to wait then for what happens, in ms.
+    fn turn<E: Write>(
+        &mut self,
+        err: &mut E,
+        happenings: &Receiver<Happening>,
+        wait_ms: u64,
+    ) -> Result<u64, Ending> {
+        self.take_all(err, happenings, wait_ms)?;
+        let now = self.now();
+        self.take_heartbeats(now);
+        self.tell(err, false);
+        self.end_at(now)?;
+        if !self.pace.look(now, self.setting.listening.received()) {
+            return Ok(CATCH_UP_MS);
+        }
+        self.make_steps(err, now)?;
+        Ok(TURN_MS)
+    }
+
+    /// Tells what was recorded by now and wasn't told yet, at the end of the run.
+    fn tell_rest<E: Write>(&mut self, err: &mut E, happenings: &Receiver<Happening>) {
+        for _ in 0..MOST_TAKEN {
+            let Ok(happening) = happenings.try_recv(self.setting.rt) else {
+                break;
+            };
+            if let Happening::Entered(position, entry) = happening {
+                let now = self.now();
+                if self.enter(position, entry, now).is_err() {
+                    break;
+                }
+            }
+        }
+        self.tell(err, true);
+    }
+
     /// Watches the network until the run is to end.
     pub(crate) fn watch<E: Write>(
         &mut self,
-        alloc: Global,
         err: &mut E,
         happenings: &Receiver<Happening>,
     ) -> Ending {
-        for _ in self.rt.forever() {
-            let turned = self.turn(alloc, err, happenings);
-            self.tell_unrecorded(err);
-            if let Err(ending) = turned {
-                return ending;
+        let mut wait_ms = TURN_MS;
+        for _ in self.setting.rt.forever() {
+            match self.turn(err, happenings, wait_ms) {
+                Ok(next_ms) => wait_ms = next_ms,
+                Err(ending) => {
+                    self.tell_rest(err, happenings);
+                    return ending;
+                }
             }
         }
         unreachable!()

@@ -37,7 +37,9 @@ fn a_network_is_booted_on_a_bus(rt: HostRuntime) -> Result<(), Fail> {
     // The last ones may be told no more, where the operator ends the run.
     assert!(&rt; has(printed.err.as_slice(), b"node 1: status Ok, started\n"));
     assert!(&rt; has(printed.err.as_slice(), b" done\n"));
-    assert!(&rt; has(printed.err.as_slice(), b"bad line: a number is"));
+    assert!(&rt; has(printed.err.as_slice(), b" read 5: state "));
+    assert!(&rt; has(printed.err.as_slice(), b" request 3 5: done\n"));
+    assert!(&rt; has(printed.err.as_slice(), b"bad line: it is request TARGET VALUE"));
     assert!(&rt; has(printed.err.as_slice(), b"bad line: no such word"));
     Ok(())
 }

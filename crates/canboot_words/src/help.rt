@@ -252,14 +252,18 @@ Then the slaves are watched:
 
   A booted slave with a heartbeat time whose heartbeat doesn't come in that time is lost. What \
 follows is said by bits 4 and 6 of startup.
-  A slave that sends its boot-up message is booted again.
+  A slave that sends its boot-up message is booted again, and one that was lost or reset. Where \
+that happens again and again, it is booted 1, 2, 4 .. 60 s later.
   A heartbeat with another state than the last one is a signal. One with the same state is no \
-call, so the journal of a long run stays short.
-  Where boot_time has gone by and a mandatory slave isn't booted, the network is halted.
+call, so the journal of a long run stays short. Behind 64 changes a slave is told of once in 10 s.
+  Where boot_time has gone by and a mandatory slave isn't booted, the network is halted. There, \
+and where all nodes are stopped, nothing is booted by itself: see 'start' and 'boot'.
 
-Meanwhile an operator types calls on standard input, one in a line, as a journal spells them, and \
-three words more:
+Meanwhile an operator types lines on standard input, words with spaces between them:
 
+  start        starts the network again: all begins anew; where all nodes were stopped, just them
+  boot 5       boots slave 5 now
+  stop         stops all nodes; 'stop 5', 'start 5', 'reset 5' and 'preop 5' are for one node
   request 5 4  writes 4 to 1F82h of slave 5: 4 stop, 5 start, 6 reset node, 7 reset \
 communication, 127 enter pre-operational; 128 in the place of 5 is all nodes
   read 5       reads it: 0 unknown, 1 missing, 4 stopped, 5 operational, 127 pre-operational
@@ -268,15 +272,18 @@ communication, 127 enter pre-operational; 128 in the place of 5 is all nodes
   lost 5       says that slave 5 is lost
   status       shows the report so far
   help         shows these words
-  quit         ends the run
+  quit, exit   ends the run
 
-A request 5 to one slave starts it, whatever its boot came to. Each call is answered on standard \
-error with its place in the history and its reply, as '17 done' or '18 refused 12: a mandatory \
-slave isn't booted'. Of any other line it is said what is wrong with it, and nothing happens.
+Numbers are decimal, or hexadecimal behind 0x. A request 5 to one slave starts it, whatever its \
+boot came to. What a line comes to is told on standard error, with its place in the history and \
+the call as a journal spells it, as '17 request 5 4: done' or '18 request 128 5: refused 12: a \
+mandatory slave isn't booted'. Of any other line it is said what is wrong with it, and nothing \
+happens.
 
-Progress goes to standard error as well, a line for each change, such as 'node 5: begun 1', 'node \
-5: status Ok, started' and 'network ready'. It says in words what a status means and which value \
-differed, as in 'node 7: status M (product code 00000457, expected 00000456)'.
+Progress goes to standard error as well, a line for each change in the order of the history, such \
+as 'node 5: begun 1', 'node 5: status Ok, started' and 'network ready'. It says in words what a \
+status means and which value differed, as in 'node 7: status M (product code 00000457, expected \
+00000456)'.
 
 The run ends with 'quit'; at the end of the operator's input, or --for SECONDS behind it; or \
 where no more frames can be received or sent. Then the workers finish, the report is printed on \

@@ -121,3 +121,14 @@ some_words ws = filter (λ w. not (is_empty_word w)) ws
 -- what a line asks for, whose words stand between its spaces; nothing where it is no such line
 abbrev pub asked_by : List ℕ → Option Command
 asked_by line = command_of (some_words (split 32 line))
+
+-- the call is neither a report nor a request
+abbrev pub IsOfWatch : Call → Type 0
+IsOfWatch (call.Report i n a) = ⊥
+IsOfWatch (call.Request t v) = ⊥
+IsOfWatch _ = Unit {0}
+
+-- a call that is asked for is neither
+abbrev pub AsksPlainly : Command → Type 0
+AsksPlainly (Make c) = IsOfWatch c
+AsksPlainly _ = Unit {0}

@@ -1,8 +1,8 @@
 //! What an operator types, and what it asks for.
-ghost use Rattle.std.specs.Prelude.{◌≡◌, ◌∷◌, [], None, Some, MatchOption, MatchResult, IfOk, IfErr, List, ℕ};
+ghost use Rattle.std.specs.Prelude.{◌≡◌, ◌∷◌, [], None, Some, MatchOption, IfOk, IfErr, IfSome};
 ghost use Rattle.cm_text.specs.Left.{left};
 ghost use Rattle.cm_text.specs.Words.{split};
-ghost use Rattle.cm_live.specs.Console.{asked_by, command_with, request_to, some_words};
+ghost use Rattle.cm_live.specs.Console.{AsksPlainly, asked_by, command_with, request_to, some_words};
 
 use crate::numbers::{node_of, number_of};
 use crate::verb::{Verb, verb_of};
@@ -36,8 +36,27 @@ pub enum BadLine {
     Empty,
     /// Its first word is none that there is.
     NoSuchWord,
-    /// The words behind the first are not those that it takes.
-    NoSuchWords,
+    /// The words behind the first are not those that it takes: this is what to type.
+    Wants(&'static str),
+}
+
+/// What there is to type with this first word.
+fn usage(verb: Verb) -> &'static str {
+    match verb {
+        Verb::Request => "request TARGET VALUE, two numbers of 0 to 255",
+        Verb::Read => "read NODE, a number of 0 to 255",
+        Verb::Hold => "hold NODE, 1 to 127",
+        Verb::Release => "release NODE, 1 to 127",
+        Verb::Lost => "lost NODE, 1 to 127",
+        Verb::Boot => "boot NODE, 1 to 127",
+        Verb::Start => "start, or start NODE, 1 to 127",
+        Verb::Stop => "stop, or stop NODE, 1 to 127",
+        Verb::Reset => "reset NODE, 1 to 127",
+        Verb::PreOperational => "preop NODE, 1 to 127",
+        Verb::Status => "status alone",
+        Verb::Help => "help alone",
+        Verb::Quit => "quit alone",
+    }
 }
 
 /// The next word: what stands between spaces.
@@ -56,7 +75,8 @@ fn next_word<'a>(fields: &mut Fields<'a>) -> Option<&'a [u8]>
 
 /// The request to the node that a word spells, with this value.
 fn request_to(value: u8, word: &[u8]) -> Option<Command>
-    ensures { result ≡ request_to value word.now }
+    ensures value { result ≡ request_to value word.now }
+    ensures plain { IfSome result AsksPlainly }
 {
     let node = node_of(word)?;
     Some(Command::Request(node.get(), value))
@@ -64,7 +84,8 @@ fn request_to(value: u8, word: &[u8]) -> Option<Command>
 
 /// What a line asks for whose first word is this, with no word behind it.
 fn command_alone(verb: Verb) -> Option<Command>
-    ensures { result ≡ command_with verb [] }
+    ensures value { result ≡ command_with verb [] }
+    ensures plain { IfSome result AsksPlainly }
 {
     match verb {
         Verb::Start => Some(Command::Start),
@@ -78,7 +99,8 @@ fn command_alone(verb: Verb) -> Option<Command>
 
 /// What a line asks for whose first word is this, with one word behind it.
 fn command_with_one(verb: Verb, word: &[u8]) -> Option<Command>
-    ensures { result ≡ command_with verb (word.now ∷ []) }
+    ensures value { result ≡ command_with verb (word.now ∷ []) }
+    ensures plain { IfSome result AsksPlainly }
 {
     match verb {
         Verb::Read => Some(Command::Make(Call::Read(number_of(word)?))),
@@ -96,7 +118,8 @@ fn command_with_one(verb: Verb, word: &[u8]) -> Option<Command>
 
 /// What a line asks for whose first word is this, with two words behind it.
 fn command_with_two(verb: Verb, first: &[u8], second: &[u8]) -> Option<Command>
-    ensures { result ≡ command_with verb (first.now ∷ second.now ∷ []) }
+    ensures value { result ≡ command_with verb (first.now ∷ second.now ∷ []) }
+    ensures plain { IfSome result AsksPlainly }
 {
     match verb {
         Verb::Request => {
@@ -109,7 +132,8 @@ fn command_with_two(verb: Verb, first: &[u8], second: &[u8]) -> Option<Command>
 
 /// What a line asks for whose first word is this, by the words behind it.
 fn command_with(verb: Verb, words: &mut Fields<'_>) -> Option<Command>
-    ensures { result ≡ command_with verb (some_words (left words.old)) }
+    ensures value { result ≡ command_with verb (some_words (left words.old)) }
+    ensures plain { IfSome result AsksPlainly }
 {
     let Some(first) = next_word(words) else {
         return command_alone(verb);
@@ -123,9 +147,11 @@ fn command_with(verb: Verb, words: &mut Fields<'_>) -> Option<Command>
     command_with_two(verb, first, second)
 }
 
-/// What a line asks for: words with spaces around and between them.
+/// What a line asks for: words with spaces around and between them. A call that it asks for is neither a report nor a
+/// request; a request is [`Command::Request`].
 pub fn read_command(line: &[u8]) -> Result<Command, BadLine>
     ensures taken { IfOk result (λ command. asked_by line.now ≡ Some command) }
+    ensures plain { IfOk result AsksPlainly }
     ensures bad { IfErr result (λ bad. asked_by line.now ≡ None) }
 {
     let mut words = Fields::new(line, b' ');
@@ -137,6 +163,6 @@ pub fn read_command(line: &[u8]) -> Result<Command, BadLine>
     };
     match command_with(verb, &mut words) {
         Some(command) => Ok(command),
-        None => Err(BadLine::NoSuchWords),
+        None => Err(BadLine::Wants(usage(verb))),
     }
 }

@@ -30,12 +30,12 @@ impl Heartbeats {
         state == 0 || last % 256 != 0x80 | u64::from(state)
     }
 
-    /// When the node was last heard, in ms since the run began; `None` where it never was.
-    pub fn last(&self, node: NodeId) -> Option<u64> {
+    /// When the node was last heard, in ms since the run began, and with which state; `None` where it never was.
+    pub fn last(&self, node: NodeId) -> Option<(u64, u8)> {
         let word = self.words.get(usize::from(node.get()))?;
         match word.load(Ordering::SeqCst) {
             0 => None,
-            heard => Some(heard / 256),
+            heard => Some((heard / 256, (heard % 128) as u8)),
         }
     }
 }

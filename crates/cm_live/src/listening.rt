@@ -60,7 +60,7 @@ impl Listening {
     }
 
     /// How many bytes were read by now.
-    pub(crate) fn received(&self) -> u64 {
+    pub fn received(&self) -> u64 {
         self.received.load(Ordering::SeqCst)
     }
 

@@ -57,7 +57,11 @@ fn decimal_of(word: &[u8]) -> Option<u8>
         [a, b, c] => {
             let hundreds = u16::from(digit_of(*a)?);
             let tens = u16::from(digit_of(*b)?);
-            within(100, 255, (hundreds * 10 + tens) * 10 + u16::from(digit_of(*c)?))
+            within(
+                100,
+                255,
+                (hundreds * 10 + tens) * 10 + u16::from(digit_of(*c)?),
+            )
         }
         _ => None,
     }

@@ -6,7 +6,8 @@ ghost use Rattle.cm_watch.specs.Course.{is_stopped_in, phase_in};
 ghost use Rattle.cm_watch.specs.Kept.{course_of};
 ghost use Rattle.cm_watch.specs.Limits.{AreLimited};
 ghost use Rattle.cm_watch.specs.Pasts.{Past};
-ghost use Rattle.cm_watch.specs.Slaves.{booted_since};
+ghost use Rattle.cm_watch.specs.Signals.{state_heard};
+ghost use Rattle.cm_watch.specs.Slaves.{booted_since, heard_last};
 ghost use Rattle.cm_watch.specs.Steps.{given, heartbeat_of, steps_at};
 ghost use Rattle.cm_watch.specs.Telling.{given_up_of, told_of};
 ghost use Rattle.cm_watch.specs.Watches.{AreSlaves, Watches, elapsed_by, is_end_by, is_given_by, is_given_up_by, is_late_by, is_left_out_by, is_pending_by, is_time_over_by, is_to_be_booted_by, is_to_be_told_by, kept_at, left_out_by, signal_by, step_by, steps_by};
@@ -136,13 +137,25 @@ impl Watch {
         self.course = self.course.after(network, now_ms, moment, none_open);
     }
 
-    /// This happened then.
-    pub fn take(&mut self, network: &Network, now_ms: u64, happening: &Happening)
+    /// This happened then. The answer is what an operator is told behind it, beside what it is.
+    pub fn take(&mut self, network: &Network, now_ms: u64, happening: &Happening) -> Told
         requires { now_ms < 2 ^ 63 }
-        ensures { (s : WatchSettings) (past : Past) → Watches self.old network.now s past
+        ensures taken { (s : WatchSettings) (past : Past) → Watches self.old network.now s past
             → Watches self.new network.now s ((now_ms, Happened happening.now) ∷ past) }
+        ensures told { (s : WatchSettings) (past : Past) → Watches self.old network.now s past
+            → result ≡ told_of network.now s past happening.now }
     {
+        let old = self.course;
+        let given_up = self.given_up(happening);
         self.note(network, now_ms, &Moment::Happened(*happening));
+        Told {
+            is_ready: becomes(old.phase.is_ready(), self.course.phase.is_ready()),
+            is_halted: becomes(old.phase.is_halted(), self.course.phase.is_halted()),
+            is_stopped: becomes(old.is_stopped, self.course.is_stopped),
+            back: back_while(old.is_stopped, happening),
+            unwatched: unwatched_by(network, happening),
+            given_up,
+        }
     }
 
     fn slave(&self, id: NodeId) -> Slave
@@ -346,24 +359,6 @@ impl Watch {
         }
     }
 
-    /// What an operator is told behind this happening, beside what it is. It isn't taken by that.
-    pub fn told(&self, network: &Network, happening: &Happening) -> Told
-        ensures { (s : WatchSettings) (past : Past) → Watches self.now network.now s past
-            → result ≡ told_of network.now s past happening.now }
-    {
-        let mut after = *self;
-        after.take(network, 0, happening);
-        let (old, new) = (self.course, after.course);
-        Told {
-            is_ready: becomes(old.phase.is_ready(), new.phase.is_ready()),
-            is_halted: becomes(old.phase.is_halted(), new.phase.is_halted()),
-            is_stopped: becomes(old.is_stopped, new.is_stopped),
-            back: back_while(old.is_stopped, happening),
-            unwatched: unwatched_by(network, happening),
-            given_up: self.given_up(happening),
-        }
-    }
-
     /// How far the manager has come.
     pub fn phase(&self) -> Phase
         ensures { (net : NetworkList) (s : WatchSettings) (past : Past) → Watches self.now net s past
@@ -386,6 +381,22 @@ impl Watch {
             → result ≡ is_some (booted_since past id) }
     {
         self.slave(id).booted.is_some()
+    }
+
+    /// When an error control message of the node came last.
+    pub fn heard(&self, id: NodeId) -> Option<u64>
+        ensures { (net : NetworkList) (s : WatchSettings) (past : Past) → Watches self.now net s past
+            → result ≡ heard_last past id }
+    {
+        self.slave(id).heard
+    }
+
+    /// The state in it, without the toggle bit.
+    pub fn state_heard(&self, id: NodeId) -> Option<u8>
+        ensures { (net : NetworkList) (s : WatchSettings) (past : Past) → Watches self.now net s past
+            → result ≡ state_heard past id }
+    {
+        self.slave(id).news.heard
     }
 
     /// The steps that are to be made now. They count as given. Where memory is refused nothing is given.

@@ -8,8 +8,8 @@ use std::alloc::Global;
 use std::io::{self, ErrorKind, Write};
 use std::str;
 
-/// The greatest time of a story, in ms: a watch is told none from 2 to the 62nd on.
-const LATEST: u64 = 1 << 61;
+/// The greatest time of a story, in ms: a watch is told none from 2 to the 63rd on.
+const LATEST: u64 = 1 << 63;
 
 /// A story as far as it was told.
 #[derive(Drop)]
@@ -80,8 +80,8 @@ impl<'a> Story<'a> {
         let network = &self.journal.network;
         match self.read_line(word, first, second) {
             Some(Line::Happened(happening)) => {
-                put_told(now_ms, self.watch.told(network, &happening), out)?;
-                self.watch.take(network, now_ms, &happening);
+                let told = self.watch.take(network, now_ms, &happening);
+                put_told(now_ms, told, out)?;
             }
             Some(Line::Turn) => {
                 for step in &self.watch.turn(alloc, network, now_ms)? {
