@@ -77,25 +77,28 @@ fn any_other_line_of_a_log_is_none(rt: HostRuntime) {
     }
 }
 
+/// Asserts that the frame is written so for can-utils and for an adapter, and is read again of the latter.
+fn is_written(rt: &impl Abort, frame: &CanFrame, text: &[u8], adapter: &[u8]) {
+    sure(rt, frame_text(frame).as_slice() == text);
+    sure(rt, adapter_text(frame).as_slice() == adapter);
+    sure(rt, read_adapter_line(adapter) == Some(*frame));
+}
+
 #[test]
 fn a_frame_is_written_as_it_is_read(rt: HostRuntime) {
     let eight = [0, 1, 0x7F, 0x80, 0x9A, 0xBC, 0xDE, 0xFF];
-    for (id, data, text, adapter) in [
-        (
-            0x602,
-            Some(eight.as_slice()),
-            b"602#00017F809ABCDEFF".as_slice(),
-            b"t602800017F809ABCDEFF".as_slice(),
-        ),
-        (0, Some([1, 0].as_slice()), b"000#0100", b"t00020100"),
-        (0x7FF, Some([].as_slice()), b"7FF#", b"t7FF0"),
-        (0x702, None, b"702#R", b"r7020"),
-    ] {
-        let frame = frame(&rt, id, data);
-        sure(&rt, frame_text(&frame).as_slice() == text);
-        sure(&rt, adapter_text(&frame).as_slice() == adapter);
-        sure(&rt, read_adapter_line(adapter) == Some(frame));
-    }
+    let of_eight = frame(&rt, 0x602, Some(eight.as_slice()));
+    is_written(
+        &rt,
+        &of_eight,
+        b"602#00017F809ABCDEFF",
+        b"t602800017F809ABCDEFF",
+    );
+    let of_two = frame(&rt, 0, Some([1, 0].as_slice()));
+    is_written(&rt, &of_two, b"000#0100", b"t00020100");
+    let of_none = frame(&rt, 0x7FF, Some([].as_slice()));
+    is_written(&rt, &of_none, b"7FF#", b"t7FF0");
+    is_written(&rt, &frame(&rt, 0x702, None), b"702#R", b"r7020");
 }
 
 #[test]

@@ -43,9 +43,7 @@ fn fills_by_turns<K: RunName, R: Wait + Abort>(
 ) -> Result<(), Fail>
     requires { Names K.RunName opened }
 {
-    let Ok((register, mut seats)) = opened.named::<K>() else {
-        return Err(Fail::from("named"));
-    };
+    let (register, mut seats) = opened.named::<K>().ok().expect(rt, "named");
     let (Some(mut worker), Some(mut operator)) = (seats.pop(), seats.pop()) else {
         return Err(Fail::from("seats"));
     };
@@ -99,6 +97,6 @@ fn fills_by_turns<K: RunName, R: Wait + Abort>(
 #[test]
 fn copies_are_of_the_calls_so_far(rt: HostRuntime) -> Result<(), Fail> {
     let net = network(&rt, rt.alloc(), 1, &[(2, 0x0D), (127, 0x0D)]);
-    let opened = open(rt.alloc(), &net, 2, 4, 64)?;
+    let opened = open(&rt, rt.alloc(), &net, 2, 4, 64);
     fills_by_turns::<Brand, _>(&rt, rt.alloc(), opened)
 }

@@ -87,9 +87,7 @@ fn reads_beside_a_held_frame<K: RunName + Send + Sync, R: Wait + Threads + Abort
 ) -> Result<(), Fail>
     requires { Names K.RunName opened }
 {
-    let Ok((register, mut seats)) = opened.named::<K>() else {
-        return Err(Fail::from("named"));
-    };
+    let (register, mut seats) = opened.named::<K>().ok().expect(rt, "named");
     sure(rt, seats.len() == READERS + 1);
     thread::for_each_mut(
         rt,
@@ -103,7 +101,7 @@ fn reads_beside_a_held_frame<K: RunName + Send + Sync, R: Wait + Threads + Abort
             }
         },
     );
-    let closed = close(register, seats)?;
+    let closed = close(rt, register, seats);
     sure(rt, closed.wire.were_read);
     sure(rt, closed.wire.wire.sent().len() == 2);
     Ok(())

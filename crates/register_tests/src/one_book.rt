@@ -14,26 +14,22 @@ use std::test::Fail;
 
 /// Its book, and its seat.
 fn open<'n, K: RunName>(
+    rt: &impl Abort,
     opened: Opened<'n, SimWire>,
-) -> Result<(Book<'n, SimWire, K>, Seat<K>), Fail>
+) -> (Book<'n, SimWire, K>, Seat<K>)
     requires { Names K.RunName opened }
 {
-    let Ok((book, mut seats)) = opened.book::<K>() else {
-        return Err(Fail::from("book"));
-    };
-    let Some(seat) = seats.pop() else {
-        return Err(Fail::from("seat"));
-    };
-    Ok((book, seat))
+    let (book, mut seats) = opened.book::<K>().ok().expect(rt, "book");
+    let seat = seats.pop().expect(rt, "a seat");
+    (book, seat)
 }
 
 #[test]
 fn one_slave_boots(rt: HostRuntime) -> Result<(), Fail> {
     let net = network(&rt, rt.alloc(), 1, &[(2, 0x0D)]);
     let wire = SimWire::new(rt.alloc(), 10)?;
-    let Ok(opened) = Book::<SimWire, Brand>::open(rt.alloc(), &net, 1, 10, wire) else {
-        return Err(Fail::from("open"));
-    };
+    let opened = Book::<SimWire, Brand>::open(rt.alloc(), &net, 1, 10, wire);
+    let opened = opened.ok().expect(&rt, "a book");
     boots::<Brand, _>(&rt, rt.alloc(), opened)
 }
 
@@ -41,7 +37,7 @@ fn boots<K: RunName, R: Abort>(rt: &R, alloc: Global, opened: Opened<SimWire>) -
     requires { Names K.RunName opened }
 {
     let two = node(rt, 2);
-    let (mut book, mut seat) = open::<K>(opened)?;
+    let (mut book, mut seat) = open::<K>(rt, opened);
     let started = Orders::One(frame(rt, [0x01, 2]));
     let entries = [
         entry(1, Call::StartNetwork, Reply::Started, Orders::ResetUnkept),
@@ -69,9 +65,8 @@ fn boots<K: RunName, R: Abort>(rt: &R, alloc: Global, opened: Opened<SimWire>) -
 fn a_full_wire_refuses_a_call(rt: HostRuntime) -> Result<(), Fail> {
     let net = network(&rt, rt.alloc(), 1, &[(2, 0x05), (3, 0x15), (4, 0x05)]);
     let wire = SimWire::new(rt.alloc(), 1)?;
-    let Ok(opened) = Book::<SimWire, Brand>::open(rt.alloc(), &net, 1, 10, wire) else {
-        return Err(Fail::from("open"));
-    };
+    let opened = Book::<SimWire, Brand>::open(rt.alloc(), &net, 1, 10, wire);
+    let opened = opened.ok().expect(&rt, "a book");
     lacks_room::<Brand, _>(&rt, rt.alloc(), opened)
 }
 
@@ -82,7 +77,7 @@ fn lacks_room<K: RunName, R: Abort>(
 ) -> Result<(), Fail>
     requires { Names K.RunName opened }
 {
-    let (mut book, mut seat) = open::<K>(opened)?;
+    let (mut book, mut seat) = open::<K>(rt, opened);
     let start = book.apply(&mut seat, Call::StartNetwork);
     is_refused(rt, start, CallFault::WireFull);
     sure(rt, seat.list().is_empty() && book.history().is_empty());

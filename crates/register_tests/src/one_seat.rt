@@ -35,9 +35,7 @@ fn calls_up_to<K: RunName, R: Wait + Abort>(
 fn fills<K: RunName, R: Wait + Abort>(rt: &R, opened: Opened<SimWire>) -> Result<(), Fail>
     requires { Names K.RunName opened }
 {
-    let Ok((register, mut seats)) = opened.named::<K>() else {
-        return Err(Fail::from("named"));
-    };
+    let (register, mut seats) = opened.named::<K>().ok().expect(rt, "named");
     let [seat] = seats.as_mut_slice() else {
         return Err(Fail::from("seats"));
     };
@@ -45,7 +43,7 @@ fn fills<K: RunName, R: Wait + Abort>(rt: &R, opened: Opened<SimWire>) -> Result
     calls_up_to(rt, &register, seat, MANY + 1, LIMIT);
     let more = register.call(rt, seat, Call::Read(1));
     is_refused(rt, more, CallFault::JournalFull);
-    let closed = close(register, seats)?;
+    let closed = close(rt, register, seats);
     sure(rt, closed.history.len() == LIMIT as usize);
     let [list] = closed.lists.as_slice() else {
         return Err(Fail::from("lists"));
@@ -57,6 +55,6 @@ fn fills<K: RunName, R: Wait + Abort>(rt: &R, opened: Opened<SimWire>) -> Result
 #[test]
 fn one_seat_fills_a_history(rt: HostRuntime) -> Result<(), Fail> {
     let net = network(&rt, rt.alloc(), 1, &[]);
-    let opened = open(rt.alloc(), &net, 1, LIMIT, 0)?;
+    let opened = open(&rt, rt.alloc(), &net, 1, LIMIT, 0);
     fills::<Brand, _>(&rt, opened)
 }

@@ -190,9 +190,7 @@ fn works<K: RunName + Send + Sync, R: Wait + Threads + Abort + Send + Sync>(
     requires { Names K.RunName opened }
 {
     let net = opened.net;
-    let Ok((register, seats)) = opened.named::<K>() else {
-        return Err(Fail::from("named"));
-    };
+    let (register, seats) = opened.named::<K>().ok().expect(rt, "named");
     let mut members = members_of(rt, alloc, seats)?;
     let callers = AtomicU32::new(u32::from(CALLERS));
     thread::for_each_mut(
@@ -202,7 +200,7 @@ fn works<K: RunName + Send + Sync, R: Wait + Threads + Abort + Send + Sync>(
         &|_, member| { member.work(rt, &register, &callers) },
     );
     let (seats, watches) = parted(alloc, members)?;
-    let closed = close(register, seats)?;
+    let closed = close(rt, register, seats);
     sure(rt, closed.history.len() == LIMIT as usize);
     for watch in watches.iter() {
         watch.is_replayed(rt, alloc, net, closed.history.as_slice())?;
@@ -216,7 +214,7 @@ fn opens_and_works<R: Wait + Threads + Abort + Send + Sync>(
     alloc: Global,
     net: &Network,
 ) -> Result<(), Fail> {
-    let opened = open(alloc, net, SEATS, LIMIT, LIMIT)?;
+    let opened = open(rt, alloc, net, SEATS, LIMIT, LIMIT);
     works::<Brand, _>(rt, alloc, opened)
 }
 

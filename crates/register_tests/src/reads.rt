@@ -54,12 +54,8 @@ fn reads_after_each<K: RunName, R: Wait + Abort>(
 ) -> Result<(), Fail>
     requires { Names K.RunName opened }
 {
-    let Ok((register, mut seats)) = opened.named::<K>() else {
-        return Err(Fail::from("named"));
-    };
-    let Some(mut seat) = seats.pop() else {
-        return Err(Fail::from("seat"));
-    };
+    let (register, mut seats) = opened.named::<K>().ok().expect(rt, "named");
+    let mut seat = seats.pop().expect(rt, "a seat");
     let five = node(rt, 5);
     for call in [
         Call::StartNetwork,
@@ -86,7 +82,7 @@ fn reads_after_each<K: RunName, R: Wait + Abort>(
 fn every_node_is_read_as_a_call_answers(rt: HostRuntime) -> Result<(), Fail> {
     for own in [1, 127] {
         let net = network(&rt, rt.alloc(), own, &[(5, 0x0D), (6, 0x05), (126, 0x05)]);
-        let opened = open(rt.alloc(), &net, 1, CALLS, 1000)?;
+        let opened = open(&rt, rt.alloc(), &net, 1, CALLS, 1000);
         reads_after_each::<Brand, _>(&rt, opened)?;
     }
     Ok(())

@@ -19,7 +19,7 @@ const READS: u32 = 1000;
 #[test]
 fn a_seat_reads_beside_the_calls_of_another(rt: HostRuntime) -> Result<(), Fail> {
     let net = network(&rt, rt.alloc(), 1, &[(5, 0x05)]);
-    let opened = open(rt.alloc(), &net, 2, READS + 2, 10)?;
+    let opened = open(&rt, rt.alloc(), &net, 2, READS + 2, 10);
     reads_beside_calls::<Brand, _>(&rt, opened)
 }
 
@@ -53,15 +53,9 @@ fn reads_beside_calls<K: RunName + Send + Sync, R: Wait + Threads + Abort + Send
 ) -> Result<(), Fail>
     requires { Names K.RunName opened }
 {
-    let Ok((register, mut seats)) = opened.named::<K>() else {
-        return Err(Fail::from("named"));
-    };
-    let Some(mut second) = seats.pop() else {
-        return Err(Fail::from("seats"));
-    };
-    let Some(mut first) = seats.pop() else {
-        return Err(Fail::from("seats"));
-    };
+    let (register, mut seats) = opened.named::<K>().ok().expect(rt, "named");
+    let mut second = seats.pop().expect(rt, "a seat");
+    let mut first = seats.pop().expect(rt, "a seat");
     stop_the_slave(rt, &register, &mut first);
     let shared = &register;
     thread::join(
@@ -71,7 +65,7 @@ fn reads_beside_calls<K: RunName + Send + Sync, R: Wait + Threads + Abort + Send
     );
     seats.push(first)?;
     seats.push(second)?;
-    let closed = close(register, seats)?;
+    let closed = close(rt, register, seats);
     sure(rt, closed.history.len() == READS as usize + 2);
     Ok(())
 }
@@ -79,7 +73,7 @@ fn reads_beside_calls<K: RunName + Send + Sync, R: Wait + Threads + Abort + Send
 #[test]
 fn each_of_64_seats_reads(rt: HostRuntime) -> Result<(), Fail> {
     let net = network(&rt, rt.alloc(), 1, &[(5, 0x05)]);
-    let opened = open(rt.alloc(), &net, 64, 12, 10)?;
+    let opened = open(&rt, rt.alloc(), &net, 64, 12, 10);
     each_reads::<Brand, _>(&rt, opened)
 }
 
@@ -96,9 +90,7 @@ fn shows_no_call<K: RunName>(rt: &impl Abort, seat: &mut Seat<K>) {
 fn each_reads<K: RunName, R: Wait + Abort>(rt: &R, opened: Opened<SimWire>) -> Result<(), Fail>
     requires { Names K.RunName opened }
 {
-    let Ok((register, mut seats)) = opened.named::<K>() else {
-        return Err(Fail::from("named"));
-    };
+    let (register, mut seats) = opened.named::<K>().ok().expect(rt, "named");
     sure(rt, seats.len() == 64);
     let Some(last) = seats.last_mut() else {
         return Err(Fail::from("seats"));
@@ -108,7 +100,7 @@ fn each_reads<K: RunName, R: Wait + Abort>(rt: &R, opened: Opened<SimWire>) -> R
     for seat in seats.iter_mut() {
         sees(rt, seat, 5, 2, 4);
     }
-    let closed = close(register, seats)?;
+    let closed = close(rt, register, seats);
     sure(rt, closed.history.len() == 2);
     Ok(())
 }
@@ -116,7 +108,7 @@ fn each_reads<K: RunName, R: Wait + Abort>(rt: &R, opened: Opened<SimWire>) -> R
 #[test]
 fn a_register_that_is_gone_shows_nothing(rt: HostRuntime) -> Result<(), Fail> {
     let net = network(&rt, rt.alloc(), 1, &[(5, 0x05)]);
-    let opened = open(rt.alloc(), &net, 1, 12, 10)?;
+    let opened = open(&rt, rt.alloc(), &net, 1, 12, 10);
     reads_no_version::<Brand, _>(&rt, opened)
 }
 
@@ -126,9 +118,7 @@ fn reads_no_version<K: RunName, R: Wait + Abort>(
 ) -> Result<(), Fail>
     requires { Names K.RunName opened }
 {
-    let Ok((register, mut seats)) = opened.named::<K>() else {
-        return Err(Fail::from("named"));
-    };
+    let (register, mut seats) = opened.named::<K>().ok().expect(rt, "named");
     let [seat] = seats.as_mut_slice() else {
         return Err(Fail::from("seats"));
     };
@@ -173,15 +163,9 @@ fn reads_two_beside_calls<K: RunName + Send + Sync, R: Wait + Threads + Abort + 
 ) -> Result<(), Fail>
     requires { Names K.RunName opened }
 {
-    let Ok((register, mut seats)) = opened.named::<K>() else {
-        return Err(Fail::from("named"));
-    };
-    let Some(mut second) = seats.pop() else {
-        return Err(Fail::from("seats"));
-    };
-    let Some(mut first) = seats.pop() else {
-        return Err(Fail::from("seats"));
-    };
+    let (register, mut seats) = opened.named::<K>().ok().expect(rt, "named");
+    let mut second = seats.pop().expect(rt, "a seat");
+    let mut first = seats.pop().expect(rt, "a seat");
     stop_the_slave(rt, &register, &mut first);
     let shared = &register;
     thread::join(
@@ -195,6 +179,6 @@ fn reads_two_beside_calls<K: RunName + Send + Sync, R: Wait + Threads + Abort + 
 #[test]
 fn a_seat_reads_two_nodes_beside_calls(rt: HostRuntime) -> Result<(), Fail> {
     let net = network(&rt, rt.alloc(), 1, &[(5, 0x05)]);
-    let opened = open(rt.alloc(), &net, 2, READS + 2, READS + 2)?;
+    let opened = open(&rt, rt.alloc(), &net, 2, READS + 2, READS + 2);
     reads_two_beside_calls::<Brand, _>(&rt, opened)
 }

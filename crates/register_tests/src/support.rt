@@ -74,28 +74,25 @@ pub(crate) fn network(rt: &impl Abort, alloc: Global, own: u8, slaves: &[(u8, u3
 
 /// A register with so many seats and entries, whose wire has room for so many frames.
 pub(crate) fn open<'n>(
+    rt: &impl Abort,
     alloc: Global,
     net: &'n Network,
     seats: u16,
     limit: u32,
     room: u32,
-) -> Result<Opened<'n, SimWire>, Fail> {
-    let wire = SimWire::new(alloc, room)?;
-    let Ok(opened) = Register::open(alloc, net, seats, limit, wire) else {
-        return Err(Fail::from("open"));
-    };
-    Ok(opened)
+) -> Opened<'n, SimWire> {
+    let wire = SimWire::new(alloc, room).ok().expect(rt, "a wire");
+    let opened = Register::open(alloc, net, seats, limit, wire);
+    opened.ok().expect(rt, "a register")
 }
 
 /// What a register leaves that closes with these seats.
 pub(crate) fn close<W: Wire, K: RunName>(
+    rt: &impl Abort,
     register: Register<W, K>,
     seats: Vec<Seat<K>>,
-) -> Result<Closed<W>, Fail> {
-    let Ok(closed) = register.close(seats) else {
-        return Err(Fail::from("close"));
-    };
-    Ok(closed)
+) -> Closed<W> {
+    register.close(seats).ok().expect(rt, "closed")
 }
 
 /// Asserts that a call was made, with this place and this reply.

@@ -97,18 +97,16 @@ fn close_in_two<K: RunName>(
     register: Register<SimWire, K>,
     mut seats: Vec<Seat<K>>,
 ) -> Result<Closed<SimWire>, Fail> {
-    let Some(last) = seats.pop() else {
-        return Err(Fail::from("seats"));
-    };
+    let last = seats.pop().expect(rt, "a seat");
     let (register, mut seats) = lacks_seats(rt, register, seats, 1)?;
     seats.push(last)?;
-    close(register, seats)
+    Ok(close(rt, register, seats))
 }
 
 #[test]
 fn seats_call_in_threads(rt: HostRuntime) -> Result<(), Fail> {
     let net = network(&rt, rt.alloc(), 1, &[(2, 0x0D)]);
-    let opened = open(rt.alloc(), &net, 3, 12, 10)?;
+    let opened = open(&rt, rt.alloc(), &net, 3, 12, 10);
     reads::<Brand, _>(&rt, rt.alloc(), opened)
 }
 
@@ -119,9 +117,7 @@ fn reads<K: RunName + Send + Sync, R: Wait + Threads + Abort + Send + Sync>(
 ) -> Result<(), Fail>
     requires { Names K.RunName opened }
 {
-    let Ok((register, seats)) = opened.named::<K>() else {
-        return Err(Fail::from("named"));
-    };
+    let (register, seats) = opened.named::<K>().ok().expect(rt, "named");
     let mut seats = read_in_threads(rt, alloc, &register, seats)?;
     sure(rt, seats.len() == 3);
     is_full(rt, &register, seats.as_mut_slice());

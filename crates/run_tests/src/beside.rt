@@ -6,18 +6,16 @@ ghost use Rattle.cm_register.specs.Naming.{Names};
 use crate::support::{
     HeldBus, close_with, held, is_made, network, node, open, outcome, reaches, started, sure,
 };
-use cm_boot::Bus;
 use cm_history::{Call, Reply};
 use cm_nmt::{NodeId, Status};
 use cm_register::{Opened, Register, RunName, Seat};
-use cm_run::{Booted, Last, RunFault, boot_all};
+use cm_run::{Booted, Last, boot_all};
 use cm_simulated::SimWire;
 use std::alloc::Global;
 use std::marker::Brand;
 use std::process::Abort;
 use std::sync::Wait;
 use std::sync::atomic::{AtomicUsize, Ordering};
-use std::test::Fail;
 use std::thread;
 use std::thread::Threads;
 
@@ -48,16 +46,6 @@ fn calls_when_asked<K: RunName, R: Wait + Abort>(
     called.store(1, Ordering::SeqCst);
 }
 
-/// What the workers did, who had to boot every slave.
-fn booted_by<B: Bus, K: RunName>(
-    boot: Result<Booted<B, K>, RunFault<B, K>>,
-) -> Result<Booted<B, K>, Fail> {
-    match boot {
-        Ok(booted) => Ok(booted),
-        Err(_) => Err(Fail::from("boot_all")),
-    }
-}
-
 /// Boots node 2 in another thread, while the operator calls.
 fn boots_beside<'a, K: RunName + Send + Sync, R: Wait + Threads + Abort + Send + Sync>(
     rt: &R,
@@ -68,16 +56,15 @@ fn boots_beside<'a, K: RunName + Send + Sync, R: Wait + Threads + Abort + Send +
     story: &Story,
     asked: &'a AtomicUsize,
     called: &'a AtomicUsize,
-) -> Result<Booted<HeldBus<'a>, K>, Fail> {
-    let buses = held(alloc, register.network(), 1, asked, called, 1)?;
+) -> Booted<HeldBus<'a>, K> {
+    let buses = held(alloc, register.network(), 1, asked, called, 1);
+    let buses = buses.ok().expect(rt, "memory");
     let attempts = story.attempts;
     thread::scope(thread::scope_env(), rt, |scope| {
-        let Ok(boot) = scope.spawn(move || boot_all(rt, alloc, register, seats, buses, attempts))
-        else {
-            return Err(Fail::from("thread"));
-        };
+        let boot = scope.spawn(move || boot_all(rt, alloc, register, seats, buses, attempts));
+        let boot = boot.ok().expect(rt, "a thread");
         calls_when_asked(rt, register, operator, story, asked, called);
-        booted_by(boot.join(rt))
+        boot.join(rt).ok().expect(rt, "all booted")
     })
 }
 
@@ -89,13 +76,13 @@ fn boot_while_called<K: RunName + Send + Sync, R: Wait + Threads + Abort + Send 
     seats: Vec<Seat<K>>,
     operator: &mut Seat<K>,
     story: &Story,
-) -> Result<Vec<Seat<K>>, Fail> {
+) -> Vec<Seat<K>> {
     let asked = AtomicUsize::new(0);
     let called = AtomicUsize::new(0);
-    let booted = boots_beside(rt, alloc, register, seats, operator, story, &asked, &called)?;
+    let booted = boots_beside(rt, alloc, register, seats, operator, story, &asked, &called);
     let wanted = outcome(rt, 2, story.attempts, story.last);
     sure(rt, booted.outcomes.as_slice() == [wanted].as_slice());
-    Ok(booted.seats)
+    booted.seats
 }
 
 /// The operator starts the network, and calls while the worker asks node 2.
@@ -104,15 +91,14 @@ fn tells<K: RunName + Send + Sync, R: Wait + Threads + Abort + Send + Sync>(
     alloc: Global,
     opened: Opened<SimWire>,
     story: &Story,
-) -> Result<(), Fail>
+)
     requires { Names K.RunName opened }
 {
-    let (register, seats, mut operator) = started::<K, _>(rt, opened)?;
-    let seats = boot_while_called(rt, alloc, &register, seats, &mut operator, story)?;
-    let closed = close_with(register, seats, operator)?;
+    let (register, seats, mut operator) = started::<K, _>(rt, opened);
+    let seats = boot_while_called(rt, alloc, &register, seats, &mut operator, story);
+    let closed = close_with(rt, register, seats, operator);
     sure(rt, closed.history.len() == story.entries);
     sure(rt, closed.manager.begun() == story.sessions);
-    Ok(())
 }
 
 /// The boot-up message of node 2: its session ends, and another attempt is made, if one is allowed.
@@ -128,7 +114,7 @@ fn boots_up(id: NodeId, attempts: u8, last: Last, entries: usize) -> Story {
 }
 
 #[test]
-fn an_operator_calls_while_a_worker_boots(rt: HostRuntime) -> Result<(), Fail> {
+fn an_operator_calls_while_a_worker_boots(rt: HostRuntime) {
     let id = node(&rt, 2);
     let held = Story {
         call: Call::Hold(id),
@@ -144,8 +130,7 @@ fn an_operator_calls_while_a_worker_boots(rt: HostRuntime) -> Result<(), Fail> {
         held,
     ] {
         let net = network(&rt, rt.alloc(), 127, &[(2, 0x0D)]);
-        let opened = open(rt.alloc(), &net, 2, 20, 10)?;
-        tells::<Brand, _>(&rt, rt.alloc(), opened, &story)?;
+        let opened = open(&rt, rt.alloc(), &net, 2, 20, 10);
+        tells::<Brand, _>(&rt, rt.alloc(), opened, &story);
     }
-    Ok(())
 }

@@ -37,11 +37,9 @@ fn boot<K: RunName + Send + Sync, R: Wait + Threads + Abort + Send + Sync>(
     seats: Vec<Seat<K>>,
     buses: Vec<SimBus>,
     attempts: u8,
-) -> Result<Booted<SimBus, K>, Fail> {
-    match boot_all(rt, alloc, register, seats, buses, attempts) {
-        Ok(booted) => Ok(booted),
-        Err(_) => Err(Fail::from("boot_all")),
-    }
+) -> Booted<SimBus, K> {
+    let booted = boot_all(rt, alloc, register, seats, buses, attempts);
+    booted.ok().expect(rt, "all booted")
 }
 
 /// Asserts that the seats are those of the workers, in their order.
@@ -59,12 +57,13 @@ fn boot_with<K: RunName + Send + Sync, R: Wait + Threads + Abort + Send + Sync>(
     seats: Vec<Seat<K>>,
     attempts: u8,
     outcomes: &[Outcome],
-) -> Result<Vec<Seat<K>>, Fail> {
-    let buses = agreeing(alloc, register.network(), seats.len())?;
-    let booted = boot(rt, alloc, register, seats, buses, attempts)?;
+) -> Vec<Seat<K>> {
+    let buses = agreeing(alloc, register.network(), seats.len());
+    let buses = buses.ok().expect(rt, "memory");
+    let booted = boot(rt, alloc, register, seats, buses, attempts);
     sure(rt, booted.outcomes.as_slice() == outcomes);
     are_in_order(rt, booted.seats.as_slice());
-    Ok(booted.seats)
+    booted.seats
 }
 
 /// Makes the operator's call behind the boot, if there is one.
@@ -89,13 +88,13 @@ fn boots<K: RunName + Send + Sync, R: Wait + Threads + Abort + Send + Sync>(
     attempts: u8,
     outcomes: &[Outcome],
     then: Option<Then>,
-) -> Result<Closed<SimWire>, Fail>
+) -> Closed<SimWire>
     requires { Names K.RunName opened }
 {
-    let (register, seats, mut operator) = started::<K, _>(rt, opened)?;
-    let seats = boot_with(rt, alloc, &register, seats, attempts, outcomes)?;
+    let (register, seats, mut operator) = started::<K, _>(rt, opened);
+    let seats = boot_with(rt, alloc, &register, seats, attempts, outcomes);
     call_then(rt, &register, &mut operator, then);
-    close_with(register, seats, operator)
+    close_with(rt, register, seats, operator)
 }
 
 /// Asserts how many entries there are, which frames were sent, and how the network ended.
@@ -120,9 +119,9 @@ fn leaves(
 #[test]
 fn two_workers_boot_two_slaves(rt: HostRuntime) -> Result<(), Fail> {
     let net = network(&rt, rt.alloc(), 127, &[(1, 0x0D), (2, 0x0D)]);
-    let opened = open(rt.alloc(), &net, 3, 20, 10)?;
+    let opened = open(&rt, rt.alloc(), &net, 3, 20, 10);
     let outcomes = [outcome(&rt, 1, 1, BOOTED), outcome(&rt, 2, 1, BOOTED)];
-    let closed = boots::<Brand, _>(&rt, rt.alloc(), opened, 2, &outcomes, None)?;
+    let closed = boots::<Brand, _>(&rt, rt.alloc(), opened, 2, &outcomes, None);
     sure(&rt, closed.history.len() == 5);
     Ok(())
 }
@@ -150,9 +149,9 @@ fn all_booted(rt: &impl Abort, alloc: Global) -> Result<Vec<Outcome>, Fail> {
 fn four_workers_boot_126_slaves(rt: HostRuntime) -> Result<(), Fail> {
     let slaves = all_slaves(rt.alloc())?;
     let net = network(&rt, rt.alloc(), 127, slaves.as_slice());
-    let opened = open(rt.alloc(), &net, 5, 70_000, 200)?;
+    let opened = open(&rt, rt.alloc(), &net, 5, 70_000, 200);
     let outcomes = all_booted(&rt, rt.alloc())?;
-    let closed = boots::<Brand, _>(&rt, rt.alloc(), opened, 1, outcomes.as_slice(), None)?;
+    let closed = boots::<Brand, _>(&rt, rt.alloc(), opened, 1, outcomes.as_slice(), None);
     sure(&rt, closed.history.len() == 253);
     sure(&rt, closed.wire.sent().len() == 127);
     sure(&rt, closed.manager.phase() == Phase::Ready);
@@ -164,7 +163,7 @@ fn four_workers_boot_126_slaves(rt: HostRuntime) -> Result<(), Fail> {
 #[test]
 fn a_full_wire_ends_each_round(rt: HostRuntime) -> Result<(), Fail> {
     let net = network(&rt, rt.alloc(), 1, &[(2, 0x05), (3, 0x15), (4, 0x05)]);
-    let opened = open(rt.alloc(), &net, 2, 20, 2)?;
+    let opened = open(&rt, rt.alloc(), &net, 2, 20, 2);
     let full = Last::Fault(CallFault::WireFull);
     let outcomes = [
         outcome(&rt, 2, 1, full),
@@ -176,7 +175,7 @@ fn a_full_wire_ends_each_round(rt: HostRuntime) -> Result<(), Fail> {
         position: 5,
         reply: Reply::Refused(5),
     };
-    let closed = boots::<Brand, _>(&rt, rt.alloc(), opened, 3, &outcomes, Some(busy))?;
+    let closed = boots::<Brand, _>(&rt, rt.alloc(), opened, 3, &outcomes, Some(busy));
     let frames = [[0x82, 2], [0x82, 4]];
     leaves(
         &rt,
@@ -193,14 +192,14 @@ fn a_full_wire_ends_each_round(rt: HostRuntime) -> Result<(), Fail> {
 #[test]
 fn a_full_history_ends_each_round(rt: HostRuntime) -> Result<(), Fail> {
     let net = network(&rt, rt.alloc(), 1, &[(2, 0x05), (3, 0x15), (4, 0x05)]);
-    let opened = open(rt.alloc(), &net, 2, 3, 8)?;
+    let opened = open(&rt, rt.alloc(), &net, 2, 3, 8);
     let full = Last::Fault(CallFault::JournalFull);
     let outcomes = [
         outcome(&rt, 2, 1, BOOTED),
         outcome(&rt, 3, 1, full),
         outcome(&rt, 4, 1, full),
     ];
-    let closed = boots::<Brand, _>(&rt, rt.alloc(), opened, 3, &outcomes, None)?;
+    let closed = boots::<Brand, _>(&rt, rt.alloc(), opened, 3, &outcomes, None);
     let frames = [[0x82, 2], [0x82, 4], [0x01, 2]];
     leaves(
         &rt,
@@ -231,17 +230,18 @@ fn boot_twice<K: RunName + Send + Sync, R: Wait + Threads + Abort + Send + Sync>
     register: &Register<SimWire, K>,
     seats: Vec<Seat<K>>,
     operator: &mut Seat<K>,
-) -> Result<Vec<Seat<K>>, Fail> {
-    let buses = agreeing(alloc, register.network(), seats.len())?;
-    let booted = boot(rt, alloc, register, seats, buses, 1)?;
+) -> Vec<Seat<K>> {
+    let buses = agreeing(alloc, register.network(), seats.len());
+    let buses = buses.ok().expect(rt, "memory");
+    let booted = boot(rt, alloc, register, seats, buses, 1);
     lose_one(rt, register, operator);
-    let again = boot(rt, alloc, register, booted.seats, booted.buses, 1)?;
+    let again = boot(rt, alloc, register, booted.seats, booted.buses, 1);
     let outcomes = [
         outcome(rt, 1, 1, BOOTED),
         outcome(rt, 2, 1, Last::Refused(6)),
     ];
     sure(rt, again.outcomes.as_slice() == outcomes.as_slice());
-    Ok(again.seats)
+    again.seats
 }
 
 fn boots_again<K: RunName + Send + Sync, R: Wait + Threads + Abort + Send + Sync>(
@@ -251,9 +251,9 @@ fn boots_again<K: RunName + Send + Sync, R: Wait + Threads + Abort + Send + Sync
 ) -> Result<(), Fail>
     requires { Names K.RunName opened }
 {
-    let (register, seats, mut operator) = started::<K, _>(rt, opened)?;
-    let seats = boot_twice(rt, alloc, &register, seats, &mut operator)?;
-    let closed = close_with(register, seats, operator)?;
+    let (register, seats, mut operator) = started::<K, _>(rt, opened);
+    let seats = boot_twice(rt, alloc, &register, seats, &mut operator);
+    let closed = close_with(rt, register, seats, operator);
     sure(rt, closed.history.len() == 9);
     Ok(())
 }
@@ -261,6 +261,6 @@ fn boots_again<K: RunName + Send + Sync, R: Wait + Threads + Abort + Send + Sync
 #[test]
 fn what_was_lost_is_booted_again(rt: HostRuntime) -> Result<(), Fail> {
     let net = network(&rt, rt.alloc(), 127, &[(1, 0x0D), (2, 0x0D)]);
-    let opened = open(rt.alloc(), &net, 3, 20, 10)?;
+    let opened = open(&rt, rt.alloc(), &net, 3, 20, 10);
     boots_again::<Brand, _>(&rt, rt.alloc(), opened)
 }

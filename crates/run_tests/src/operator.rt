@@ -58,9 +58,7 @@ fn operates<K: RunName, R: Wait + Abort>(
 ) -> Result<(), Fail>
     requires { Names K.RunName opened }
 {
-    let Ok((register, mut seats)) = opened.named::<K>() else {
-        return Err(Fail::from("named"));
-    };
+    let (register, mut seats) = opened.named::<K>().ok().expect(rt, "named");
     let [seat] = seats.as_mut_slice() else {
         return Err(Fail::from("seats"));
     };
@@ -76,7 +74,7 @@ fn operates<K: RunName, R: Wait + Abort>(
     stops(rt, alloc, &register, seat, &first, 0, wire);
     let many = [Call::Read(1); 200];
     stops(rt, alloc, &register, seat, &many, 98, journal);
-    let closed = close(register, seats)?;
+    let closed = close(rt, register, seats);
     sure(rt, closed.history.len() == LIMIT as usize);
     Ok(())
 }
@@ -84,6 +82,6 @@ fn operates<K: RunName, R: Wait + Abort>(
 #[test]
 fn an_operator_is_told_what_is_made(rt: HostRuntime) -> Result<(), Fail> {
     let net = network(&rt, rt.alloc(), 1, &[(2, 0x0D)]);
-    let opened = open(rt.alloc(), &net, 1, LIMIT, 0)?;
+    let opened = open(&rt, rt.alloc(), &net, 1, LIMIT, 0);
     operates::<Brand, _>(&rt, rt.alloc(), opened)
 }

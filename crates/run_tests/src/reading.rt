@@ -27,12 +27,12 @@ fn reads_in_turn<K: RunName>(
     seat: &mut Seat<K>,
     asked: &AtomicUsize,
     reads: &AtomicUsize,
-) -> Result<(), Fail> {
+) {
     sure(rt, reaches(asked, 2));
     let mut least = 3;
     for turn in 0..READS {
         let Ok(seen) = seat.read(turn as u8 % 2 + 1) else {
-            return Err(Fail::from("read"));
+            return sure(rt, false);
         };
         sure(rt, seen.count >= least);
         sure(rt, seen.state == 0 || seen.state == 5);
@@ -41,7 +41,6 @@ fn reads_in_turn<K: RunName>(
         reads.fetch_add(1, Ordering::SeqCst);
         thread::yield_now();
     }
-    Ok(())
 }
 
 /// Boots the slaves in another thread, while a seat reads; no slave answers before half of the reads.
@@ -53,18 +52,15 @@ fn boots_beside<'a, K: RunName + Send + Sync, R: Wait + Threads + Abort + Send +
     reader: &mut Seat<K>,
     asked: &'a AtomicUsize,
     reads: &'a AtomicUsize,
-) -> Result<Booted<HeldBus<'a>, K>, Fail> {
+) -> Booted<HeldBus<'a>, K> {
     let workers = seats.len();
-    let buses = held(alloc, register.network(), workers, asked, reads, HELD_FOR)?;
+    let buses = held(alloc, register.network(), workers, asked, reads, HELD_FOR);
+    let buses = buses.ok().expect(rt, "memory");
     thread::scope(thread::scope_env(), rt, |scope| {
-        let Ok(boot) = scope.spawn(move || boot_all(rt, alloc, register, seats, buses, 2)) else {
-            return Err(Fail::from("thread"));
-        };
-        reads_in_turn(rt, reader, asked, reads)?;
-        let Ok(booted) = boot.join(rt) else {
-            return Err(Fail::from("boot_all"));
-        };
-        Ok(booted)
+        let boot = scope.spawn(move || boot_all(rt, alloc, register, seats, buses, 2));
+        let boot = boot.ok().expect(rt, "a thread");
+        reads_in_turn(rt, reader, asked, reads);
+        boot.join(rt).ok().expect(rt, "all booted")
     })
 }
 
@@ -74,26 +70,25 @@ fn reads_beside_a_boot<K: RunName + Send + Sync, R: Wait + Threads + Abort + Sen
     rt: &R,
     alloc: Global,
     opened: Opened<SimWire>,
-) -> Result<(), Fail>
+)
     requires { Names K.RunName opened }
 {
-    let (register, seats, mut reader) = started::<K, _>(rt, opened)?;
+    let (register, seats, mut reader) = started::<K, _>(rt, opened);
     let asked = AtomicUsize::new(0);
     let reads = AtomicUsize::new(0);
-    let booted = boots_beside(rt, alloc, &register, seats, &mut reader, &asked, &reads)?;
+    let booted = boots_beside(rt, alloc, &register, seats, &mut reader, &asked, &reads);
     for number in 1..3 {
         let seen = reader.read(number).ok();
         sure(rt, seen == Some(Seen { count: 5, state: 5 }));
     }
     sure(rt, reader.list().len() == 1);
-    let closed = close_with(register, booted.seats, reader)?;
+    let closed = close_with(rt, register, booted.seats, reader);
     sure(rt, closed.history.len() == 5);
-    Ok(())
 }
 
 #[test]
-fn a_seat_reads_while_workers_boot(rt: HostRuntime) -> Result<(), Fail> {
+fn a_seat_reads_while_workers_boot(rt: HostRuntime) {
     let net = network(&rt, rt.alloc(), 127, &[(1, 0x0D), (2, 0x0D)]);
-    let opened = open(rt.alloc(), &net, 3, 20, 10)?;
-    reads_beside_a_boot::<Brand, _>(&rt, rt.alloc(), opened)
+    let opened = open(&rt, rt.alloc(), &net, 3, 20, 10);
+    reads_beside_a_boot::<Brand, _>(&rt, rt.alloc(), opened);
 }

@@ -33,9 +33,7 @@ fn boots<K: RunName, R: Wait + Abort>(
 ) -> Result<(), Fail>
     requires { Names K.RunName opened }
 {
-    let Ok((register, mut seats)) = opened.named::<K>() else {
-        return Err(Fail::from("named"));
-    };
+    let (register, mut seats) = opened.named::<K>().ok().expect(rt, "named");
     let [seat] = seats.as_mut_slice() else {
         return Err(Fail::from("seats"));
     };
@@ -55,7 +53,7 @@ fn boots<K: RunName, R: Wait + Abort>(
     let missing = round(rt, &register, seat, &mut bus, silent, 2);
     sure(rt, missing == outcome(silent, 2, Status::B));
     sure(rt, seat.list().len() == 9);
-    let closed = close(register, seats)?;
+    let closed = close(rt, register, seats);
     sure(rt, closed.manager.state(present) == 5);
     sure(rt, closed.manager.state(silent) == 1);
     Ok(())
@@ -73,6 +71,6 @@ fn outcome(id: NodeId, attempts: u8, status: Status) -> Outcome {
 #[test]
 fn a_silent_slave_is_tried_again(rt: HostRuntime) -> Result<(), Fail> {
     let net = network(&rt, rt.alloc(), 1, &[(2, 0x0D), (3, 0x05)]);
-    let opened = open(rt.alloc(), &net, 1, 20, 10)?;
+    let opened = open(&rt, rt.alloc(), &net, 1, 20, 10);
     boots::<Brand, _>(&rt, rt.alloc(), opened)
 }

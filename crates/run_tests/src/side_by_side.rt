@@ -23,32 +23,25 @@ fn boots<K: RunName + Send + Sync, R: Wait + Threads + Abort + Send + Sync>(
     alloc: Global,
     opened: Opened<SimWire>,
     questions: usize,
-) -> Result<Vec<Outcome>, Fail>
+) -> Vec<Outcome>
     requires { Names K.RunName opened }
 {
-    let (register, seats, operator) = started::<K, _>(rt, opened)?;
+    let (register, seats, operator) = started::<K, _>(rt, opened);
     let workers = seats.len();
     let asked = AtomicUsize::new(0);
-    let buses = held(
-        alloc,
-        register.network(),
-        workers,
-        &asked,
-        &asked,
-        questions,
-    )?;
-    let Ok(booted) = boot_all(rt, alloc, &register, seats, buses, 1) else {
-        return Err(Fail::from("boot_all"));
-    };
+    let net = register.network();
+    let buses = held(alloc, net, workers, &asked, &asked, questions);
+    let buses = buses.ok().expect(rt, "memory");
+    let booted = boot_all(rt, alloc, &register, seats, buses, 1);
     let Booted {
         outcomes,
         seats,
         buses: _,
-    } = booted;
+    } = booted.ok().expect(rt, "all booted");
     sure(rt, seats.len() == workers);
-    let closed = close_with(register, seats, operator)?;
+    let closed = close_with(rt, register, seats, operator);
     sure(rt, closed.history.len() == 2 * outcomes.len() + 1);
-    Ok(outcomes)
+    outcomes
 }
 
 /// A slave for each worker.
@@ -61,8 +54,8 @@ fn workers_work_side_by_side(rt: HostRuntime) -> Result<(), Fail> {
     for workers in [2, 4, 16] {
         let listed = slaves.get(..workers).unwrap_or(&[]);
         let net = network(&rt, rt.alloc(), 127, listed);
-        let opened = open(rt.alloc(), &net, workers as u16 + 1, 40, 20)?;
-        let outcomes = boots::<Brand, _>(&rt, rt.alloc(), opened, workers)?;
+        let opened = open(&rt, rt.alloc(), &net, workers as u16 + 1, 40, 20);
+        let outcomes = boots::<Brand, _>(&rt, rt.alloc(), opened, workers);
         sure(&rt, outcomes.len() == workers);
         for outcome in outcomes.iter() {
             sure(&rt, outcome.last == Last::Status(Status::Ok));
@@ -75,8 +68,8 @@ fn workers_work_side_by_side(rt: HostRuntime) -> Result<(), Fail> {
 #[test]
 fn one_worker_waits_in_vain(rt: HostRuntime) -> Result<(), Fail> {
     let net = network(&rt, rt.alloc(), 127, &[(1, 0x0D), (2, 0x0D)]);
-    let opened = open(rt.alloc(), &net, 2, 12, 10)?;
-    let outcomes = boots::<Brand, _>(&rt, rt.alloc(), opened, 2)?;
+    let opened = open(&rt, rt.alloc(), &net, 2, 12, 10);
+    let outcomes = boots::<Brand, _>(&rt, rt.alloc(), opened, 2);
     let wanted = [
         outcome(&rt, 1, 1, Last::Status(Status::B)),
         outcome(&rt, 2, 1, Last::Status(Status::Ok)),

@@ -64,56 +64,50 @@ pub(crate) fn network(rt: &impl Abort, alloc: Global, own: u8, slaves: &[(u8, u3
 
 /// A register with so many seats and entries, whose wire has room for so many frames.
 pub(crate) fn open<'n>(
+    rt: &impl Abort,
     alloc: Global,
     net: &'n Network,
     seats: u16,
     limit: u32,
     room: u32,
-) -> Result<Opened<'n, SimWire>, Fail> {
-    let wire = SimWire::new(alloc, room)?;
-    let Ok(opened) = Register::open(alloc, net, seats, limit, wire) else {
-        return Err(Fail::from("open"));
-    };
-    Ok(opened)
+) -> Opened<'n, SimWire> {
+    let wire = SimWire::new(alloc, room).ok().expect(rt, "a wire");
+    let opened = Register::open(alloc, net, seats, limit, wire);
+    opened.ok().expect(rt, "a register")
 }
 
 /// A register whose last seat, the operator's, has started the network: with the workers' seats and that one.
 pub(crate) fn started<'n, K: RunName, R: Wait + Abort>(
     rt: &R,
     opened: Opened<'n, SimWire>,
-) -> Result<(Register<'n, SimWire, K>, Vec<Seat<K>>, Seat<K>), Fail>
+) -> (Register<'n, SimWire, K>, Vec<Seat<K>>, Seat<K>)
     requires { Names K.RunName opened }
 {
-    let Ok((register, mut seats)) = opened.named::<K>() else {
-        return Err(Fail::from("named"));
-    };
-    let Some(mut operator) = seats.pop() else {
-        return Err(Fail::from("seats"));
-    };
+    let (register, mut seats) = opened.named::<K>().ok().expect(rt, "named");
+    let mut operator = seats.pop().expect(rt, "a seat");
     let start = register.call(rt, &mut operator, Call::StartNetwork);
     is_made(rt, start, 1, Reply::Started);
-    Ok((register, seats, operator))
+    (register, seats, operator)
 }
 
 /// What a register leaves that closes with these seats.
 pub(crate) fn close<K: RunName>(
+    rt: &impl Abort,
     register: Register<SimWire, K>,
     seats: Vec<Seat<K>>,
-) -> Result<Closed<SimWire>, Fail> {
-    let Ok(closed) = register.close(seats) else {
-        return Err(Fail::from("close"));
-    };
-    Ok(closed)
+) -> Closed<SimWire> {
+    register.close(seats).ok().expect(rt, "closed")
 }
 
 /// What it leaves with the workers' seats and the operator's.
 pub(crate) fn close_with<K: RunName>(
+    rt: &impl Abort,
     register: Register<SimWire, K>,
     mut seats: Vec<Seat<K>>,
     operator: Seat<K>,
-) -> Result<Closed<SimWire>, Fail> {
-    seats.push(operator)?;
-    close(register, seats)
+) -> Closed<SimWire> {
+    seats.push(operator).ok().expect(rt, "memory");
+    close(rt, register, seats)
 }
 
 /// What this many attempts at a slave came to.

@@ -23,9 +23,7 @@ fn refuses<K: RunName + Send + Sync, R: Wait + Threads + Abort + Send + Sync>(
 ) -> Result<(), Fail>
     requires { Names K.RunName opened }
 {
-    let Ok((register, mut seats)) = opened.named::<K>() else {
-        return Err(Fail::from("named"));
-    };
+    let (register, mut seats) = opened.named::<K>().ok().expect(rt, "named");
     for (buses, attempts, kind) in cases {
         let given = vec![in alloc; SimBus::new(); *buses]?;
         match boot_all(rt, alloc, &register, seats, given, *attempts) {
@@ -36,7 +34,7 @@ fn refuses<K: RunName + Send + Sync, R: Wait + Threads + Abort + Send + Sync>(
             }
         }
     }
-    let closed = close(register, seats)?;
+    let closed = close(rt, register, seats);
     sure(rt, closed.history.is_empty());
     Ok(())
 }
@@ -44,7 +42,7 @@ fn refuses<K: RunName + Send + Sync, R: Wait + Threads + Abort + Send + Sync>(
 #[test]
 fn one_seat_wants_one_bus_and_1_to_10_attempts(rt: HostRuntime) -> Result<(), Fail> {
     let net = network(&rt, rt.alloc(), 127, &[(1, 0x0D)]);
-    let opened = open(rt.alloc(), &net, 1, 12, 10)?;
+    let opened = open(&rt, rt.alloc(), &net, 1, 12, 10);
     let cases = [
         (0, 1, RunKind::BadWorkers),
         (1, 0, RunKind::BadAttempts),
@@ -56,6 +54,6 @@ fn one_seat_wants_one_bus_and_1_to_10_attempts(rt: HostRuntime) -> Result<(), Fa
 #[test]
 fn there_are_no_17_workers(rt: HostRuntime) -> Result<(), Fail> {
     let net = network(&rt, rt.alloc(), 127, &[(1, 0x0D)]);
-    let opened = open(rt.alloc(), &net, 17, 12, 10)?;
+    let opened = open(&rt, rt.alloc(), &net, 17, 12, 10);
     refuses::<Brand, _>(&rt, rt.alloc(), opened, &[(17, 1, RunKind::BadWorkers)])
 }
