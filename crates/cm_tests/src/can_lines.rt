@@ -34,18 +34,14 @@ fn a_line_of_a_log_is_a_frame(rt: HostRuntime) {
         0x5FF,
         Some(&[0, 0x11, 0x22, 0x33, 0x44, 0x55, 0x66, 0x77]),
     );
-    for line in [
-        b"(1.5) can0 702#R".as_slice(),
-        b"(1.5) can0 702#R0",
-        b"(1.5) can0 702#R8",
-    ] {
-        logs(&rt, line, 0x702, None);
-    }
+    logs(&rt, b"(1.5) can0 702#R", 0x702, None);
+    logs(&rt, b"(1.5) can0 702#R0", 0x702, None);
+    logs(&rt, b"(1.5) can0 702#R8", 0x702, None);
 }
 
 #[test]
 fn any_other_line_of_a_log_is_none(rt: HostRuntime) {
-    for line in [
+    let lines = [
         b"".as_slice(),
         b"(1.5) can0",
         b"(1.5) can0 ",
@@ -72,8 +68,9 @@ fn any_other_line_of_a_log_is_none(rt: HostRuntime) {
         b"(1.5) can0 123#r",
         b"(1.5) can0 123#00\r",
         b"\xFF\x00\x80",
-    ] {
-        sure(&rt, read_log_line(line) == None);
+    ];
+    for line in lines.iter() {
+        sure(&rt, read_log_line(*line) == None);
     }
 }
 
@@ -103,7 +100,7 @@ fn a_frame_is_written_as_it_is_read(rt: HostRuntime) {
 
 #[test]
 fn any_other_line_of_an_adapter_is_none(rt: HostRuntime) {
-    for line in [
+    let lines = [
         b"".as_slice(),
         b"z",
         b"\x07",
@@ -121,9 +118,14 @@ fn any_other_line_of_an_adapter_is_none(rt: HostRuntime) {
         b"r123000",
         b"R000001230",
         b"V1013",
-    ] {
-        sure(&rt, read_adapter_line(line) == None);
+    ];
+    for line in lines.iter() {
+        sure(&rt, read_adapter_line(*line) == None);
     }
+}
+
+#[test]
+fn a_remote_frame_says_how_much_is_asked_for(rt: HostRuntime) {
     let remote = CanId::new(0x123).map(|id| CanFrame::remote(id));
     sure(&rt, read_adapter_line(b"r1238") == remote);
     sure(&rt, remote.is_some_and(|frame| frame.kind == Kind::Remote));
