@@ -4,7 +4,8 @@
 ghost use Rattle.cm_register.specs.Naming.{Names};
 
 use crate::support::{
-    HeldBus, close_with, held, is_made, network, node, open, outcome, reaches, started, sure,
+    HeldBus, close, held, is_made, named, network, node, open, outcome, reaches, start, sure,
+    with_operator,
 };
 use cm_history::{Call, Reply};
 use cm_nmt::{NodeId, Status};
@@ -57,8 +58,7 @@ fn boots_beside<'a, K: RunName + Send + Sync, R: Wait + Threads + Abort + Send +
     asked: &'a AtomicUsize,
     called: &'a AtomicUsize,
 ) -> Booted<HeldBus<'a>, K> {
-    let buses = held(alloc, register.network(), 1, asked, called, 1);
-    let buses = buses.ok().expect(rt, "memory");
+    let buses = held(rt, alloc, register.network(), 1, asked, called, 1);
     let attempts = story.attempts;
     thread::scope(thread::scope_env(), rt, |scope| {
         let boot = scope.spawn(move || boot_all(rt, alloc, register, seats, buses, attempts));
@@ -85,7 +85,20 @@ fn boot_while_called<K: RunName + Send + Sync, R: Wait + Threads + Abort + Send 
     booted.seats
 }
 
-/// The operator starts the network, and calls while the worker asks node 2.
+/// The operator starts the network, and calls while the worker asks node 2; all seats come back.
+fn start_and_boot<K: RunName + Send + Sync, R: Wait + Threads + Abort + Send + Sync>(
+    rt: &R,
+    alloc: Global,
+    register: &Register<SimWire, K>,
+    mut seats: Vec<Seat<K>>,
+    story: &Story,
+) -> Vec<Seat<K>> {
+    let mut operator = start(rt, register, &mut seats);
+    let seats = boot_while_called(rt, alloc, register, seats, &mut operator, story);
+    with_operator(rt, seats, operator)
+}
+
+/// The same, and what the register leaves.
 fn tells<K: RunName + Send + Sync, R: Wait + Threads + Abort + Send + Sync>(
     rt: &R,
     alloc: Global,
@@ -94,9 +107,9 @@ fn tells<K: RunName + Send + Sync, R: Wait + Threads + Abort + Send + Sync>(
 )
     requires { Names K.RunName opened }
 {
-    let (register, seats, mut operator) = started::<K, _>(rt, opened);
-    let seats = boot_while_called(rt, alloc, &register, seats, &mut operator, story);
-    let closed = close_with(rt, register, seats, operator);
+    let (register, seats) = named::<K>(rt, opened);
+    let seats = start_and_boot(rt, alloc, &register, seats, story);
+    let closed = close(rt, register, seats);
     sure(rt, closed.history.len() == story.entries);
     sure(rt, closed.manager.begun() == story.sessions);
 }

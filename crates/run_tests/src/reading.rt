@@ -2,7 +2,9 @@
 
 ghost use Rattle.cm_register.specs.Naming.{Names};
 
-use crate::support::{HeldBus, close_with, held, network, open, reaches, started, sure};
+use crate::support::{
+    HeldBus, close, held, named, network, open, reaches, start, sure, with_operator,
+};
 use cm_register::{Opened, Register, RunName, Seat, Seen};
 use cm_run::{Booted, boot_all};
 use cm_simulated::SimWire;
@@ -11,7 +13,6 @@ use std::marker::Brand;
 use std::process::Abort;
 use std::sync::Wait;
 use std::sync::atomic::{AtomicUsize, Ordering};
-use std::test::Fail;
 use std::thread;
 use std::thread::Threads;
 
@@ -54,8 +55,8 @@ fn boots_beside<'a, K: RunName + Send + Sync, R: Wait + Threads + Abort + Send +
     reads: &'a AtomicUsize,
 ) -> Booted<HeldBus<'a>, K> {
     let workers = seats.len();
-    let buses = held(alloc, register.network(), workers, asked, reads, HELD_FOR);
-    let buses = buses.ok().expect(rt, "memory");
+    let net = register.network();
+    let buses = held(rt, alloc, net, workers, asked, reads, HELD_FOR);
     thread::scope(thread::scope_env(), rt, |scope| {
         let boot = scope.spawn(move || boot_all(rt, alloc, register, seats, buses, 2));
         let boot = boot.ok().expect(rt, "a thread");
@@ -64,8 +65,32 @@ fn boots_beside<'a, K: RunName + Send + Sync, R: Wait + Threads + Abort + Send +
     })
 }
 
+/// Asserts that the seat sees both slaves booted, though it made no call but the start.
+fn sees_the_boot<K: RunName>(rt: &impl Abort, reader: &mut Seat<K>) {
+    for number in 1..3 {
+        let seen = reader.read(number).ok();
+        sure(rt, seen == Some(Seen { count: 5, state: 5 }));
+    }
+    sure(rt, reader.list().len() == 1);
+}
+
 /// The last seat starts the network, and reads while the others' workers boot it. Its reads after the
-/// boot see all of it, though it made no other call.
+/// boot see all of it. All seats come back.
+fn boot_and_read<K: RunName + Send + Sync, R: Wait + Threads + Abort + Send + Sync>(
+    rt: &R,
+    alloc: Global,
+    register: &Register<SimWire, K>,
+    mut seats: Vec<Seat<K>>,
+) -> Vec<Seat<K>> {
+    let mut reader = start(rt, register, &mut seats);
+    let asked = AtomicUsize::new(0);
+    let reads = AtomicUsize::new(0);
+    let booted = boots_beside(rt, alloc, register, seats, &mut reader, &asked, &reads);
+    sees_the_boot(rt, &mut reader);
+    with_operator(rt, booted.seats, reader)
+}
+
+/// The same, and what the register leaves.
 fn reads_beside_a_boot<K: RunName + Send + Sync, R: Wait + Threads + Abort + Send + Sync>(
     rt: &R,
     alloc: Global,
@@ -73,16 +98,9 @@ fn reads_beside_a_boot<K: RunName + Send + Sync, R: Wait + Threads + Abort + Sen
 )
     requires { Names K.RunName opened }
 {
-    let (register, seats, mut reader) = started::<K, _>(rt, opened);
-    let asked = AtomicUsize::new(0);
-    let reads = AtomicUsize::new(0);
-    let booted = boots_beside(rt, alloc, &register, seats, &mut reader, &asked, &reads);
-    for number in 1..3 {
-        let seen = reader.read(number).ok();
-        sure(rt, seen == Some(Seen { count: 5, state: 5 }));
-    }
-    sure(rt, reader.list().len() == 1);
-    let closed = close_with(rt, register, booted.seats, reader);
+    let (register, seats) = named::<K>(rt, opened);
+    let seats = boot_and_read(rt, alloc, &register, seats);
+    let closed = close(rt, register, seats);
     sure(rt, closed.history.len() == 5);
 }
 

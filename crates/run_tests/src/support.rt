@@ -11,11 +11,10 @@ use cm_nmt::{Assignment, Frame, NodeId, Startup, Terms};
 use cm_register::{CallFault, Closed, Opened, Receipt, Register, RunName, Seat};
 use cm_run::{Last, Outcome};
 use cm_simulated::{SimBus, SimSlave, SimWire};
-use std::alloc::{AllocError, Global};
+use std::alloc::Global;
 use std::process::Abort;
 use std::sync::Wait;
 use std::sync::atomic::{AtomicUsize, Ordering};
-use std::test::Fail;
 use std::thread;
 
 /// How many turns are waited at most.
@@ -76,18 +75,26 @@ pub(crate) fn open<'n>(
     opened.ok().expect(rt, "a register")
 }
 
-/// A register whose last seat, the operator's, has started the network: with the workers' seats and that one.
-pub(crate) fn started<'n, K: RunName, R: Wait + Abort>(
-    rt: &R,
+/// The register, and its seats.
+pub(crate) fn named<'n, K: RunName>(
+    rt: &impl Abort,
     opened: Opened<'n, SimWire>,
-) -> (Register<'n, SimWire, K>, Vec<Seat<K>>, Seat<K>)
+) -> (Register<'n, SimWire, K>, Vec<Seat<K>>)
     requires { Names K.RunName opened }
 {
-    let (register, mut seats) = opened.named::<K>().ok().expect(rt, "named");
+    opened.named::<K>().ok().expect(rt, "named")
+}
+
+/// The last seat, the operator's, by which the network is started; the workers' are left.
+pub(crate) fn start<K: RunName, R: Wait + Abort>(
+    rt: &R,
+    register: &Register<SimWire, K>,
+    seats: &mut Vec<Seat<K>>,
+) -> Seat<K> {
     let mut operator = seats.pop().expect(rt, "a seat");
     let start = register.call(rt, &mut operator, Call::StartNetwork);
     is_made(rt, start, 1, Reply::Started);
-    (register, seats, operator)
+    operator
 }
 
 /// What a register leaves that closes with these seats.
@@ -99,15 +106,14 @@ pub(crate) fn close<K: RunName>(
     register.close(seats).ok().expect(rt, "closed")
 }
 
-/// What it leaves with the workers' seats and the operator's.
-pub(crate) fn close_with<K: RunName>(
+/// The workers' seats, and the operator's behind them.
+pub(crate) fn with_operator<K: RunName>(
     rt: &impl Abort,
-    register: Register<SimWire, K>,
     mut seats: Vec<Seat<K>>,
     operator: Seat<K>,
-) -> Closed<SimWire> {
+) -> Vec<Seat<K>> {
     seats.push(operator).ok().expect(rt, "memory");
-    close(rt, register, seats)
+    seats
 }
 
 /// What this many attempts at a slave came to.
@@ -121,10 +127,11 @@ pub(crate) fn outcome(rt: &impl Abort, number: u8, attempts: u8, last: Last) -> 
 
 /// A bus for each worker, with its slaves, which agree with the list.
 pub(crate) fn agreeing(
+    rt: &impl Abort,
     alloc: Global,
     net: &Network,
     workers: usize,
-) -> Result<Vec<SimBus>, AllocError> {
+) -> Vec<SimBus> {
     let mut buses = Vec::new(alloc);
     for worker in 0..workers {
         let mut bus = SimBus::new();
@@ -133,9 +140,9 @@ pub(crate) fn agreeing(
                 bus.put(*id, slave);
             }
         }
-        buses.push(bus)?;
+        buses.push(bus).ok().expect(rt, "memory");
     }
-    Ok(buses)
+    buses
 }
 
 /// Asserts that a call was made, with this place and this reply.
@@ -183,21 +190,23 @@ impl<'a> Bus for HeldBus<'a> {
 
 /// A bus for each worker, with its slaves, which agree with the list and whose answers are held.
 pub(crate) fn held<'a>(
+    rt: &impl Abort,
     alloc: Global,
     net: &Network,
     workers: usize,
     asked: &'a AtomicUsize,
     awaited: &'a AtomicUsize,
     least: usize,
-) -> Result<Vec<HeldBus<'a>>, AllocError> {
+) -> Vec<HeldBus<'a>> {
     let mut buses = Vec::new(alloc);
-    for slaves in agreeing(alloc, net, workers)? {
-        buses.push(HeldBus {
-            slaves,
+    for slaves in agreeing(rt, alloc, net, workers).iter() {
+        let bus = HeldBus {
+            slaves: *slaves,
             asked,
             awaited,
             least,
-        })?;
+        };
+        buses.push(bus).ok().expect(rt, "memory");
     }
-    Ok(buses)
+    buses
 }
