@@ -3,7 +3,7 @@
 ghost use Rattle.cm_register.specs.Naming.{Names};
 
 use crate::support::{
-    close, entry, frame, is_made, is_refused, lacks_seats, network, open, sees, sure,
+    close, entry, frame, is_made, is_refused, lacks_seats, named, network, open, sees, sure,
 };
 use cm_history::{Call, Orders, Reply};
 use cm_register::{CallFault, Closed, Opened, Register, RunName, Seat, SeatList};
@@ -11,13 +11,12 @@ use cm_simulated::SimWire;
 use std::marker::Brand;
 use std::process::Abort;
 use std::sync::Wait;
-use std::test::Fail;
 
 #[test]
-fn a_full_wire_refuses_a_call(rt: HostRuntime) -> Result<(), Fail> {
+fn a_full_wire_refuses_a_call(rt: HostRuntime) {
     let net = network(&rt, rt.alloc(), 1, &[(2, 0x05), (3, 0x15), (4, 0x05)]);
     let opened = open(&rt, rt.alloc(), &net, 1, 10, 1);
-    lacks_room::<Brand, _>(&rt, opened)
+    lacks_room::<Brand, _>(&rt, opened);
 }
 
 /// The start of the network finds no room on the wire, and a read does.
@@ -36,23 +35,22 @@ fn read_alone<K: RunName, R: Wait + Abort>(
     is_made(rt, read, 1, Reply::Refused(3));
 }
 
-fn lacks_room<K: RunName, R: Wait + Abort>(rt: &R, opened: Opened<SimWire>) -> Result<(), Fail>
+fn lacks_room<K: RunName, R: Wait + Abort>(rt: &R, opened: Opened<SimWire>)
     requires { Names K.RunName opened }
 {
-    let (register, mut seats) = opened.named::<K>().ok().expect(rt, "named");
+    let (register, mut seats) = named::<K>(rt, opened);
     read_alone(rt, &register, seats.as_mut_slice());
     let closed = close(rt, register, seats);
     let entries = [entry(1, Call::Read(2), Reply::Refused(3), Orders::None)];
     sure(rt, closed.history.as_slice() == entries.as_slice());
     sure(rt, closed.wire.sent().is_empty());
-    Ok(())
 }
 
 #[test]
-fn a_call_returns_what_is_recorded(rt: HostRuntime) -> Result<(), Fail> {
+fn a_call_returns_what_is_recorded(rt: HostRuntime) {
     let net = network(&rt, rt.alloc(), 1, &[]);
     let opened = open(&rt, rt.alloc(), &net, 2, 12, 10);
-    calls_in_turn::<Brand, _>(&rt, opened)
+    calls_in_turn::<Brand, _>(&rt, opened);
 }
 
 /// The number of a seat that comes at these places.
@@ -99,22 +97,21 @@ fn has_calls_in_turn(rt: &impl Abort, closed: &Closed<SimWire>) {
     sure(rt, closed.wire.sent() == [frame(rt, [0x82, 0])].as_slice());
 }
 
-fn calls_in_turn<K: RunName, R: Wait + Abort>(rt: &R, opened: Opened<SimWire>) -> Result<(), Fail>
+fn calls_in_turn<K: RunName, R: Wait + Abort>(rt: &R, opened: Opened<SimWire>)
     requires { Names K.RunName opened }
 {
-    let (register, mut seats) = opened.named::<K>().ok().expect(rt, "named");
+    let (register, mut seats) = named::<K>(rt, opened);
     call_in_turn(rt, &register, seats.as_mut_slice());
     seats.reverse();
     let closed = close(rt, register, seats);
     has_calls_in_turn(rt, &closed);
-    Ok(())
 }
 
 #[test]
-fn a_seat_that_was_dropped_is_missing(rt: HostRuntime) -> Result<(), Fail> {
+fn a_seat_that_was_dropped_is_missing(rt: HostRuntime) {
     let net = network(&rt, rt.alloc(), 1, &[(5, 0x05)]);
     let opened = open(&rt, rt.alloc(), &net, 2, 12, 10);
-    drops_a_seat::<Brand, _>(&rt, opened)
+    drops_a_seat::<Brand, _>(&rt, opened);
 }
 
 /// A seat that was handed back goes on.
@@ -134,13 +131,12 @@ fn goes_on<K: RunName, R: Wait + Abort>(
 
 /// A register and a seat that are handed back go on where another seat was dropped, and the register
 /// doesn't close.
-fn drops_a_seat<K: RunName, R: Wait + Abort>(rt: &R, opened: Opened<SimWire>) -> Result<(), Fail>
+fn drops_a_seat<K: RunName, R: Wait + Abort>(rt: &R, opened: Opened<SimWire>)
     requires { Names K.RunName opened }
 {
-    let (register, mut seats) = opened.named::<K>().ok().expect(rt, "named");
+    let (register, mut seats) = named::<K>(rt, opened);
     seats.truncate(1);
-    let (register, mut seats) = lacks_seats(rt, register, seats, 1)?;
+    let (register, mut seats) = lacks_seats(rt, register, seats, 1);
     goes_on(rt, &register, seats.as_mut_slice());
-    lacks_seats(rt, register, seats, 1)?;
-    Ok(())
+    lacks_seats(rt, register, seats, 1);
 }

@@ -1,17 +1,18 @@
 //! What the tests of several topics call and assert.
 
+ghost use Rattle.cm_register.specs.Naming.{Names};
+
 use arrayvec::ArrayVec;
 use cm_history::{Call, Entry, Orders, Reply};
 use cm_netlist::{Network, SlaveEntry};
 use cm_nmt::{Answers, Assignment, Frame, Got, NodeId, Startup, Terms};
 use cm_register::{
-    CallFault, CloseFault, CloseKind, Closed, Opened, Receipt, Register, RunName, Seat, Seen, Wire,
+    CallFault, CloseKind, Closed, Opened, Receipt, Register, RunName, Seat, Seen, Wire,
 };
 use cm_simulated::SimWire;
 use std::alloc::Global;
 use std::process::Abort;
 use std::sync::Wait;
-use std::test::Fail;
 
 // Each comparison is asserted here, since an assertion of its own in each place is long to prove.
 pub(crate) fn sure(rt: &impl Abort, is_so: bool) {
@@ -86,6 +87,16 @@ pub(crate) fn open<'n>(
     opened.ok().expect(rt, "a register")
 }
 
+/// The register, and its seats.
+pub(crate) fn named<'n, K: RunName>(
+    rt: &impl Abort,
+    opened: Opened<'n, SimWire>,
+) -> (Register<'n, SimWire, K>, Vec<Seat<K>>)
+    requires { Names K.RunName opened }
+{
+    opened.named::<K>().ok().expect(rt, "named")
+}
+
 /// What a register leaves that closes with these seats.
 pub(crate) fn close<W: Wire, K: RunName>(
     rt: &impl Abort,
@@ -143,19 +154,10 @@ pub(crate) fn lacks_seats<'n, K: RunName>(
     register: Register<'n, SimWire, K>,
     seats: Vec<Seat<K>>,
     missing: u16,
-) -> Result<(Register<'n, SimWire, K>, Vec<Seat<K>>), Fail> {
+) -> (Register<'n, SimWire, K>, Vec<Seat<K>>) {
     let given = seats.len();
-    match register.close(seats) {
-        Ok(_) => Err(Fail::from("closed")),
-        Err(fault) => {
-            sure(rt, fault.kind == CloseKind::SeatsMissing(missing));
-            sure(rt, fault.seats.len() == given);
-            let CloseFault {
-                kind: _,
-                register,
-                seats,
-            } = fault;
-            Ok((register, seats))
-        }
-    }
+    let fault = register.close(seats).err().expect(rt, "not closed");
+    sure(rt, fault.kind == CloseKind::SeatsMissing(missing));
+    sure(rt, fault.seats.len() == given);
+    (fault.register, fault.seats)
 }
