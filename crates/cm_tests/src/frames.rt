@@ -54,16 +54,6 @@ fn answers(rt: &impl Abort, question: Question, id: u16, data: &[u8], answer: Op
     sure(rt, answer_of(node(rt, 2), &question, &heard) == answer);
 }
 
-/// A write of so many bytes to 6060h sub 1.
-fn write_of(size: u8, value: u32) -> Question {
-    Question::Write(Write {
-        index: 0x6060,
-        sub: 1,
-        size,
-        value,
-    })
-}
-
 /// Asserts how a state is asked for: by a remote frame, or by none.
 fn asks_for_a_state(rt: &impl Abort) {
     let two = node(rt, 2);
@@ -85,10 +75,10 @@ fn a_question_is_asked_in_a_frame(rt: HostRuntime) {
     );
     let heartbeat = Question::Write(HEARTBEAT);
     asks(&rt, heartbeat, [0x2B, 0x17, 0x10, 0, 100, 0, 0, 0]);
-    let one = [0x2F, 0x60, 0x60, 1, 0x12, 0, 0, 0];
-    asks(&rt, write_of(1, 0x12), one);
-    let four = [0x23, 0x60, 0x60, 1, 0x78, 0x56, 0x34, 0x12];
-    asks(&rt, write_of(4, 0x1234_5678), four);
+    let one = Question::Write(Write::new(0x6060, 1, 1, 0x12));
+    asks(&rt, one, [0x2F, 0x60, 0x60, 1, 0x12, 0, 0, 0]);
+    let four = Question::Write(Write::new(0x6060, 1, 4, 0x1234_5678));
+    asks(&rt, four, [0x23, 0x60, 0x60, 1, 0x78, 0x56, 0x34, 0x12]);
     asks_for_a_state(&rt);
 }
 
