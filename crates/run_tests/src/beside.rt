@@ -137,13 +137,14 @@ fn an_operator_calls_while_a_worker_boots(rt: HostRuntime) {
         entries: 5,
         sessions: 1,
     };
-    for story in [
+    let stories = [
         boots_up(id, 2, Last::Status(Status::Ok), 6),
         boots_up(id, 1, Last::Refused(7), 4),
         held,
-    ] {
+    ];
+    for story in stories.iter() {
         let net = network(&rt, rt.alloc(), 127, &[(2, 0x0D)]);
         let opened = open(&rt, rt.alloc(), &net, 2, 20, 10);
-        tells::<Brand, _>(&rt, rt.alloc(), opened, &story);
+        tells::<Brand, _>(&rt, rt.alloc(), opened, story);
     }
 }
