@@ -34,18 +34,14 @@ fn a_line_of_a_log_is_a_frame(rt: HostRuntime) {
         0x5FF,
         Some(&[0, 0x11, 0x22, 0x33, 0x44, 0x55, 0x66, 0x77]),
     );
-    for line in [
-        b"(1.5) can0 702#R".as_slice(),
-        b"(1.5) can0 702#R0",
-        b"(1.5) can0 702#R8",
-    ] {
-        logs(&rt, line, 0x702, None);
-    }
+    logs(&rt, b"(1.5) can0 702#R", 0x702, None);
+    logs(&rt, b"(1.5) can0 702#R0", 0x702, None);
+    logs(&rt, b"(1.5) can0 702#R8", 0x702, None);
 }
 
 #[test]
 fn any_other_line_of_a_log_is_none(rt: HostRuntime) {
-    for line in [
+    let lines = [
         b"".as_slice(),
         b"(1.5) can0",
         b"(1.5) can0 ",
@@ -72,35 +68,39 @@ fn any_other_line_of_a_log_is_none(rt: HostRuntime) {
         b"(1.5) can0 123#r",
         b"(1.5) can0 123#00\r",
         b"\xFF\x00\x80",
-    ] {
-        sure(&rt, read_log_line(line) == None);
+    ];
+    for line in lines.iter() {
+        sure(&rt, read_log_line(*line) == None);
     }
+}
+
+/// Asserts that the frame is written so for can-utils and for an adapter, and is read again of the latter.
+fn is_written(rt: &impl Abort, frame: &CanFrame, text: &[u8], adapter: &[u8]) {
+    sure(rt, frame_text(frame).as_slice() == text);
+    sure(rt, adapter_text(frame).as_slice() == adapter);
+    sure(rt, read_adapter_line(adapter) == Some(*frame));
 }
 
 #[test]
 fn a_frame_is_written_as_it_is_read(rt: HostRuntime) {
     let eight = [0, 1, 0x7F, 0x80, 0x9A, 0xBC, 0xDE, 0xFF];
-    for (id, data, text, adapter) in [
-        (
-            0x602,
-            Some(eight.as_slice()),
-            b"602#00017F809ABCDEFF".as_slice(),
-            b"t602800017F809ABCDEFF".as_slice(),
-        ),
-        (0, Some([1, 0].as_slice()), b"000#0100", b"t00020100"),
-        (0x7FF, Some([].as_slice()), b"7FF#", b"t7FF0"),
-        (0x702, None, b"702#R", b"r7020"),
-    ] {
-        let frame = frame(&rt, id, data);
-        sure(&rt, frame_text(&frame).as_slice() == text);
-        sure(&rt, adapter_text(&frame).as_slice() == adapter);
-        sure(&rt, read_adapter_line(adapter) == Some(frame));
-    }
+    let of_eight = frame(&rt, 0x602, Some(eight.as_slice()));
+    is_written(
+        &rt,
+        &of_eight,
+        b"602#00017F809ABCDEFF",
+        b"t602800017F809ABCDEFF",
+    );
+    let of_two = frame(&rt, 0, Some([1, 0].as_slice()));
+    is_written(&rt, &of_two, b"000#0100", b"t00020100");
+    let of_none = frame(&rt, 0x7FF, Some([].as_slice()));
+    is_written(&rt, &of_none, b"7FF#", b"t7FF0");
+    is_written(&rt, &frame(&rt, 0x702, None), b"702#R", b"r7020");
 }
 
 #[test]
 fn any_other_line_of_an_adapter_is_none(rt: HostRuntime) {
-    for line in [
+    let lines = [
         b"".as_slice(),
         b"z",
         b"\x07",
@@ -118,9 +118,14 @@ fn any_other_line_of_an_adapter_is_none(rt: HostRuntime) {
         b"r123000",
         b"R000001230",
         b"V1013",
-    ] {
-        sure(&rt, read_adapter_line(line) == None);
+    ];
+    for line in lines.iter() {
+        sure(&rt, read_adapter_line(*line) == None);
     }
+}
+
+#[test]
+fn a_remote_frame_says_how_much_is_asked_for(rt: HostRuntime) {
     let remote = CanId::new(0x123).map(|id| CanFrame::remote(id));
     sure(&rt, read_adapter_line(b"r1238") == remote);
     sure(&rt, remote.is_some_and(|frame| frame.kind == Kind::Remote));

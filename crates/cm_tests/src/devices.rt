@@ -3,11 +3,10 @@
 
 ghost use Rattle.std.specs.Prelude.{⊤};
 
-use crate::support::{node, sure, terms_of};
-use arrayvec::ArrayVec;
+use crate::support::{network, node, sure, terms_of, write_at};
 use cm_boot::{Answer, Bus, Question, boot_slave, judge};
-use cm_netlist::{Network, SlaveEntry};
-use cm_nmt::{Answers, Got, Heard, NmtState, NodeId, Startup, Status, Terms, Write};
+use cm_netlist::Network;
+use cm_nmt::{Answers, Got, Heard, NmtState, NodeId, Status, Terms};
 use std::alloc::Global;
 use std::process::Abort;
 
@@ -62,16 +61,6 @@ const CODES: [u32; 33] = [
     0,
     0xFFFF_FFFF,
 ];
-
-/// The write at this place of the list.
-fn write_at(place: u8) -> Write {
-    Write {
-        index: 0x2000 | u16::from(place),
-        sub: 1,
-        size: 4,
-        value: 7,
-    }
-}
 
 /// The question of this place in a full boot.
 fn question_at(place: u8) -> Question {
@@ -141,9 +130,9 @@ impl Bus for Device {
     }
 }
 
-/// A network that lists node 2 with all that a full boot asks for.
-fn network(rt: &impl Abort, alloc: Global) -> Network {
-    let terms = Terms {
+/// All that a full boot asks for.
+fn full_terms() -> Terms {
+    Terms {
         device_type: TYPE,
         vendor: IDENTITY[0],
         product: IDENTITY[1],
@@ -154,17 +143,7 @@ fn network(rt: &impl Abort, alloc: Global) -> Network {
         time: TIME - 1,
         writes: 32,
         ..terms_of(0x1D)
-    };
-    let mut writes = ArrayVec::new();
-    for place in 0..32 {
-        if !writes.is_full() {
-            writes.push(write_at(place));
-        }
     }
-    let entry = SlaveEntry::from_terms(terms, writes);
-    let mut network = Network::new(alloc, node(rt, 1), Startup(1), 0);
-    sure(rt, network.add(node(rt, 2), entry).is_ok());
-    network
 }
 
 /// Records the right answer of this place.
@@ -220,6 +199,13 @@ fn status_of(place: u8) -> Status {
     }
 }
 
+/// Asserts that these begin with the questions up to the last place.
+fn begin_with(rt: &impl Abort, asked: &[Question], last: u8) {
+    for (at, question) in (0..=last).zip(asked.iter()) {
+        sure(rt, *question == question_at(at));
+    }
+}
+
 /// Asserts that these are the questions up to that place, and the first write where date or time failed.
 fn are_asked(rt: &impl Abort, asked: &[Question], place: u8) {
     let last = if place < QUESTIONS {
@@ -230,9 +216,7 @@ fn are_asked(rt: &impl Abort, asked: &[Question], place: u8) {
     let behind = place == 6 || place == 7;
     let count = usize::from(last) + 1 + usize::from(behind);
     sure(rt, asked.len() == count);
-    for (at, question) in (0..=last).zip(asked.iter()) {
-        sure(rt, *question == question_at(at));
-    }
+    begin_with(rt, asked, last);
     sure(rt, !behind || asked.last() == Some(&question_at(8)));
 }
 
@@ -246,21 +230,24 @@ fn fails_at(rt: &impl Abort, network: &Network, place: u8, then: Answer, failure
     sure(rt, judge(network, id, &answers) == Some(status_of(place)));
 }
 
-#[test]
-fn a_device_is_silent_behind_each_question(rt: HostRuntime) {
-    let network = network(&rt, rt.alloc());
+/// Boots a device that fails behind each question, and one that doesn't.
+fn fails_at_each(rt: &impl Abort, network: &Network, then: Answer, failure: Got) {
     for place in 0..QUESTIONS + 1 {
-        fails_at(&rt, &network, place, Answer::Silent, Got::Silent);
+        fails_at(rt, network, place, then, failure);
     }
 }
 
 #[test]
+fn a_device_is_silent_behind_each_question(rt: HostRuntime) {
+    let network = network(&rt, rt.alloc(), full_terms());
+    fails_at_each(&rt, &network, Answer::Silent, Got::Silent);
+}
+
+#[test]
 fn a_device_aborts_with_each_code(rt: HostRuntime) {
-    let network = network(&rt, rt.alloc());
-    for code in CODES {
-        for place in 0..QUESTIONS + 1 {
-            fails_at(&rt, &network, place, Answer::Abort(code), Got::Abort(code));
-        }
+    let network = network(&rt, rt.alloc(), full_terms());
+    for code in CODES.iter() {
+        fails_at_each(&rt, &network, Answer::Abort(*code), Got::Abort(*code));
     }
 }
 
@@ -275,9 +262,7 @@ fn gives_one_value(
     asked: usize,
 ) {
     let id = node(rt, 2);
-    let entry = SlaveEntry::from_terms(terms, ArrayVec::new());
-    let mut network = Network::new(alloc, node(rt, 1), Startup(1), 0);
-    sure(rt, network.add(id, entry).is_ok());
+    let network = network(rt, alloc, terms);
     let mut device = Device::new(0, Answer::Value(value));
     let answers = boot_slave(&mut device, &network, id);
     sure(rt, device.count == asked);
@@ -292,15 +277,13 @@ fn a_device_answers_everything_with_one_value(rt: HostRuntime) {
         device_type: TYPE,
         ..terms_of(0x0D)
     };
-    for (value, status) in [
-        (TYPE, Status::Ok),
-        (TYPE % 0x100, Status::C),
-        (TYPE % 0x1_0000, Status::C),
-        (0, Status::C),
-        (0xFFFF_FFFF, Status::C),
-    ] {
-        gives_one_value(&rt, rt.alloc(), expected, value, status, 1);
-    }
+    gives_one_value(&rt, rt.alloc(), expected, TYPE, Status::Ok, 1);
+    let byte = TYPE % 0x100;
+    gives_one_value(&rt, rt.alloc(), expected, byte, Status::C, 1);
+    let two_bytes = TYPE % 0x1_0000;
+    gives_one_value(&rt, rt.alloc(), expected, two_bytes, Status::C, 1);
+    gives_one_value(&rt, rt.alloc(), expected, 0, Status::C, 1);
+    gives_one_value(&rt, rt.alloc(), expected, 0xFFFF_FFFF, Status::C, 1);
     let vendor = Terms {
         vendor: IDENTITY[0],
         ..expected
@@ -344,9 +327,9 @@ fn boots_as_it_is(rt: &impl Abort, network: &Network, device: &mut Device, right
 /// device that answered in it.
 #[test]
 fn a_device_is_exchanged_between_two_boots(rt: HostRuntime) {
-    let network = network(&rt, rt.alloc());
+    let network = network(&rt, rt.alloc(), full_terms());
     let mut device = Device::new(0, Answer::Value(IDENTITY[0] + 1));
-    for right in [QUESTIONS, 1, QUESTIONS] {
-        boots_as_it_is(&rt, &network, &mut device, right);
-    }
+    boots_as_it_is(&rt, &network, &mut device, QUESTIONS);
+    boots_as_it_is(&rt, &network, &mut device, 1);
+    boots_as_it_is(&rt, &network, &mut device, QUESTIONS);
 }

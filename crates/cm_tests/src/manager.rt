@@ -73,44 +73,44 @@ fn take(rt: &impl Abort, compact: &mut CompactReplay, entries: &[Entry])
     }
 }
 
+/// Asserts with which code, if with one, a transfer is aborted for this refusal.
+fn has_code(rt: &impl Abort, refusal: u8, code: Option<u32>) {
+    assert_eq!(rt; abort_code(refusal), code, "{refusal}");
+}
+
 #[test]
 fn two_refusals_have_an_abort_code(rt: HostRuntime) {
-    for (refusal, code) in [
-        (0, None),
-        (1, None),
-        (10, None),
-        (11, Some(0x0609_0030)),
-        (12, Some(0x0800_0022)),
-        (13, None),
-        (255, None),
-    ] {
-        assert_eq!(rt; abort_code(refusal), code, "{refusal}");
-    }
+    has_code(&rt, 0, None);
+    has_code(&rt, 1, None);
+    has_code(&rt, 10, None);
+    has_code(&rt, 11, Some(0x0609_0030));
+    has_code(&rt, 12, Some(0x0800_0022));
+    has_code(&rt, 13, None);
+    has_code(&rt, 255, None);
+}
+
+/// Makes a call, and asserts how many sessions were begun up to it.
+fn begins(rt: &impl Abort, manager: &mut Manager, call: Call, begun: u64) {
+    assert!(rt; manager.begun() < 1000);
+    manager.apply(call);
+    assert_eq!(rt; manager.begun(), begun, "{call:?}");
 }
 
 #[test]
 fn sessions_are_counted_over_every_start(rt: HostRuntime) {
+    let (two, three) = (node(&rt, 2), node(&rt, 3));
     let mut manager = Manager::new(&network(&rt, rt.alloc(), &[(2, 0x0D), (3, 0x05)]));
-    for (place, (call, begun)) in [
-        (Call::Begin(node(&rt, 2)), 0),
-        (Call::StartNetwork, 0),
-        (Call::Begin(node(&rt, 2)), 1),
-        // refused: a session is there
-        (Call::Begin(node(&rt, 2)), 1),
-        (Call::Begin(node(&rt, 3)), 2),
-        // the session is dropped, and stays counted
-        (Call::Signal(node(&rt, 2), 0), 2),
-        (Call::Begin(node(&rt, 2)), 3),
-        (Call::Request(128, 6), 3),
-        (Call::Begin(node(&rt, 2)), 4),
-    ]
-    .iter()
-    .enumerate()
-    {
-        assert!(rt; manager.begun() < 1000);
-        manager.apply(*call);
-        assert_eq!(rt; manager.begun(), *begun, "call {place}: {call:?}");
-    }
+    begins(&rt, &mut manager, Call::Begin(two), 0);
+    begins(&rt, &mut manager, Call::StartNetwork, 0);
+    begins(&rt, &mut manager, Call::Begin(two), 1);
+    // refused: a session is there
+    begins(&rt, &mut manager, Call::Begin(two), 1);
+    begins(&rt, &mut manager, Call::Begin(three), 2);
+    // the session is dropped, and stays counted
+    begins(&rt, &mut manager, Call::Signal(two, 0), 2);
+    begins(&rt, &mut manager, Call::Begin(two), 3);
+    begins(&rt, &mut manager, Call::Request(128, 6), 3);
+    begins(&rt, &mut manager, Call::Begin(two), 4);
 }
 
 /// Answers with which a slave of which no value is expected boots.
@@ -121,11 +121,19 @@ fn answers() -> Answers {
     }
 }
 
+/// Makes a call, and asserts how many mandatory slaves are open behind it, and in which phase the network is.
+fn leaves_open(rt: &impl Abort, manager: &mut Manager, call: Call, open: u8, phase: Phase) {
+    assert!(rt; manager.begun() < 1000);
+    manager.apply(call);
+    sure(rt, manager.open_mandatory() == open);
+    sure(rt, manager.phase() == phase);
+}
+
 #[test]
 fn open_slaves_are_counted(rt: HostRuntime) {
-    let [two, three] = [node(&rt, 2), node(&rt, 3)];
+    let (two, three) = (node(&rt, 2), node(&rt, 3));
     let mut manager = Manager::new(&network(&rt, rt.alloc(), &[(2, 0x0D), (3, 0x0D)]));
-    for (call, open, phase) in [
+    let calls = [
         (Call::StartNetwork, 2, Phase::Booting),
         (Call::Begin(two), 2, Phase::Booting),
         (Call::Report(two, 1, answers()), 1, Phase::Booting),
@@ -135,11 +143,9 @@ fn open_slaves_are_counted(rt: HostRuntime) {
         (Call::Report(two, 2, answers()), 1, Phase::Booting),
         (Call::Begin(three), 1, Phase::Booting),
         (Call::Report(three, 3, answers()), 0, Phase::Ready),
-    ] {
-        assert!(rt; manager.begun() < 1000);
-        manager.apply(call);
-        sure(&rt, manager.open_mandatory() == open);
-        sure(&rt, manager.phase() == phase);
+    ];
+    for (call, open, phase) in calls.iter() {
+        leaves_open(&rt, &mut manager, *call, *open, *phase);
     }
     sure(&rt, manager.own() == NmtState::Operational);
 }
@@ -153,12 +159,31 @@ fn every_node_but_the_manager_may_be_open(rt: HostRuntime) {
     sure(&rt, Manager::new(&network).open_mandatory() == 126);
 }
 
+/// Answers a call and carries it out at one manager, and applies it at another that was equal: asserts that
+/// they are equal still, and in which state node 2 is shown.
+fn is_answered_first(
+    rt: &impl Abort,
+    asked: &mut Manager,
+    applied: &mut Manager,
+    call: Call,
+    shown: u8,
+) {
+    assert!(rt; asked.begun() < 1000 && applied.begun() < 1000);
+    let before = *asked;
+    let (reply, orders) = asked.answer(&call);
+    sure(rt, *asked == before);
+    asked.carry_out(&call, reply, &orders);
+    sure(rt, applied.apply(call) == (reply, orders));
+    sure(rt, *asked == *applied);
+    sure(rt, asked.shown(node(rt, 2)) == shown);
+}
+
 #[test]
 fn a_call_is_answered_before_it_is_carried_out(rt: HostRuntime) {
     let two = node(&rt, 2);
     let mut asked = Manager::new(&network(&rt, rt.alloc(), &[(2, 0x0D)]));
     let mut applied = asked;
-    for (call, shown) in [
+    let calls = [
         (Call::Begin(two), 0),
         (Call::StartNetwork, 0),
         (Call::Begin(two), 0),
@@ -171,62 +196,65 @@ fn a_call_is_answered_before_it_is_carried_out(rt: HostRuntime) {
         (Call::Elapsed(1), 127),
         (Call::Hold(two), 4),
         (Call::Release(two), 4),
-    ] {
-        assert!(rt; asked.begun() < 1000 && applied.begun() < 1000);
-        let before = asked;
-        let (reply, orders) = asked.answer(&call);
-        sure(&rt, asked == before);
-        asked.carry_out(&call, reply, &orders);
-        sure(&rt, applied.apply(call) == (reply, orders));
-        sure(&rt, asked == applied);
-        sure(&rt, asked.shown(two) == shown);
+    ];
+    for (call, shown) in calls.iter() {
+        is_answered_first(&rt, &mut asked, &mut applied, *call, *shown);
     }
     sure(&rt, asked.shown(node(&rt, 1)) == 5);
+}
+
+/// Asserts which frames these orders send in the network.
+fn sends(rt: &impl Abort, net: &Network, orders: Orders, sent: &[Frame]) {
+    assert_eq!(rt; frames(net, orders).as_slice(), sent);
 }
 
 #[test]
 fn orders_send_their_frames(rt: HostRuntime) {
     let to_all = [frame(&rt, 0x82, 0)];
-    let to_each = [frame(&rt, 0x82, 2), frame(&rt, 0x82, 4)];
     let without = network(&rt, rt.alloc(), &[]);
+    sends(&rt, &without, Orders::ResetUnkept, &to_all);
     let none_kept = network(&rt, rt.alloc(), &[(4, 0x05), (2, 0x0D)]);
-    let one_kept = network(&rt, rt.alloc(), &[(4, 0x05), (3, 0x15), (2, 0x05)]);
+    sends(&rt, &none_kept, Orders::ResetUnkept, &to_all);
     let all_kept = network(&rt, rt.alloc(), &[(2, 0x1D)]);
-    for (net, resets) in [
-        (&without, to_all.as_slice()),
-        (&none_kept, to_all.as_slice()),
-        (&one_kept, to_each.as_slice()),
-    ] {
-        assert_eq!(rt; frames(net, Orders::ResetUnkept).as_slice(), resets);
-    }
-    assert!(rt; frames(&all_kept, Orders::ResetUnkept).is_empty());
-    assert!(rt; frames(&one_kept, Orders::None).is_empty());
-    for number in [0, 3] {
-        let sent = frames(&one_kept, start_of(&rt, Some(number)));
-        assert_eq!(rt; sent.as_slice(), [frame(&rt, 0x01, number)].as_slice());
-    }
+    sends(&rt, &all_kept, Orders::ResetUnkept, &[]);
+}
+
+#[test]
+fn a_slave_that_is_kept_alive_is_sent_no_reset(rt: HostRuntime) {
+    let to_each = [frame(&rt, 0x82, 2), frame(&rt, 0x82, 4)];
+    let net = network(&rt, rt.alloc(), &[(4, 0x05), (3, 0x15), (2, 0x05)]);
+    sends(&rt, &net, Orders::ResetUnkept, &to_each);
+    sends(&rt, &net, Orders::None, &[]);
+    sends(&rt, &net, start_of(&rt, Some(0)), &[frame(&rt, 0x01, 0)]);
+    sends(&rt, &net, start_of(&rt, Some(3)), &[frame(&rt, 0x01, 3)]);
+}
+
+/// Asserts that a boot is replayed up to the entry at this place, if to one, whose answer is wrong.
+fn is_replayed<R: Abort + AllocGlobal>(
+    rt: &R,
+    net: &Network,
+    entries: &[Entry],
+    fault: Option<usize>,
+) {
+    assert_eq!(rt; replay_to_fault(net, entries).err(), fault);
+    assert_eq!(rt; replay(net, entries).is_some(), fault.is_none());
+    let mut compact = CompactReplay::new(rt.alloc(), net);
+    let taken = compact.take_all(entries);
+    let cause = Cause::WrongReply;
+    let wrong = fault.map(|place| Untaken { place, cause });
+    assert_eq!(rt; taken.err(), wrong);
 }
 
 #[test]
 fn histories_are_replayed_to_the_first_wrong_answer(rt: HostRuntime) {
     let net = network(&rt, rt.alloc(), &[(2, 0x0D)]);
-    for (session, status, started, fault) in [
-        (1, Status::Ok, Some(2), None),
-        (1, Status::J, Some(2), Some(2)),
-        (1, Status::Ok, None, Some(2)),
-        (1, Status::Ok, Some(0), Some(2)),
-        // the first of two
-        (2, Status::J, Some(2), Some(1)),
-    ] {
-        let entries = boot(&rt, session, status, started);
-        assert_eq!(rt; replay_to_fault(&net, &entries).err(), fault);
-        assert_eq!(rt; replay(&net, &entries).is_some(), fault.is_none());
-        let mut compact = CompactReplay::new(rt.alloc(), &net);
-        let taken = compact.take_all(&entries);
-        let cause = Cause::WrongReply;
-        let wrong = fault.map(|place| Untaken { place, cause });
-        assert_eq!(rt; taken.err(), wrong);
-    }
+    let right = boot(&rt, 1, Status::Ok, Some(2));
+    is_replayed(&rt, &net, &right, None);
+    is_replayed(&rt, &net, &boot(&rt, 1, Status::J, Some(2)), Some(2));
+    is_replayed(&rt, &net, &boot(&rt, 1, Status::Ok, None), Some(2));
+    is_replayed(&rt, &net, &boot(&rt, 1, Status::Ok, Some(0)), Some(2));
+    // the first of two
+    is_replayed(&rt, &net, &boot(&rt, 2, Status::J, Some(2)), Some(1));
     assert!(rt; replay(&net, &[]).is_some());
 }
 

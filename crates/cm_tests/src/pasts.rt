@@ -109,9 +109,7 @@ fn grows<K: HistoryName, R: Abort>(
     let Ok(mut writer) = history.named::<K>(alloc) else {
         return Err(Fail::from("named"));
     };
-    let Ok(reader) = writer.reader() else {
-        return Err(Fail::from("reader"));
-    };
+    let reader = writer.reader().ok().expect(rt, "a reader");
     let (own, slave) = (net.own_id(), node(rt, 2));
     let none = writer.past();
     sees(rt, &reader, &none, own, 0, 127);
@@ -126,9 +124,7 @@ fn grows<K: HistoryName, R: Abort>(
     show(&mut manager, &mut writer, own, Call::Request(128, 5))?;
     sees(rt, &reader, &two, slave, 3, 5);
     sees(rt, &reader, &none, own, 3, 5);
-    let Ok(late) = writer.reader() else {
-        return Err(Fail::from("reader"));
-    };
+    let late = writer.reader().ok().expect(rt, "a reader");
     sees(rt, &late, &none, slave, 3, 5);
     sees(rt, &late, &none, node(rt, 3), 3, 0);
     drop(writer);

@@ -3,87 +3,86 @@
 ghost use Rattle.cm_register.specs.Naming.{Names};
 
 use crate::support::{
-    close, entry, frame, is_made, is_refused, lacks_seats, network, open, sees, sure,
+    close, entry, frame, is_made, is_refused, lacks_seats, named, network, open, sees, sure,
 };
 use cm_history::{Call, Orders, Reply};
-use cm_register::{CallFault, Opened, RunName, SeatList};
+use cm_register::{CallFault, Closed, Opened, Register, RunName, Seat, SeatList};
 use cm_simulated::SimWire;
 use std::marker::Brand;
 use std::process::Abort;
 use std::sync::Wait;
-use std::test::Fail;
 
 #[test]
-fn a_full_wire_refuses_a_call(rt: HostRuntime) -> Result<(), Fail> {
+fn a_full_wire_refuses_a_call(rt: HostRuntime) {
     let net = network(&rt, rt.alloc(), 1, &[(2, 0x05), (3, 0x15), (4, 0x05)]);
-    let opened = open(rt.alloc(), &net, 1, 10, 1)?;
-    lacks_room::<Brand, _>(&rt, opened)
+    let opened = open(&rt, rt.alloc(), &net, 1, 10, 1);
+    lacks_room::<Brand, _>(&rt, opened);
 }
 
-fn lacks_room<K: RunName, R: Wait + Abort>(rt: &R, opened: Opened<SimWire>) -> Result<(), Fail>
-    requires { Names K.RunName opened }
-{
-    let Ok((register, mut seats)) = opened.named::<K>() else {
-        return Err(Fail::from("named"));
-    };
-    let [seat] = seats.as_mut_slice() else {
-        return Err(Fail::from("seats"));
+/// The start of the network finds no room on the wire, and a read does.
+fn read_alone<K: RunName, R: Wait + Abort>(
+    rt: &R,
+    register: &Register<SimWire, K>,
+    seats: &mut [Seat<K>],
+) {
+    let [seat] = seats else {
+        return sure(rt, false);
     };
     let start = register.call(rt, seat, Call::StartNetwork);
     is_refused(rt, start, CallFault::WireFull);
     sure(rt, seat.list().is_empty());
-    is_made(
-        rt,
-        register.call(rt, seat, Call::Read(2)),
-        1,
-        Reply::Refused(3),
-    );
-    let closed = close(register, seats)?;
+    let read = register.call(rt, seat, Call::Read(2));
+    is_made(rt, read, 1, Reply::Refused(3));
+}
+
+fn lacks_room<K: RunName, R: Wait + Abort>(rt: &R, opened: Opened<SimWire>)
+    requires { Names K.RunName opened }
+{
+    let (register, mut seats) = named::<K>(rt, opened);
+    read_alone(rt, &register, seats.as_mut_slice());
+    let closed = close(rt, register, seats);
     let entries = [entry(1, Call::Read(2), Reply::Refused(3), Orders::None)];
     sure(rt, closed.history.as_slice() == entries.as_slice());
     sure(rt, closed.wire.sent().is_empty());
-    Ok(())
 }
 
 #[test]
-fn a_call_returns_what_is_recorded(rt: HostRuntime) -> Result<(), Fail> {
+fn a_call_returns_what_is_recorded(rt: HostRuntime) {
     let net = network(&rt, rt.alloc(), 1, &[]);
-    let opened = open(rt.alloc(), &net, 2, 12, 10)?;
-    calls_in_turn::<Brand, _>(&rt, opened)
+    let opened = open(&rt, rt.alloc(), &net, 2, 12, 10);
+    calls_in_turn::<Brand, _>(&rt, opened);
 }
 
 /// The number of a seat that comes at these places.
 fn has_places(list: &SeatList, number: u16, places: &[u32]) -> bool {
+    let made = list.made.as_slice();
     list.number == number
-        && list.made.len() == places.len()
-        && list
-            .made
+        && made.len() == places.len()
+        && made
             .iter()
             .zip(places.iter())
             .all(|(made, place)| made.position == *place)
 }
 
-fn calls_in_turn<K: RunName, R: Wait + Abort>(rt: &R, opened: Opened<SimWire>) -> Result<(), Fail>
-    requires { Names K.RunName opened }
-{
-    let Ok((register, mut seats)) = opened.named::<K>() else {
-        return Err(Fail::from("named"));
+/// The first seat calls, the second, and the first again.
+fn call_in_turn<K: RunName, R: Wait + Abort>(
+    rt: &R,
+    register: &Register<SimWire, K>,
+    seats: &mut [Seat<K>],
+) {
+    let [first, second] = seats else {
+        return sure(rt, false);
     };
-    let Some(mut second) = seats.pop() else {
-        return Err(Fail::from("seats"));
-    };
-    let Some(mut first) = seats.pop() else {
-        return Err(Fail::from("seats"));
-    };
-    let started = register.call(rt, &mut first, Call::StartNetwork);
-    let read = register.call(rt, &mut second, Call::Read(1));
-    let elapsed = register.call(rt, &mut first, Call::Elapsed(0));
+    let started = register.call(rt, first, Call::StartNetwork);
     is_made(rt, started, 1, Reply::Started);
+    let read = register.call(rt, second, Call::Read(1));
     is_made(rt, read, 2, Reply::State(127));
+    let elapsed = register.call(rt, first, Call::Elapsed(0));
     is_made(rt, elapsed, 3, Reply::InTime);
-    seats.push(second)?;
-    seats.push(first)?;
-    let closed = close(register, seats)?;
+}
+
+/// What such calls leave, where the second seat was given back first.
+fn has_calls_in_turn(rt: &impl Abort, closed: &Closed<SimWire>) {
     let entries = [
         entry(1, Call::StartNetwork, Reply::Started, Orders::ResetUnkept),
         entry(2, Call::Read(1), Reply::State(127), Orders::None),
@@ -91,38 +90,53 @@ fn calls_in_turn<K: RunName, R: Wait + Abort>(rt: &R, opened: Opened<SimWire>) -
     ];
     sure(rt, closed.history.as_slice() == entries.as_slice());
     let [one, other] = closed.lists.as_slice() else {
-        return Err(Fail::from("lists"));
+        return sure(rt, false);
     };
     sure(rt, has_places(one, 2, &[2]));
     sure(rt, has_places(other, 1, &[1, 3]));
     sure(rt, closed.wire.sent() == [frame(rt, [0x82, 0])].as_slice());
-    Ok(())
+}
+
+fn calls_in_turn<K: RunName, R: Wait + Abort>(rt: &R, opened: Opened<SimWire>)
+    requires { Names K.RunName opened }
+{
+    let (register, mut seats) = named::<K>(rt, opened);
+    call_in_turn(rt, &register, seats.as_mut_slice());
+    seats.reverse();
+    let closed = close(rt, register, seats);
+    has_calls_in_turn(rt, &closed);
 }
 
 #[test]
-fn a_seat_that_was_dropped_is_missing(rt: HostRuntime) -> Result<(), Fail> {
+fn a_seat_that_was_dropped_is_missing(rt: HostRuntime) {
     let net = network(&rt, rt.alloc(), 1, &[(5, 0x05)]);
-    let opened = open(rt.alloc(), &net, 2, 12, 10)?;
-    drops_a_seat::<Brand, _>(&rt, opened)
+    let opened = open(&rt, rt.alloc(), &net, 2, 12, 10);
+    drops_a_seat::<Brand, _>(&rt, opened);
 }
 
-/// A register and a seat that are handed back go on where another seat was dropped, and the register
-/// doesn't close.
-fn drops_a_seat<K: RunName, R: Wait + Abort>(rt: &R, opened: Opened<SimWire>) -> Result<(), Fail>
-    requires { Names K.RunName opened }
-{
-    let Ok((register, mut seats)) = opened.named::<K>() else {
-        return Err(Fail::from("named"));
-    };
-    seats.truncate(1);
-    let (register, mut seats) = lacks_seats(rt, register, seats, 1)?;
-    let [seat] = seats.as_mut_slice() else {
-        return Err(Fail::from("seats"));
+/// A seat that was handed back goes on.
+fn goes_on<K: RunName, R: Wait + Abort>(
+    rt: &R,
+    register: &Register<SimWire, K>,
+    seats: &mut [Seat<K>],
+) {
+    let [seat] = seats else {
+        return sure(rt, false);
     };
     sees(rt, seat, 5, 0, 0);
     let read = register.call(rt, seat, Call::Read(1));
     is_made(rt, read, 1, Reply::Refused(3));
     sees(rt, seat, 5, 1, 0);
-    lacks_seats(rt, register, seats, 1)?;
-    Ok(())
+}
+
+/// A register and a seat that are handed back go on where another seat was dropped, and the register
+/// doesn't close.
+fn drops_a_seat<K: RunName, R: Wait + Abort>(rt: &R, opened: Opened<SimWire>)
+    requires { Names K.RunName opened }
+{
+    let (register, mut seats) = named::<K>(rt, opened);
+    seats.truncate(1);
+    let (register, mut seats) = lacks_seats(rt, register, seats, 1);
+    goes_on(rt, &register, seats.as_mut_slice());
+    lacks_seats(rt, register, seats, 1);
 }

@@ -10,7 +10,6 @@ use std::marker::Brand;
 use std::process::Abort;
 use std::sync::Wait;
 use std::sync::atomic::{AtomicUsize, Ordering};
-use std::test::Fail;
 use std::thread;
 use std::thread::Threads;
 
@@ -80,49 +79,55 @@ fn read_while_held<K: RunName>(rt: &impl Abort, seat: &mut Seat<K>, counts: &Cou
 }
 
 /// Seat 1 calls, and each other seat reads, all at once.
-fn reads_beside_a_held_frame<K: RunName + Send + Sync, R: Wait + Threads + Abort + Send + Sync>(
+fn call_and_read<K: RunName + Send + Sync, R: Wait + Threads + Abort + Send + Sync>(
     rt: &R,
-    opened: Opened<HoldingWire>,
+    register: &Register<HoldingWire, K>,
+    seats: &mut [Seat<K>],
     counts: &Counts,
-) -> Result<(), Fail>
-    requires { Names K.RunName opened }
-{
-    let Ok((register, mut seats)) = opened.named::<K>() else {
-        return Err(Fail::from("named"));
-    };
+) {
     sure(rt, seats.len() == READERS + 1);
     thread::for_each_mut(
         rt,
-        seats.as_mut_slice(),
+        seats,
         READERS + 1,
         &|place, seat| {
             if place == 0 {
-                stop_the_slave(rt, &register, seat);
+                stop_the_slave(rt, register, seat);
             } else {
                 read_while_held(rt, seat, counts);
             }
         },
     );
-    let closed = close(register, seats)?;
+}
+
+/// The same, and the register closes.
+fn reads_beside_a_held_frame<K: RunName + Send + Sync, R: Wait + Threads + Abort + Send + Sync>(
+    rt: &R,
+    opened: Opened<HoldingWire>,
+    counts: &Counts,
+)
+    requires { Names K.RunName opened }
+{
+    let (register, mut seats) = opened.named::<K>().ok().expect(rt, "named");
+    call_and_read(rt, &register, seats.as_mut_slice(), counts);
+    let closed = close(rt, register, seats);
     sure(rt, closed.wire.were_read);
     sure(rt, closed.wire.wire.sent().len() == 2);
-    Ok(())
 }
 
 #[test]
-fn reads_return_while_a_frame_is_held(rt: HostRuntime) -> Result<(), Fail> {
+fn reads_return_while_a_frame_is_held(rt: HostRuntime) {
     let net = network(&rt, rt.alloc(), 1, &[(5, 0x05)]);
     let counts = Counts {
         held: AtomicUsize::new(0),
         read: AtomicUsize::new(0),
     };
     let wire = HoldingWire {
-        wire: SimWire::new(rt.alloc(), 10)?,
+        wire: SimWire::new(rt.alloc(), 10).ok().expect(&rt, "a wire"),
         counts: &counts,
         were_read: false,
     };
-    let Ok(opened) = Register::open(rt.alloc(), &net, READERS as u16 + 1, 12, wire) else {
-        return Err(Fail::from("open"));
-    };
-    reads_beside_a_held_frame::<Brand, _>(&rt, opened, &counts)
+    let opened = Register::open(rt.alloc(), &net, READERS as u16 + 1, 12, wire);
+    let opened = opened.ok().expect(&rt, "a register");
+    reads_beside_a_held_frame::<Brand, _>(&rt, opened, &counts);
 }

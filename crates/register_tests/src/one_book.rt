@@ -4,46 +4,45 @@ ghost use Rattle.cm_register.specs.Naming.{Names};
 
 use crate::support::{answers, entry, frame, is_made, is_refused, network, node, sure};
 use cm_history::{Call, Entry, Orders, Phase, Reply};
+use cm_netlist::Network;
 use cm_nmt::{Frame, NmtState, Status};
 use cm_register::{Book, CallFault, CloseKind, Opened, RunName, Seat};
 use cm_simulated::SimWire;
 use std::alloc::Global;
 use std::marker::Brand;
 use std::process::Abort;
-use std::test::Fail;
+
+/// What is opened with one seat and ten entries, whose wire has room for so many frames.
+fn opened<'n>(rt: &impl Abort, alloc: Global, net: &'n Network, room: u32) -> Opened<'n, SimWire> {
+    let wire = SimWire::new(alloc, room).ok().expect(rt, "a wire");
+    let opened = Book::<SimWire, Brand>::open(alloc, net, 1, 10, wire);
+    opened.ok().expect(rt, "a book")
+}
 
 /// Its book, and its seat.
 fn open<'n, K: RunName>(
+    rt: &impl Abort,
     opened: Opened<'n, SimWire>,
-) -> Result<(Book<'n, SimWire, K>, Seat<K>), Fail>
+) -> (Book<'n, SimWire, K>, Seat<K>)
     requires { Names K.RunName opened }
 {
-    let Ok((book, mut seats)) = opened.book::<K>() else {
-        return Err(Fail::from("book"));
-    };
-    let Some(seat) = seats.pop() else {
-        return Err(Fail::from("seat"));
-    };
-    Ok((book, seat))
+    let (book, mut seats) = opened.book::<K>().ok().expect(rt, "book");
+    let seat = seats.pop().expect(rt, "a seat");
+    (book, seat)
 }
 
 #[test]
-fn one_slave_boots(rt: HostRuntime) -> Result<(), Fail> {
+fn one_slave_boots(rt: HostRuntime) {
     let net = network(&rt, rt.alloc(), 1, &[(2, 0x0D)]);
-    let wire = SimWire::new(rt.alloc(), 10)?;
-    let Ok(opened) = Book::<SimWire, Brand>::open(rt.alloc(), &net, 1, 10, wire) else {
-        return Err(Fail::from("open"));
-    };
-    boots::<Brand, _>(&rt, rt.alloc(), opened)
+    let opened = opened(&rt, rt.alloc(), &net, 10);
+    boots::<Brand, _>(&rt, rt.alloc(), opened);
 }
 
-fn boots<K: RunName, R: Abort>(rt: &R, alloc: Global, opened: Opened<SimWire>) -> Result<(), Fail>
-    requires { Names K.RunName opened }
-{
+/// The entries of a start and the boot of slave 2.
+fn entries_of_boot(rt: &impl Abort) -> [Entry; 3] {
     let two = node(rt, 2);
-    let (mut book, mut seat) = open::<K>(opened)?;
     let started = Orders::One(frame(rt, [0x01, 2]));
-    let entries = [
+    [
         entry(1, Call::StartNetwork, Reply::Started, Orders::ResetUnkept),
         entry(1, Call::Begin(two), Reply::Begun(1), Orders::None),
         entry(
@@ -52,49 +51,70 @@ fn boots<K: RunName, R: Abort>(rt: &R, alloc: Global, opened: Opened<SimWire>) -
             Reply::Reported(Status::Ok),
             started,
         ),
-    ];
+    ]
+}
+
+/// Makes the calls of these entries, with their replies.
+fn make_calls<K: RunName>(
+    rt: &impl Abort,
+    book: &mut Book<SimWire, K>,
+    seat: &mut Seat<K>,
+    entries: &[Entry],
+) {
     for (position, entry) in (1..4).zip(entries.iter()) {
-        let made = book.apply(&mut seat, entry.call);
+        let made = book.apply(seat, entry.call);
         is_made(rt, made, position, entry.reply);
     }
-    sure(rt, book.history() == entries.as_slice());
+}
+
+/// Asserts that the book has these entries, and that slave 2 is booted.
+fn has_booted<K: RunName>(rt: &impl Abort, book: &Book<SimWire, K>, entries: &[Entry]) {
+    sure(rt, book.history() == entries);
     sure(rt, book.manager().phase() == Phase::Ready);
     sure(rt, book.manager().own() == NmtState::Operational);
-    sure(rt, book.manager().state(two) == 5);
+    sure(rt, book.manager().state(node(rt, 2)) == 5);
+}
+
+fn boots<K: RunName, R: Abort>(rt: &R, alloc: Global, opened: Opened<SimWire>)
+    requires { Names K.RunName opened }
+{
+    let entries = entries_of_boot(rt);
     let frames = [frame(rt, [0x82, 0]), frame(rt, [0x01, 2])];
-    closes_with_its_seat_alone(rt, alloc, book, seat, &entries, &frames)
+    let (mut book, mut seat) = open::<K>(rt, opened);
+    make_calls(rt, &mut book, &mut seat, &entries);
+    has_booted(rt, &book, &entries);
+    closes_with_its_seat_alone(rt, alloc, book, seat, &entries, &frames);
 }
 
 #[test]
-fn a_full_wire_refuses_a_call(rt: HostRuntime) -> Result<(), Fail> {
+fn a_full_wire_refuses_a_call(rt: HostRuntime) {
     let net = network(&rt, rt.alloc(), 1, &[(2, 0x05), (3, 0x15), (4, 0x05)]);
-    let wire = SimWire::new(rt.alloc(), 1)?;
-    let Ok(opened) = Book::<SimWire, Brand>::open(rt.alloc(), &net, 1, 10, wire) else {
-        return Err(Fail::from("open"));
-    };
-    lacks_room::<Brand, _>(&rt, rt.alloc(), opened)
+    let opened = opened(&rt, rt.alloc(), &net, 1);
+    lacks_room::<Brand, _>(&rt, rt.alloc(), opened);
 }
 
-fn lacks_room<K: RunName, R: Abort>(
-    rt: &R,
-    alloc: Global,
-    opened: Opened<SimWire>,
-) -> Result<(), Fail>
-    requires { Names K.RunName opened }
-{
-    let (mut book, mut seat) = open::<K>(opened)?;
-    let start = book.apply(&mut seat, Call::StartNetwork);
+/// The start of the network finds no room on the wire, and a read does: it is the only entry.
+fn read_alone<K: RunName>(
+    rt: &impl Abort,
+    book: &mut Book<SimWire, K>,
+    seat: &mut Seat<K>,
+    entries: &[Entry],
+) {
+    let start = book.apply(seat, Call::StartNetwork);
     is_refused(rt, start, CallFault::WireFull);
     sure(rt, seat.list().is_empty() && book.history().is_empty());
-    is_made(
-        rt,
-        book.apply(&mut seat, Call::Read(2)),
-        1,
-        Reply::Refused(3),
-    );
+    let read = book.apply(seat, Call::Read(2));
+    is_made(rt, read, 1, Reply::Refused(3));
+    sure(rt, book.history() == entries);
+}
+
+fn lacks_room<K: RunName, R: Abort>(rt: &R, alloc: Global, opened: Opened<SimWire>)
+    requires { Names K.RunName opened }
+{
     let entries = [entry(1, Call::Read(2), Reply::Refused(3), Orders::None)];
-    sure(rt, book.history() == entries.as_slice());
-    closes_with_its_seat_alone(rt, alloc, book, seat, &entries, &[])
+    let (mut book, mut seat) = open::<K>(rt, opened);
+    read_alone(rt, &mut book, &mut seat, &entries);
+    closes_with_its_seat_alone(rt, alloc, book, seat, &entries, &[]);
 }
 
 /// Asserts that a book isn't closed without its seat; both are handed back.
@@ -102,14 +122,10 @@ fn lacks_its_seat<'n, K: RunName>(
     rt: &impl Abort,
     book: Book<'n, SimWire, K>,
     seats: Vec<Seat<K>>,
-) -> Result<(Book<'n, SimWire, K>, Vec<Seat<K>>), Fail> {
-    match book.close(seats) {
-        Ok(_) => Err(Fail::from("closed")),
-        Err(fault) => {
-            sure(rt, fault.kind == CloseKind::SeatsMissing(1));
-            Ok((fault.book, fault.seats))
-        }
-    }
+) -> (Book<'n, SimWire, K>, Vec<Seat<K>>) {
+    let fault = book.close(seats).err().expect(rt, "not closed");
+    sure(rt, fault.kind == CloseKind::SeatsMissing(1));
+    (fault.book, fault.seats)
 }
 
 /// A book stays open where its seat is missing, and is closed with it: these are its entries, and the
@@ -121,13 +137,10 @@ fn closes_with_its_seat_alone<K: RunName>(
     seat: Seat<K>,
     entries: &[Entry],
     frames: &[Frame],
-) -> Result<(), Fail> {
-    let (book, mut seats) = lacks_its_seat(rt, book, Vec::new(alloc))?;
-    seats.push(seat)?;
-    let Ok(closed) = book.close(seats) else {
-        return Err(Fail::from("not closed"));
-    };
+) {
+    let (book, mut seats) = lacks_its_seat(rt, book, Vec::new(alloc));
+    seats.push(seat).ok().expect(rt, "memory");
+    let closed = book.close(seats).ok().expect(rt, "closed");
     sure(rt, closed.history.as_slice() == entries);
     sure(rt, closed.wire.sent() == frames);
-    Ok(())
 }

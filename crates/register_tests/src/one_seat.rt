@@ -2,14 +2,13 @@
 
 ghost use Rattle.cm_register.specs.Naming.{Names};
 
-use crate::support::{close, is_made, is_refused, network, open, sees, sure};
+use crate::support::{close, is_made, is_refused, named, network, open, sees, sure};
 use cm_history::{Call, Reply};
-use cm_register::{CallFault, Opened, Register, RunName, Seat};
+use cm_register::{CallFault, Closed, Opened, Register, RunName, Seat};
 use cm_simulated::SimWire;
 use std::marker::Brand;
 use std::process::Abort;
 use std::sync::Wait;
-use std::test::Fail;
 
 /// How many calls are made before the first read, and how many before the second.
 const MANY: u32 = 65_536;
@@ -31,32 +30,43 @@ fn calls_up_to<K: RunName, R: Wait + Abort>(
     sees(rt, seat, 1, last, 127);
 }
 
-/// Fills the history and closes the register.
-fn fills<K: RunName, R: Wait + Abort>(rt: &R, opened: Opened<SimWire>) -> Result<(), Fail>
-    requires { Names K.RunName opened }
-{
-    let Ok((register, mut seats)) = opened.named::<K>() else {
-        return Err(Fail::from("named"));
+/// The only seat fills the history.
+fn fill<K: RunName, R: Wait + Abort>(
+    rt: &R,
+    register: &Register<SimWire, K>,
+    seats: &mut [Seat<K>],
+) {
+    let [seat] = seats else {
+        return sure(rt, false);
     };
-    let [seat] = seats.as_mut_slice() else {
-        return Err(Fail::from("seats"));
-    };
-    calls_up_to(rt, &register, seat, 1, MANY);
-    calls_up_to(rt, &register, seat, MANY + 1, LIMIT);
+    calls_up_to(rt, register, seat, 1, MANY);
+    calls_up_to(rt, register, seat, MANY + 1, LIMIT);
     let more = register.call(rt, seat, Call::Read(1));
     is_refused(rt, more, CallFault::JournalFull);
-    let closed = close(register, seats)?;
+}
+
+/// Asserts that the history is full, and all of it in one list.
+fn is_filled(rt: &impl Abort, closed: &Closed<SimWire>) {
     sure(rt, closed.history.len() == LIMIT as usize);
     let [list] = closed.lists.as_slice() else {
-        return Err(Fail::from("lists"));
+        return sure(rt, false);
     };
     sure(rt, list.made.len() == LIMIT as usize);
-    Ok(())
+}
+
+/// Fills the history and closes the register.
+fn fills<K: RunName, R: Wait + Abort>(rt: &R, opened: Opened<SimWire>)
+    requires { Names K.RunName opened }
+{
+    let (register, mut seats) = named::<K>(rt, opened);
+    fill(rt, &register, seats.as_mut_slice());
+    let closed = close(rt, register, seats);
+    is_filled(rt, &closed);
 }
 
 #[test]
-fn one_seat_fills_a_history(rt: HostRuntime) -> Result<(), Fail> {
+fn one_seat_fills_a_history(rt: HostRuntime) {
     let net = network(&rt, rt.alloc(), 1, &[]);
-    let opened = open(rt.alloc(), &net, 1, LIMIT, 0)?;
-    fills::<Brand, _>(&rt, opened)
+    let opened = open(&rt, rt.alloc(), &net, 1, LIMIT, 0);
+    fills::<Brand, _>(&rt, opened);
 }

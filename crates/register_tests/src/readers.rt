@@ -2,7 +2,7 @@
 
 ghost use Rattle.cm_register.specs.Naming.{Names};
 
-use crate::support::{close, network, node, open, sure};
+use crate::support::{close, named, network, node, open, sure};
 use cm_history::{Call, Entry};
 use cm_netlist::Network;
 use cm_nmt::NodeId;
@@ -14,7 +14,6 @@ use std::marker::Brand;
 use std::process::Abort;
 use std::sync::Wait;
 use std::sync::atomic::{AtomicU32, Ordering};
-use std::test::Fail;
 use std::thread;
 use std::thread::Threads;
 
@@ -72,21 +71,19 @@ impl Watch {
     }
 
     /// Asserts that each state is what the history leaves after so many calls.
-    fn is_replayed(
-        &self,
-        rt: &impl Abort,
-        alloc: Global,
-        net: &Network,
-        history: &[Entry],
-    ) -> Result<(), Fail> {
-        let shown = shown_after_each(alloc, net, history, self.id)?;
+    fn is_replayed(&self, rt: &impl Abort, alloc: Global, net: &Network, history: &[Entry]) {
+        let shown = shown_after_each(rt, alloc, net, history, self.id);
+        self.are_shown(rt, shown.as_slice());
+    }
+
+    /// Asserts that each state is that which is shown after so many calls.
+    fn are_shown(&self, rt: &impl Abort, shown: &[u8]) {
         for seen in self.seen.iter() {
             sure(
                 rt,
                 shown.get(seen.count as usize).copied() == Some(seen.state),
             );
         }
-        Ok(())
     }
 }
 
@@ -130,55 +127,96 @@ impl<K: RunName> Member<K> {
     }
 }
 
+/// What is seen of the node of this number, of which nothing was yet, with memory for all.
+fn watch_of(rt: &impl Abort, alloc: Global, number: u16) -> Watch {
+    let seen = Vec::with_capacity(alloc, LIMIT as usize + 1);
+    Watch {
+        id: node(rt, number as u8),
+        seen: seen.ok().expect(rt, "memory"),
+    }
+}
+
 /// Each seat with a watch over the node of its number.
-fn members_of<K: RunName>(
-    rt: &impl Abort,
-    alloc: Global,
-    seats: Vec<Seat<K>>,
-) -> Result<Vec<Member<K>>, Fail> {
+fn members_of<K: RunName>(rt: &impl Abort, alloc: Global, seats: Vec<Seat<K>>) -> Vec<Member<K>> {
     let mut members = Vec::new(alloc);
     for seat in seats {
-        let id = node(rt, seat.number() as u8);
-        let seen = Vec::with_capacity(alloc, LIMIT as usize + 1)?;
-        let watch = Watch { id, seen };
-        members.push(Member { seat, watch })?;
+        let watch = watch_of(rt, alloc, seat.number());
+        let member = Member { seat, watch };
+        members.push(member).ok().expect(rt, "memory");
     }
-    Ok(members)
+    members
 }
 
 /// The seats and their watches, apart.
 fn parted<K: RunName>(
+    rt: &impl Abort,
     alloc: Global,
     members: Vec<Member<K>>,
-) -> Result<(Vec<Seat<K>>, Vec<Watch>), Fail> {
+) -> (Vec<Seat<K>>, Vec<Watch>) {
     let mut seats = Vec::new(alloc);
     let mut watches = Vec::new(alloc);
     for member in members {
         let Member { seat, watch } = member;
-        seats.push(seat)?;
-        watches.push(watch)?;
+        seats.push(seat).ok().expect(rt, "memory");
+        watches.push(watch).ok().expect(rt, "memory");
     }
-    Ok((seats, watches))
+    (seats, watches)
+}
+
+/// What a read of the node shows after this call.
+fn shown_after(rt: &impl Abort, manager: &mut Manager, call: Call, id: NodeId) -> u8 {
+    if manager.begun() == u64::MAX {
+        panic!(rt; "too many sessions");
+    }
+    manager.apply(call);
+    manager.shown(id)
 }
 
 /// What a read of the node shows before the first call of the history and after each.
 fn shown_after_each(
+    rt: &impl Abort,
     alloc: Global,
     net: &Network,
     history: &[Entry],
     id: NodeId,
-) -> Result<Vec<u8>, Fail> {
+) -> Vec<u8> {
     let mut manager = Manager::new(net);
     let mut shown = Vec::new(alloc);
-    shown.push(manager.shown(id))?;
+    shown.push(manager.shown(id)).ok().expect(rt, "memory");
     for entry in history {
-        if manager.begun() == u64::MAX {
-            return Err(Fail::from("sessions"));
-        }
-        manager.apply(entry.call);
-        shown.push(manager.shown(id))?;
+        let after = shown_after(rt, &mut manager, entry.call, id);
+        shown.push(after).ok().expect(rt, "memory");
     }
-    Ok(shown)
+    shown
+}
+
+/// All members work at once.
+fn work_at_once<K: RunName + Send + Sync, R: Wait + Threads + Abort + Send + Sync>(
+    rt: &R,
+    register: &Register<SimWire, K>,
+    members: &mut [Member<K>],
+) {
+    let callers = AtomicU32::new(u32::from(CALLERS));
+    thread::for_each_mut(
+        rt,
+        members,
+        usize::from(SEATS),
+        &|_, member| { member.work(rt, register, &callers) },
+    );
+}
+
+/// Compares each watch with the history, which has all calls.
+fn are_replayed(
+    rt: &impl Abort,
+    alloc: Global,
+    net: &Network,
+    history: &[Entry],
+    watches: &[Watch],
+) {
+    sure(rt, history.len() == LIMIT as usize);
+    for watch in watches.iter() {
+        watch.is_replayed(rt, alloc, net, history);
+    }
 }
 
 /// All members work at once; then each watch is compared with the history.
@@ -186,47 +224,32 @@ fn works<K: RunName + Send + Sync, R: Wait + Threads + Abort + Send + Sync>(
     rt: &R,
     alloc: Global,
     opened: Opened<SimWire>,
-) -> Result<(), Fail>
+)
     requires { Names K.RunName opened }
 {
     let net = opened.net;
-    let Ok((register, seats)) = opened.named::<K>() else {
-        return Err(Fail::from("named"));
-    };
-    let mut members = members_of(rt, alloc, seats)?;
-    let callers = AtomicU32::new(u32::from(CALLERS));
-    thread::for_each_mut(
-        rt,
-        members.as_mut_slice(),
-        usize::from(SEATS),
-        &|_, member| { member.work(rt, &register, &callers) },
-    );
-    let (seats, watches) = parted(alloc, members)?;
-    let closed = close(register, seats)?;
-    sure(rt, closed.history.len() == LIMIT as usize);
-    for watch in watches.iter() {
-        watch.is_replayed(rt, alloc, net, closed.history.as_slice())?;
-    }
-    Ok(())
+    let (register, seats) = named::<K>(rt, opened);
+    let mut members = members_of(rt, alloc, seats);
+    work_at_once(rt, &register, members.as_mut_slice());
+    let (seats, watches) = parted(rt, alloc, members);
+    let closed = close(rt, register, seats);
+    let history = closed.history.as_slice();
+    are_replayed(rt, alloc, net, history, watches.as_slice());
 }
 
 /// Opens a register, at which all members work.
-fn opens_and_works<R: Wait + Threads + Abort + Send + Sync>(
-    rt: &R,
-    alloc: Global,
-    net: &Network,
-) -> Result<(), Fail> {
-    let opened = open(alloc, net, SEATS, LIMIT, LIMIT)?;
-    works::<Brand, _>(rt, alloc, opened)
+fn opens_and_works<R: Wait + Threads + Abort + Send + Sync>(rt: &R, alloc: Global, net: &Network) {
+    let opened = open(rt, alloc, net, SEATS, LIMIT, LIMIT);
+    works::<Brand, _>(rt, alloc, opened);
 }
 
 #[test]
-fn readers_see_what_100000_calls_leave(rt: HostRuntime) -> Result<(), Fail> {
+fn readers_see_what_100000_calls_leave(rt: HostRuntime) {
     let mut slaves = [(0, 0x05); 7];
     for (place, (number, _)) in slaves.iter_mut().enumerate() {
         *number = place as u8 + 5;
     }
     let net = network(&rt, rt.alloc(), 12, &slaves);
-    opens_and_works(&rt, rt.alloc(), &net)?;
-    opens_and_works(&rt, rt.alloc(), &net)
+    opens_and_works(&rt, rt.alloc(), &net);
+    opens_and_works(&rt, rt.alloc(), &net);
 }

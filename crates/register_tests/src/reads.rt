@@ -2,14 +2,13 @@
 
 ghost use Rattle.cm_register.specs.Naming.{Names};
 
-use crate::support::{answers, network, node, open, sure};
+use crate::support::{answers, named, network, node, open, sure};
 use cm_history::{Call, Reply};
 use cm_register::{Opened, Register, RunName, Seat};
 use cm_simulated::SimWire;
 use std::marker::Brand;
 use std::process::Abort;
 use std::sync::Wait;
-use std::test::Fail;
 
 /// How many calls are made: each of the ten kinds, behind each a Read of every node, and three that name no
 /// node.
@@ -38,8 +37,8 @@ fn refuses_targets<K: RunName, R: Wait + Abort>(
     register: &Register<SimWire, K>,
     seat: &mut Seat<K>,
 ) {
-    for call in [Call::Request(0, 5), Call::Request(129, 5), Call::Read(0)] {
-        let made = register.call(rt, seat, call);
+    for call in [Call::Request(0, 5), Call::Request(129, 5), Call::Read(0)].iter() {
+        let made = register.call(rt, seat, *call);
         sure(
             rt,
             made.is_ok_and(|receipt| receipt.reply == Reply::Refused(10)),
@@ -47,21 +46,26 @@ fn refuses_targets<K: RunName, R: Wait + Abort>(
     }
 }
 
-/// Makes the ten calls, of which none is refused; node 5 is read as stopped where it is held.
-fn reads_after_each<K: RunName, R: Wait + Abort>(
+/// Makes a call, which isn't refused, and reads every node behind it.
+fn reads_after<K: RunName, R: Wait + Abort>(
     rt: &R,
-    opened: Opened<SimWire>,
-) -> Result<(), Fail>
-    requires { Names K.RunName opened }
-{
-    let Ok((register, mut seats)) = opened.named::<K>() else {
-        return Err(Fail::from("named"));
-    };
-    let Some(mut seat) = seats.pop() else {
-        return Err(Fail::from("seat"));
-    };
+    register: &Register<SimWire, K>,
+    seat: &mut Seat<K>,
+    call: Call,
+) {
+    let made = register.call(rt, seat, call);
+    sure(rt, made.is_ok_and(|receipt| receipt.reply.is_granted()));
+    reads_as_calls(rt, register, seat);
+}
+
+/// Makes the ten calls, of which none is refused.
+fn call_each<K: RunName, R: Wait + Abort>(
+    rt: &R,
+    register: &Register<SimWire, K>,
+    seat: &mut Seat<K>,
+) {
     let five = node(rt, 5);
-    for call in [
+    let calls = [
         Call::StartNetwork,
         Call::Begin(five),
         Call::Report(five, 1, answers()),
@@ -72,22 +76,28 @@ fn reads_after_each<K: RunName, R: Wait + Abort>(
         Call::Elapsed(10),
         Call::Hold(five),
         Call::Release(five),
-    ] {
-        let made = register.call(rt, &mut seat, call);
-        sure(rt, made.is_ok_and(|receipt| receipt.reply.is_granted()));
-        reads_as_calls(rt, &register, &mut seat);
+    ];
+    for call in calls.iter() {
+        reads_after(rt, register, seat, *call);
     }
-    refuses_targets(rt, &register, &mut seat);
+}
+
+/// Makes the ten calls, of which none is refused; node 5 is read as stopped where it is held.
+fn reads_after_each<K: RunName, R: Wait + Abort>(rt: &R, opened: Opened<SimWire>)
+    requires { Names K.RunName opened }
+{
+    let (register, mut seats) = named::<K>(rt, opened);
+    let seat = seats.last_mut().expect(rt, "a seat");
+    call_each(rt, &register, seat);
+    refuses_targets(rt, &register, seat);
     sure(rt, seat.read(5).is_ok_and(|seen| seen.state == 4));
-    Ok(())
 }
 
 #[test]
-fn every_node_is_read_as_a_call_answers(rt: HostRuntime) -> Result<(), Fail> {
+fn every_node_is_read_as_a_call_answers(rt: HostRuntime) {
     for own in [1, 127] {
         let net = network(&rt, rt.alloc(), own, &[(5, 0x0D), (6, 0x05), (126, 0x05)]);
-        let opened = open(rt.alloc(), &net, 1, CALLS, 1000)?;
-        reads_after_each::<Brand, _>(&rt, opened)?;
+        let opened = open(&rt, rt.alloc(), &net, 1, CALLS, 1000);
+        reads_after_each::<Brand, _>(&rt, opened);
     }
-    Ok(())
 }

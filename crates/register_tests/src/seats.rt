@@ -2,14 +2,13 @@
 
 ghost use Rattle.cm_register.specs.Naming.{Names};
 
-use crate::support::{close, is_made, network, open, sees, stop_the_slave, sure};
+use crate::support::{close, is_made, named, network, open, sees, stop_the_slave, sure};
 use cm_history::{Call, Reply};
 use cm_register::{Opened, ReadFault, Register, RunName, Seat};
 use cm_simulated::SimWire;
 use std::marker::Brand;
 use std::process::Abort;
 use std::sync::Wait;
-use std::test::Fail;
 use std::thread;
 use std::thread::Threads;
 
@@ -17,10 +16,10 @@ use std::thread::Threads;
 const READS: u32 = 1000;
 
 #[test]
-fn a_seat_reads_beside_the_calls_of_another(rt: HostRuntime) -> Result<(), Fail> {
+fn a_seat_reads_beside_the_calls_of_another(rt: HostRuntime) {
     let net = network(&rt, rt.alloc(), 1, &[(5, 0x05)]);
-    let opened = open(rt.alloc(), &net, 2, READS + 2, 10)?;
-    reads_beside_calls::<Brand, _>(&rt, opened)
+    let opened = open(&rt, rt.alloc(), &net, 2, READS + 2, 10);
+    reads_beside_calls::<Brand, _>(&rt, opened);
 }
 
 /// Reads slave 5 by calls, of which the first has place 3.
@@ -47,40 +46,40 @@ fn read_stopped<K: RunName>(rt: &impl Abort, seat: &mut Seat<K>) {
     }
 }
 
+/// The first seat stops the slave, and reads it while the second reads it by calls.
+fn read_beside_calls<K: RunName + Send + Sync, R: Wait + Threads + Abort + Send + Sync>(
+    rt: &R,
+    register: &Register<SimWire, K>,
+    seats: &mut [Seat<K>],
+) {
+    let [first, second] = seats else {
+        return sure(rt, false);
+    };
+    stop_the_slave(rt, register, first);
+    thread::join(
+        rt,
+        || read_by_calls(rt, register, second),
+        || read_stopped(rt, first),
+    );
+}
+
 fn reads_beside_calls<K: RunName + Send + Sync, R: Wait + Threads + Abort + Send + Sync>(
     rt: &R,
     opened: Opened<SimWire>,
-) -> Result<(), Fail>
+)
     requires { Names K.RunName opened }
 {
-    let Ok((register, mut seats)) = opened.named::<K>() else {
-        return Err(Fail::from("named"));
-    };
-    let Some(mut second) = seats.pop() else {
-        return Err(Fail::from("seats"));
-    };
-    let Some(mut first) = seats.pop() else {
-        return Err(Fail::from("seats"));
-    };
-    stop_the_slave(rt, &register, &mut first);
-    let shared = &register;
-    thread::join(
-        rt,
-        || read_by_calls(rt, shared, &mut second),
-        || read_stopped(rt, &mut first),
-    );
-    seats.push(first)?;
-    seats.push(second)?;
-    let closed = close(register, seats)?;
+    let (register, mut seats) = named::<K>(rt, opened);
+    read_beside_calls(rt, &register, seats.as_mut_slice());
+    let closed = close(rt, register, seats);
     sure(rt, closed.history.len() == READS as usize + 2);
-    Ok(())
 }
 
 #[test]
-fn each_of_64_seats_reads(rt: HostRuntime) -> Result<(), Fail> {
+fn each_of_64_seats_reads(rt: HostRuntime) {
     let net = network(&rt, rt.alloc(), 1, &[(5, 0x05)]);
-    let opened = open(rt.alloc(), &net, 64, 12, 10)?;
-    each_reads::<Brand, _>(&rt, opened)
+    let opened = open(&rt, rt.alloc(), &net, 64, 12, 10);
+    each_reads::<Brand, _>(&rt, opened);
 }
 
 /// Before any call a read shows no slave, and the manager's own state.
@@ -93,50 +92,47 @@ fn shows_no_call<K: RunName>(rt: &impl Abort, seat: &mut Seat<K>) {
 }
 
 /// One seat reads before any call; after its calls every seat sees them.
-fn each_reads<K: RunName, R: Wait + Abort>(rt: &R, opened: Opened<SimWire>) -> Result<(), Fail>
-    requires { Names K.RunName opened }
-{
-    let Ok((register, mut seats)) = opened.named::<K>() else {
-        return Err(Fail::from("named"));
-    };
+fn read_each<K: RunName, R: Wait + Abort>(
+    rt: &R,
+    register: &Register<SimWire, K>,
+    seats: &mut [Seat<K>],
+) {
     sure(rt, seats.len() == 64);
-    let Some(last) = seats.last_mut() else {
-        return Err(Fail::from("seats"));
-    };
+    let last = seats.last_mut().expect(rt, "a seat");
     shows_no_call(rt, last);
-    stop_the_slave(rt, &register, last);
+    stop_the_slave(rt, register, last);
     for seat in seats.iter_mut() {
         sees(rt, seat, 5, 2, 4);
     }
-    let closed = close(register, seats)?;
+}
+
+fn each_reads<K: RunName, R: Wait + Abort>(rt: &R, opened: Opened<SimWire>)
+    requires { Names K.RunName opened }
+{
+    let (register, mut seats) = named::<K>(rt, opened);
+    read_each(rt, &register, seats.as_mut_slice());
+    let closed = close(rt, register, seats);
     sure(rt, closed.history.len() == 2);
-    Ok(())
 }
 
 #[test]
-fn a_register_that_is_gone_shows_nothing(rt: HostRuntime) -> Result<(), Fail> {
+fn a_register_that_is_gone_shows_nothing(rt: HostRuntime) {
     let net = network(&rt, rt.alloc(), 1, &[(5, 0x05)]);
-    let opened = open(rt.alloc(), &net, 1, 12, 10)?;
-    reads_no_version::<Brand, _>(&rt, opened)
+    let opened = open(&rt, rt.alloc(), &net, 1, 12, 10);
+    reads_no_version::<Brand, _>(&rt, opened);
 }
 
-fn reads_no_version<K: RunName, R: Wait + Abort>(
-    rt: &R,
-    opened: Opened<SimWire>,
-) -> Result<(), Fail>
+/// A seat sees what was before any call as long as there is a register, and nothing then.
+fn reads_no_version<K: RunName, R: Wait + Abort>(rt: &R, opened: Opened<SimWire>)
     requires { Names K.RunName opened }
 {
-    let Ok((register, mut seats)) = opened.named::<K>() else {
-        return Err(Fail::from("named"));
-    };
-    let [seat] = seats.as_mut_slice() else {
-        return Err(Fail::from("seats"));
-    };
+    let (register, mut seats) = named::<K>(rt, opened);
+    sure(rt, seats.len() == 1);
+    let seat = seats.last_mut().expect(rt, "a seat");
     sees(rt, seat, 5, 0, 0);
     drop(register);
     sure(rt, seat.read(5) == Err(ReadFault::NoVersion));
     sure(rt, seat.read(0) == Err(ReadFault::BadTarget));
-    Ok(())
 }
 
 /// Stops slave 5 and starts it again, by calls of which the first has place 3.
@@ -152,49 +148,55 @@ fn change_by_calls<K: RunName, R: Wait + Abort>(
     }
 }
 
+/// Reads the node, and gives the count, which isn't less than the last.
+fn read_on<K: RunName>(rt: &impl Abort, seat: &mut Seat<K>, node: u8, last: u32) -> u32 {
+    let seen = match seat.read(node) {
+        Ok(seen) => seen,
+        Err(fault) => panic!(rt; "node {node} after {last}: {fault}"),
+    };
+    sure(rt, last <= seen.count);
+    seen.count
+}
+
 /// Reads two nodes in turn: the count never goes back.
 fn read_two<K: RunName>(rt: &impl Abort, seat: &mut Seat<K>) {
     let mut last = 2;
     for _ in 0..READS * 50 {
-        for node in [5, 1] {
-            let seen = match seat.read(node) {
-                Ok(seen) => seen,
-                Err(fault) => panic!(rt; "node {node} after {last}: {fault}"),
-            };
-            sure(rt, last <= seen.count);
-            last = seen.count;
-        }
+        last = read_on(rt, seat, 5, last);
+        last = read_on(rt, seat, 1, last);
     }
+}
+
+/// The first seat stops the slave, and reads two nodes while the second changes the slave.
+fn read_two_beside_calls<K: RunName + Send + Sync, R: Wait + Threads + Abort + Send + Sync>(
+    rt: &R,
+    register: &Register<SimWire, K>,
+    seats: &mut [Seat<K>],
+) {
+    let [first, second] = seats else {
+        return sure(rt, false);
+    };
+    stop_the_slave(rt, register, first);
+    thread::join(
+        rt,
+        || change_by_calls(rt, register, second),
+        || read_two(rt, first),
+    );
 }
 
 fn reads_two_beside_calls<K: RunName + Send + Sync, R: Wait + Threads + Abort + Send + Sync>(
     rt: &R,
     opened: Opened<SimWire>,
-) -> Result<(), Fail>
+)
     requires { Names K.RunName opened }
 {
-    let Ok((register, mut seats)) = opened.named::<K>() else {
-        return Err(Fail::from("named"));
-    };
-    let Some(mut second) = seats.pop() else {
-        return Err(Fail::from("seats"));
-    };
-    let Some(mut first) = seats.pop() else {
-        return Err(Fail::from("seats"));
-    };
-    stop_the_slave(rt, &register, &mut first);
-    let shared = &register;
-    thread::join(
-        rt,
-        || change_by_calls(rt, shared, &mut second),
-        || read_two(rt, &mut first),
-    );
-    Ok(())
+    let (register, mut seats) = named::<K>(rt, opened);
+    read_two_beside_calls(rt, &register, seats.as_mut_slice());
 }
 
 #[test]
-fn a_seat_reads_two_nodes_beside_calls(rt: HostRuntime) -> Result<(), Fail> {
+fn a_seat_reads_two_nodes_beside_calls(rt: HostRuntime) {
     let net = network(&rt, rt.alloc(), 1, &[(5, 0x05)]);
-    let opened = open(rt.alloc(), &net, 2, READS + 2, READS + 2)?;
-    reads_two_beside_calls::<Brand, _>(&rt, opened)
+    let opened = open(&rt, rt.alloc(), &net, 2, READS + 2, READS + 2);
+    reads_two_beside_calls::<Brand, _>(&rt, opened);
 }

@@ -1,17 +1,18 @@
 //! What the tests of several topics call and assert.
 
+ghost use Rattle.cm_register.specs.Naming.{Names};
+
 use arrayvec::ArrayVec;
 use cm_history::{Call, Entry, Orders, Reply};
 use cm_netlist::{Network, SlaveEntry};
 use cm_nmt::{Answers, Assignment, Frame, Got, NodeId, Startup, Terms};
 use cm_register::{
-    CallFault, CloseFault, CloseKind, Closed, Opened, Receipt, Register, RunName, Seat, Seen, Wire,
+    CallFault, CloseKind, Closed, Opened, Receipt, Register, RunName, Seat, Seen, Wire,
 };
 use cm_simulated::SimWire;
 use std::alloc::Global;
 use std::process::Abort;
 use std::sync::Wait;
-use std::test::Fail;
 
 // Each comparison is asserted here, since an assertion of its own in each place is long to prove.
 pub(crate) fn sure(rt: &impl Abort, is_so: bool) {
@@ -74,28 +75,35 @@ pub(crate) fn network(rt: &impl Abort, alloc: Global, own: u8, slaves: &[(u8, u3
 
 /// A register with so many seats and entries, whose wire has room for so many frames.
 pub(crate) fn open<'n>(
+    rt: &impl Abort,
     alloc: Global,
     net: &'n Network,
     seats: u16,
     limit: u32,
     room: u32,
-) -> Result<Opened<'n, SimWire>, Fail> {
-    let wire = SimWire::new(alloc, room)?;
-    let Ok(opened) = Register::open(alloc, net, seats, limit, wire) else {
-        return Err(Fail::from("open"));
-    };
-    Ok(opened)
+) -> Opened<'n, SimWire> {
+    let wire = SimWire::new(alloc, room).ok().expect(rt, "a wire");
+    let opened = Register::open(alloc, net, seats, limit, wire);
+    opened.ok().expect(rt, "a register")
+}
+
+/// The register, and its seats.
+pub(crate) fn named<'n, K: RunName>(
+    rt: &impl Abort,
+    opened: Opened<'n, SimWire>,
+) -> (Register<'n, SimWire, K>, Vec<Seat<K>>)
+    requires { Names K.RunName opened }
+{
+    opened.named::<K>().ok().expect(rt, "named")
 }
 
 /// What a register leaves that closes with these seats.
 pub(crate) fn close<W: Wire, K: RunName>(
+    rt: &impl Abort,
     register: Register<W, K>,
     seats: Vec<Seat<K>>,
-) -> Result<Closed<W>, Fail> {
-    let Ok(closed) = register.close(seats) else {
-        return Err(Fail::from("close"));
-    };
-    Ok(closed)
+) -> Closed<W> {
+    register.close(seats).ok().expect(rt, "closed")
 }
 
 /// Asserts that a call was made, with this place and this reply.
@@ -146,19 +154,10 @@ pub(crate) fn lacks_seats<'n, K: RunName>(
     register: Register<'n, SimWire, K>,
     seats: Vec<Seat<K>>,
     missing: u16,
-) -> Result<(Register<'n, SimWire, K>, Vec<Seat<K>>), Fail> {
+) -> (Register<'n, SimWire, K>, Vec<Seat<K>>) {
     let given = seats.len();
-    match register.close(seats) {
-        Ok(_) => Err(Fail::from("closed")),
-        Err(fault) => {
-            sure(rt, fault.kind == CloseKind::SeatsMissing(missing));
-            sure(rt, fault.seats.len() == given);
-            let CloseFault {
-                kind: _,
-                register,
-                seats,
-            } = fault;
-            Ok((register, seats))
-        }
-    }
+    let fault = register.close(seats).err().expect(rt, "not closed");
+    sure(rt, fault.kind == CloseKind::SeatsMissing(missing));
+    sure(rt, fault.seats.len() == given);
+    (fault.register, fault.seats)
 }

@@ -4,20 +4,19 @@
 ghost use Rattle.cm_register.specs.Naming.{Names};
 
 use crate::support::{
-    HeldBus, close_with, held, is_made, network, node, open, outcome, reaches, started, sure,
+    HeldBus, close, held, is_made, named, network, node, open, outcome, reaches, start, sure,
+    with_operator,
 };
-use cm_boot::Bus;
 use cm_history::{Call, Reply};
 use cm_nmt::{NodeId, Status};
 use cm_register::{Opened, Register, RunName, Seat};
-use cm_run::{Booted, Last, RunFault, boot_all};
+use cm_run::{Booted, Last, boot_all};
 use cm_simulated::SimWire;
 use std::alloc::Global;
 use std::marker::Brand;
 use std::process::Abort;
 use std::sync::Wait;
 use std::sync::atomic::{AtomicUsize, Ordering};
-use std::test::Fail;
 use std::thread;
 use std::thread::Threads;
 
@@ -48,16 +47,6 @@ fn calls_when_asked<K: RunName, R: Wait + Abort>(
     called.store(1, Ordering::SeqCst);
 }
 
-/// What the workers did, who had to boot every slave.
-fn booted_by<B: Bus, K: RunName>(
-    boot: Result<Booted<B, K>, RunFault<B, K>>,
-) -> Result<Booted<B, K>, Fail> {
-    match boot {
-        Ok(booted) => Ok(booted),
-        Err(_) => Err(Fail::from("boot_all")),
-    }
-}
-
 /// Boots node 2 in another thread, while the operator calls.
 fn boots_beside<'a, K: RunName + Send + Sync, R: Wait + Threads + Abort + Send + Sync>(
     rt: &R,
@@ -68,16 +57,14 @@ fn boots_beside<'a, K: RunName + Send + Sync, R: Wait + Threads + Abort + Send +
     story: &Story,
     asked: &'a AtomicUsize,
     called: &'a AtomicUsize,
-) -> Result<Booted<HeldBus<'a>, K>, Fail> {
-    let buses = held(alloc, register.network(), 1, asked, called, 1)?;
+) -> Booted<HeldBus<'a>, K> {
+    let buses = held(rt, alloc, register.network(), 1, asked, called, 1);
     let attempts = story.attempts;
     thread::scope(thread::scope_env(), rt, |scope| {
-        let Ok(boot) = scope.spawn(move || boot_all(rt, alloc, register, seats, buses, attempts))
-        else {
-            return Err(Fail::from("thread"));
-        };
+        let boot = scope.spawn(move || boot_all(rt, alloc, register, seats, buses, attempts));
+        let boot = boot.ok().expect(rt, "a thread");
         calls_when_asked(rt, register, operator, story, asked, called);
-        booted_by(boot.join(rt))
+        boot.join(rt).ok().expect(rt, "all booted")
     })
 }
 
@@ -89,30 +76,42 @@ fn boot_while_called<K: RunName + Send + Sync, R: Wait + Threads + Abort + Send 
     seats: Vec<Seat<K>>,
     operator: &mut Seat<K>,
     story: &Story,
-) -> Result<Vec<Seat<K>>, Fail> {
+) -> Vec<Seat<K>> {
     let asked = AtomicUsize::new(0);
     let called = AtomicUsize::new(0);
-    let booted = boots_beside(rt, alloc, register, seats, operator, story, &asked, &called)?;
+    let booted = boots_beside(rt, alloc, register, seats, operator, story, &asked, &called);
     let wanted = outcome(rt, 2, story.attempts, story.last);
     sure(rt, booted.outcomes.as_slice() == [wanted].as_slice());
-    Ok(booted.seats)
+    booted.seats
 }
 
-/// The operator starts the network, and calls while the worker asks node 2.
+/// The operator starts the network, and calls while the worker asks node 2; all seats come back.
+fn start_and_boot<K: RunName + Send + Sync, R: Wait + Threads + Abort + Send + Sync>(
+    rt: &R,
+    alloc: Global,
+    register: &Register<SimWire, K>,
+    mut seats: Vec<Seat<K>>,
+    story: &Story,
+) -> Vec<Seat<K>> {
+    let mut operator = start(rt, register, &mut seats);
+    let seats = boot_while_called(rt, alloc, register, seats, &mut operator, story);
+    with_operator(rt, seats, operator)
+}
+
+/// The same, and what the register leaves.
 fn tells<K: RunName + Send + Sync, R: Wait + Threads + Abort + Send + Sync>(
     rt: &R,
     alloc: Global,
     opened: Opened<SimWire>,
     story: &Story,
-) -> Result<(), Fail>
+)
     requires { Names K.RunName opened }
 {
-    let (register, seats, mut operator) = started::<K, _>(rt, opened)?;
-    let seats = boot_while_called(rt, alloc, &register, seats, &mut operator, story)?;
-    let closed = close_with(register, seats, operator)?;
+    let (register, seats) = named::<K>(rt, opened);
+    let seats = start_and_boot(rt, alloc, &register, seats, story);
+    let closed = close(rt, register, seats);
     sure(rt, closed.history.len() == story.entries);
     sure(rt, closed.manager.begun() == story.sessions);
-    Ok(())
 }
 
 /// The boot-up message of node 2: its session ends, and another attempt is made, if one is allowed.
@@ -128,7 +127,7 @@ fn boots_up(id: NodeId, attempts: u8, last: Last, entries: usize) -> Story {
 }
 
 #[test]
-fn an_operator_calls_while_a_worker_boots(rt: HostRuntime) -> Result<(), Fail> {
+fn an_operator_calls_while_a_worker_boots(rt: HostRuntime) {
     let id = node(&rt, 2);
     let held = Story {
         call: Call::Hold(id),
@@ -138,14 +137,14 @@ fn an_operator_calls_while_a_worker_boots(rt: HostRuntime) -> Result<(), Fail> {
         entries: 5,
         sessions: 1,
     };
-    for story in [
+    let stories = [
         boots_up(id, 2, Last::Status(Status::Ok), 6),
         boots_up(id, 1, Last::Refused(7), 4),
         held,
-    ] {
+    ];
+    for story in stories.iter() {
         let net = network(&rt, rt.alloc(), 127, &[(2, 0x0D)]);
-        let opened = open(rt.alloc(), &net, 2, 20, 10)?;
-        tells::<Brand, _>(&rt, rt.alloc(), opened, &story)?;
+        let opened = open(&rt, rt.alloc(), &net, 2, 20, 10);
+        tells::<Brand, _>(&rt, rt.alloc(), opened, story);
     }
-    Ok(())
 }

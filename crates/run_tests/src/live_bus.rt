@@ -11,7 +11,6 @@ use std::alloc::{AllocError, Global};
 use std::collections::VecDeque;
 use std::marker::Brand;
 use std::process::Abort;
-use std::test::Fail;
 
 /// A port that hears these frames, in order, once a question is asked. So many bytes of their lines were read before.
 #[derive(Drop)]
@@ -53,15 +52,20 @@ fn frame_of(rt: &impl Abort, text: &str) -> CanFrame {
     read_frame(text.as_bytes()).expect(rt, "a frame")
 }
 
+/// Adds these bytes.
+fn add(rt: &impl Abort, lines: &mut Vec<u8>, bytes: &[u8]) {
+    lines.extend_from_slice(bytes).ok().expect(rt, "memory");
+}
+
 /// The lines of these frames.
-fn lines_of(alloc: Global, heard: &[&str]) -> Result<Vec<u8>, AllocError> {
-    let mut lines: Vec<u8> = Vec::new(alloc);
+fn lines_of(rt: &impl Abort, alloc: Global, heard: &[&str]) -> Vec<u8> {
+    let mut lines = Vec::new(alloc);
     for text in heard {
-        lines.extend_from_slice(b"(0.0) can0 ")?;
-        lines.extend_from_slice(text.as_bytes())?;
-        lines.push(b'\n')?;
+        add(rt, &mut lines, b"(0.0) can0 ");
+        add(rt, &mut lines, text.as_bytes());
+        add(rt, &mut lines, b"\n");
     }
-    Ok(lines)
+    lines
 }
 
 /// What a question over a bus comes to.
@@ -73,48 +77,57 @@ struct Outcome {
     last: Event,
 }
 
+/// Asserts what the question comes to, which node 2 is asked over this bus.
+fn gives(
+    rt: &impl Abort,
+    bus: &mut LiveBus<'_, Brand, Written>,
+    question: Question,
+    outcome: Outcome,
+) {
+    let given = bus.ask(node(rt, 2), question);
+    sure(rt, given == outcome.answer);
+    sure(rt, bus.log().len() == outcome.before.saturating_add(1));
+    sure(rt, bus.log().last().copied() == Some(outcome.last));
+}
+
 /// Asks node 2 the question over a bus of which so many bytes were read, and which hears these lines.
-fn comes_to<R: Abort>(
-    rt: &R,
+fn comes_to(
+    rt: &impl Abort,
     alloc: Global,
     question: Question,
     lines: &[u8],
     read: u64,
     outcome: Outcome,
-) -> Result<(), Fail> {
-    let frames = frames_in(alloc, lines)?;
+) {
     let network = Network::new(alloc, node(rt, 1), Startup(1), 0);
-    let port = Written { frames, read };
-    let mut bus = LiveBus::new(alloc, &network, 300, port)?;
-    let given = bus.ask(node(rt, 2), question);
-    sure(rt, given == outcome.answer);
-    sure(rt, bus.log().len() == outcome.before.saturating_add(1));
-    sure(rt, bus.log().last().copied() == Some(outcome.last));
-    Ok(())
+    let frames = frames_in(alloc, lines).ok().expect(rt, "memory");
+    let bus = LiveBus::new(alloc, &network, 300, Written { frames, read });
+    let mut bus = bus.ok().expect(rt, "memory");
+    gives(rt, &mut bus, question, outcome);
 }
 
 /// Asks node 2 the question over a bus that hears these frames: it gets this answer, and the log ends with this
 /// event behind so many others.
-fn is_answered<R: Abort>(
-    rt: &R,
+fn is_answered(
+    rt: &impl Abort,
     alloc: Global,
     question: Question,
     heard: &[&str],
     answer: Answer,
     before: usize,
     last: Event,
-) -> Result<(), Fail> {
-    let lines = lines_of(alloc, heard)?;
+) {
     let outcome = Outcome {
         answer,
         before,
         last,
     };
-    comes_to(rt, alloc, question, lines.as_slice(), 0, outcome)
+    let lines = lines_of(rt, alloc, heard);
+    comes_to(rt, alloc, question, lines.as_slice(), 0, outcome);
 }
 
 #[test]
-fn the_first_frame_that_answers_is_taken(rt: HostRuntime) -> Result<(), Fail> {
+fn the_first_frame_that_answers_is_taken(rt: HostRuntime) {
     let value = "582#4318100123010000";
     // another node's, of another index, of another sub-index, of another command, the client's own, a remote frame
     let others = [
@@ -135,11 +148,11 @@ fn the_first_frame_that_answers_is_taken(rt: HostRuntime) -> Result<(), Fail> {
         Answer::Value(0x123),
         7,
         Event::Heard(frame_of(&rt, value)),
-    )
+    );
 }
 
 #[test]
-fn a_question_without_an_answer_is_aborted(rt: HostRuntime) -> Result<(), Fail> {
+fn a_question_without_an_answer_is_aborted(rt: HostRuntime) {
     is_answered(
         &rt,
         rt.alloc(),
@@ -148,7 +161,7 @@ fn a_question_without_an_answer_is_aborted(rt: HostRuntime) -> Result<(), Fail> 
         Answer::Silent,
         3,
         Event::Sent(frame_of(&rt, "602#8000100000000405")),
-    )?;
+    );
     let write = Write::new(0x6200, 1, 2, 0x1234);
     is_answered(
         &rt,
@@ -158,11 +171,11 @@ fn a_question_without_an_answer_is_aborted(rt: HostRuntime) -> Result<(), Fail> 
         Answer::Silent,
         2,
         Event::Sent(frame_of(&rt, "602#8000620100000405")),
-    )
+    );
 }
 
 #[test]
-fn a_segmented_upload_is_aborted(rt: HostRuntime) -> Result<(), Fail> {
+fn a_segmented_upload_is_aborted(rt: HostRuntime) {
     is_answered(
         &rt,
         rt.alloc(),
@@ -171,11 +184,11 @@ fn a_segmented_upload_is_aborted(rt: HostRuntime) -> Result<(), Fail> {
         Answer::Abort(0x0504_0001),
         2,
         Event::Sent(frame_of(&rt, "602#8018100101000405")),
-    )
+    );
 }
 
 #[test]
-fn a_heartbeat_is_waited_for(rt: HostRuntime) -> Result<(), Fail> {
+fn a_heartbeat_is_waited_for(rt: HostRuntime) {
     let beat = "702#05";
     // nothing is sent; a boot-up message tells no state
     is_answered(
@@ -186,7 +199,7 @@ fn a_heartbeat_is_waited_for(rt: HostRuntime) -> Result<(), Fail> {
         Answer::State(NmtState::Operational),
         2,
         Event::Heard(frame_of(&rt, beat)),
-    )?;
+    );
     is_answered(
         &rt,
         rt.alloc(),
@@ -195,11 +208,11 @@ fn a_heartbeat_is_waited_for(rt: HostRuntime) -> Result<(), Fail> {
         Answer::Silent,
         0,
         Event::Expired,
-    )
+    );
 }
 
 #[test]
-fn so_many_other_frames_are_silence(rt: HostRuntime) -> Result<(), Fail> {
+fn so_many_other_frames_are_silence(rt: HostRuntime) {
     let other = "582#4300100092010200";
     let others = [other; 65];
     let value = "582#4318100123010000";
@@ -211,7 +224,7 @@ fn so_many_other_frames_are_silence(rt: HostRuntime) -> Result<(), Fail> {
         Answer::Silent,
         66,
         Event::Sent(frame_of(&rt, "602#8018100100000405")),
-    )?;
+    );
     let mut few = [other; 65];
     few[64] = value;
     is_answered(
@@ -222,7 +235,7 @@ fn so_many_other_frames_are_silence(rt: HostRuntime) -> Result<(), Fail> {
         Answer::Silent,
         66,
         Event::Sent(frame_of(&rt, "602#8018100100000405")),
-    )?;
+    );
     few[63] = value;
     is_answered(
         &rt,
@@ -232,51 +245,34 @@ fn so_many_other_frames_are_silence(rt: HostRuntime) -> Result<(), Fail> {
         Answer::Value(0x123),
         64,
         Event::Heard(frame_of(&rt, value)),
-    )
+    );
 }
 
 #[test]
-fn a_late_answer_is_none(rt: HostRuntime) -> Result<(), Fail> {
-    let late = lines_of(rt.alloc(), &["582#4318100177770000"])?;
+fn a_late_answer_is_none(rt: HostRuntime) {
     let value = "582#4318100123010000";
-    let lines = lines_of(rt.alloc(), &["582#4318100177770000", value])?;
-    let read = late.len() as u64;
+    let late = lines_of(&rt, rt.alloc(), &["582#4318100177770000"]);
+    let lines = lines_of(&rt, rt.alloc(), &["582#4318100177770000", value]);
+    let (read, all) = (late.len() as u64, lines.len() as u64);
+    let question = Question::Read(0x1018, 1);
     let answered = Outcome {
         answer: Answer::Value(0x123),
         before: 1,
         last: Event::Heard(frame_of(&rt, value)),
     };
+    let lines = lines.as_slice();
     // the first line was read before the request was sent, the second behind it
-    comes_to(
-        &rt,
-        rt.alloc(),
-        Question::Read(0x1018, 1),
-        lines.as_slice(),
-        read,
-        answered,
-    )?;
+    comes_to(&rt, rt.alloc(), question, lines, read, answered);
     // of the second all but its last byte was read before
-    comes_to(
-        &rt,
-        rt.alloc(),
-        Question::Read(0x1018, 1),
-        lines.as_slice(),
-        (lines.len() as u64).saturating_sub(1),
-        answered,
-    )?;
+    let but_one = all.saturating_sub(1);
+    comes_to(&rt, rt.alloc(), question, lines, but_one, answered);
     // all of it was
-    comes_to(
-        &rt,
-        rt.alloc(),
-        Question::Read(0x1018, 1),
-        lines.as_slice(),
-        lines.len() as u64,
-        Outcome {
-            answer: Answer::Silent,
-            before: 2,
-            last: Event::Sent(frame_of(&rt, "602#8018100100000405")),
-        },
-    )
+    let silent = Outcome {
+        answer: Answer::Silent,
+        before: 2,
+        last: Event::Sent(frame_of(&rt, "602#8018100100000405")),
+    };
+    comes_to(&rt, rt.alloc(), question, lines, all, silent);
 }
 
 /// How many lines the bytes end, of which each is `ok`.
@@ -304,8 +300,9 @@ fn a_long_line_is_passed_over(rt: HostRuntime) {
 }
 
 #[test]
-fn only_another_state_is_news(rt: HostRuntime) -> Result<(), Fail> {
-    let heartbeats = Heartbeats::new(rt.alloc())?;
+fn only_another_state_is_news(rt: HostRuntime) {
+    let heartbeats = Heartbeats::new(rt.alloc());
+    let heartbeats = heartbeats.ok().expect(&rt, "memory");
     let two = node(&rt, 2);
     sure(&rt, heartbeats.last(two).is_none());
     sure(&rt, heartbeats.hear(two, 0, 0));
@@ -317,5 +314,4 @@ fn only_another_state_is_news(rt: HostRuntime) -> Result<(), Fail> {
     sure(&rt, heartbeats.hear(two, 5, 50));
     sure(&rt, heartbeats.last(two) == Some(50));
     sure(&rt, heartbeats.last(node(&rt, 3)).is_none());
-    Ok(())
 }

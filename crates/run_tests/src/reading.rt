@@ -2,7 +2,9 @@
 
 ghost use Rattle.cm_register.specs.Naming.{Names};
 
-use crate::support::{HeldBus, close_with, held, network, open, reaches, started, sure};
+use crate::support::{
+    HeldBus, close, held, named, network, open, reaches, start, sure, with_operator,
+};
 use cm_register::{Opened, Register, RunName, Seat, Seen};
 use cm_run::{Booted, boot_all};
 use cm_simulated::SimWire;
@@ -11,7 +13,6 @@ use std::marker::Brand;
 use std::process::Abort;
 use std::sync::Wait;
 use std::sync::atomic::{AtomicUsize, Ordering};
-use std::test::Fail;
 use std::thread;
 use std::thread::Threads;
 
@@ -27,12 +28,12 @@ fn reads_in_turn<K: RunName>(
     seat: &mut Seat<K>,
     asked: &AtomicUsize,
     reads: &AtomicUsize,
-) -> Result<(), Fail> {
+) {
     sure(rt, reaches(asked, 2));
     let mut least = 3;
     for turn in 0..READS {
         let Ok(seen) = seat.read(turn as u8 % 2 + 1) else {
-            return Err(Fail::from("read"));
+            return sure(rt, false);
         };
         sure(rt, seen.count >= least);
         sure(rt, seen.state == 0 || seen.state == 5);
@@ -41,7 +42,6 @@ fn reads_in_turn<K: RunName>(
         reads.fetch_add(1, Ordering::SeqCst);
         thread::yield_now();
     }
-    Ok(())
 }
 
 /// Boots the slaves in another thread, while a seat reads; no slave answers before half of the reads.
@@ -53,47 +53,60 @@ fn boots_beside<'a, K: RunName + Send + Sync, R: Wait + Threads + Abort + Send +
     reader: &mut Seat<K>,
     asked: &'a AtomicUsize,
     reads: &'a AtomicUsize,
-) -> Result<Booted<HeldBus<'a>, K>, Fail> {
+) -> Booted<HeldBus<'a>, K> {
     let workers = seats.len();
-    let buses = held(alloc, register.network(), workers, asked, reads, HELD_FOR)?;
+    let net = register.network();
+    let buses = held(rt, alloc, net, workers, asked, reads, HELD_FOR);
     thread::scope(thread::scope_env(), rt, |scope| {
-        let Ok(boot) = scope.spawn(move || boot_all(rt, alloc, register, seats, buses, 2)) else {
-            return Err(Fail::from("thread"));
-        };
-        reads_in_turn(rt, reader, asked, reads)?;
-        let Ok(booted) = boot.join(rt) else {
-            return Err(Fail::from("boot_all"));
-        };
-        Ok(booted)
+        let boot = scope.spawn(move || boot_all(rt, alloc, register, seats, buses, 2));
+        let boot = boot.ok().expect(rt, "a thread");
+        reads_in_turn(rt, reader, asked, reads);
+        boot.join(rt).ok().expect(rt, "all booted")
     })
 }
 
-/// The last seat starts the network, and reads while the others' workers boot it. Its reads after the
-/// boot see all of it, though it made no other call.
-fn reads_beside_a_boot<K: RunName + Send + Sync, R: Wait + Threads + Abort + Send + Sync>(
-    rt: &R,
-    alloc: Global,
-    opened: Opened<SimWire>,
-) -> Result<(), Fail>
-    requires { Names K.RunName opened }
-{
-    let (register, seats, mut reader) = started::<K, _>(rt, opened)?;
-    let asked = AtomicUsize::new(0);
-    let reads = AtomicUsize::new(0);
-    let booted = boots_beside(rt, alloc, &register, seats, &mut reader, &asked, &reads)?;
+/// Asserts that the seat sees both slaves booted, though it made no call but the start.
+fn sees_the_boot<K: RunName>(rt: &impl Abort, reader: &mut Seat<K>) {
     for number in 1..3 {
         let seen = reader.read(number).ok();
         sure(rt, seen == Some(Seen { count: 5, state: 5 }));
     }
     sure(rt, reader.list().len() == 1);
-    let closed = close_with(register, booted.seats, reader)?;
+}
+
+/// The last seat starts the network, and reads while the others' workers boot it. Its reads after the
+/// boot see all of it. All seats come back.
+fn boot_and_read<K: RunName + Send + Sync, R: Wait + Threads + Abort + Send + Sync>(
+    rt: &R,
+    alloc: Global,
+    register: &Register<SimWire, K>,
+    mut seats: Vec<Seat<K>>,
+) -> Vec<Seat<K>> {
+    let mut reader = start(rt, register, &mut seats);
+    let asked = AtomicUsize::new(0);
+    let reads = AtomicUsize::new(0);
+    let booted = boots_beside(rt, alloc, register, seats, &mut reader, &asked, &reads);
+    sees_the_boot(rt, &mut reader);
+    with_operator(rt, booted.seats, reader)
+}
+
+/// The same, and what the register leaves.
+fn reads_beside_a_boot<K: RunName + Send + Sync, R: Wait + Threads + Abort + Send + Sync>(
+    rt: &R,
+    alloc: Global,
+    opened: Opened<SimWire>,
+)
+    requires { Names K.RunName opened }
+{
+    let (register, seats) = named::<K>(rt, opened);
+    let seats = boot_and_read(rt, alloc, &register, seats);
+    let closed = close(rt, register, seats);
     sure(rt, closed.history.len() == 5);
-    Ok(())
 }
 
 #[test]
-fn a_seat_reads_while_workers_boot(rt: HostRuntime) -> Result<(), Fail> {
+fn a_seat_reads_while_workers_boot(rt: HostRuntime) {
     let net = network(&rt, rt.alloc(), 127, &[(1, 0x0D), (2, 0x0D)]);
-    let opened = open(rt.alloc(), &net, 3, 20, 10)?;
-    reads_beside_a_boot::<Brand, _>(&rt, rt.alloc(), opened)
+    let opened = open(&rt, rt.alloc(), &net, 3, 20, 10);
+    reads_beside_a_boot::<Brand, _>(&rt, rt.alloc(), opened);
 }

@@ -11,11 +11,10 @@ use cm_nmt::{Assignment, Frame, NodeId, Startup, Terms};
 use cm_register::{CallFault, Closed, Opened, Receipt, Register, RunName, Seat};
 use cm_run::{Last, Outcome};
 use cm_simulated::{SimBus, SimSlave, SimWire};
-use std::alloc::{AllocError, Global};
+use std::alloc::Global;
 use std::process::Abort;
 use std::sync::Wait;
 use std::sync::atomic::{AtomicUsize, Ordering};
-use std::test::Fail;
 use std::thread;
 
 /// How many turns are waited at most.
@@ -64,56 +63,57 @@ pub(crate) fn network(rt: &impl Abort, alloc: Global, own: u8, slaves: &[(u8, u3
 
 /// A register with so many seats and entries, whose wire has room for so many frames.
 pub(crate) fn open<'n>(
+    rt: &impl Abort,
     alloc: Global,
     net: &'n Network,
     seats: u16,
     limit: u32,
     room: u32,
-) -> Result<Opened<'n, SimWire>, Fail> {
-    let wire = SimWire::new(alloc, room)?;
-    let Ok(opened) = Register::open(alloc, net, seats, limit, wire) else {
-        return Err(Fail::from("open"));
-    };
-    Ok(opened)
+) -> Opened<'n, SimWire> {
+    let wire = SimWire::new(alloc, room).ok().expect(rt, "a wire");
+    let opened = Register::open(alloc, net, seats, limit, wire);
+    opened.ok().expect(rt, "a register")
 }
 
-/// A register whose last seat, the operator's, has started the network: with the workers' seats and that one.
-pub(crate) fn started<'n, K: RunName, R: Wait + Abort>(
-    rt: &R,
+/// The register, and its seats.
+pub(crate) fn named<'n, K: RunName>(
+    rt: &impl Abort,
     opened: Opened<'n, SimWire>,
-) -> Result<(Register<'n, SimWire, K>, Vec<Seat<K>>, Seat<K>), Fail>
+) -> (Register<'n, SimWire, K>, Vec<Seat<K>>)
     requires { Names K.RunName opened }
 {
-    let Ok((register, mut seats)) = opened.named::<K>() else {
-        return Err(Fail::from("named"));
-    };
-    let Some(mut operator) = seats.pop() else {
-        return Err(Fail::from("seats"));
-    };
+    opened.named::<K>().ok().expect(rt, "named")
+}
+
+/// The last seat, the operator's, by which the network is started; the workers' are left.
+pub(crate) fn start<K: RunName, R: Wait + Abort>(
+    rt: &R,
+    register: &Register<SimWire, K>,
+    seats: &mut Vec<Seat<K>>,
+) -> Seat<K> {
+    let mut operator = seats.pop().expect(rt, "a seat");
     let start = register.call(rt, &mut operator, Call::StartNetwork);
     is_made(rt, start, 1, Reply::Started);
-    Ok((register, seats, operator))
+    operator
 }
 
 /// What a register leaves that closes with these seats.
 pub(crate) fn close<K: RunName>(
+    rt: &impl Abort,
     register: Register<SimWire, K>,
     seats: Vec<Seat<K>>,
-) -> Result<Closed<SimWire>, Fail> {
-    let Ok(closed) = register.close(seats) else {
-        return Err(Fail::from("close"));
-    };
-    Ok(closed)
+) -> Closed<SimWire> {
+    register.close(seats).ok().expect(rt, "closed")
 }
 
-/// What it leaves with the workers' seats and the operator's.
-pub(crate) fn close_with<K: RunName>(
-    register: Register<SimWire, K>,
+/// The workers' seats, and the operator's behind them.
+pub(crate) fn with_operator<K: RunName>(
+    rt: &impl Abort,
     mut seats: Vec<Seat<K>>,
     operator: Seat<K>,
-) -> Result<Closed<SimWire>, Fail> {
-    seats.push(operator)?;
-    close(register, seats)
+) -> Vec<Seat<K>> {
+    seats.push(operator).ok().expect(rt, "memory");
+    seats
 }
 
 /// What this many attempts at a slave came to.
@@ -127,10 +127,11 @@ pub(crate) fn outcome(rt: &impl Abort, number: u8, attempts: u8, last: Last) -> 
 
 /// A bus for each worker, with its slaves, which agree with the list.
 pub(crate) fn agreeing(
+    rt: &impl Abort,
     alloc: Global,
     net: &Network,
     workers: usize,
-) -> Result<Vec<SimBus>, AllocError> {
+) -> Vec<SimBus> {
     let mut buses = Vec::new(alloc);
     for worker in 0..workers {
         let mut bus = SimBus::new();
@@ -139,9 +140,9 @@ pub(crate) fn agreeing(
                 bus.put(*id, slave);
             }
         }
-        buses.push(bus)?;
+        buses.push(bus).ok().expect(rt, "memory");
     }
-    Ok(buses)
+    buses
 }
 
 /// Asserts that a call was made, with this place and this reply.
@@ -189,21 +190,23 @@ impl<'a> Bus for HeldBus<'a> {
 
 /// A bus for each worker, with its slaves, which agree with the list and whose answers are held.
 pub(crate) fn held<'a>(
+    rt: &impl Abort,
     alloc: Global,
     net: &Network,
     workers: usize,
     asked: &'a AtomicUsize,
     awaited: &'a AtomicUsize,
     least: usize,
-) -> Result<Vec<HeldBus<'a>>, AllocError> {
+) -> Vec<HeldBus<'a>> {
     let mut buses = Vec::new(alloc);
-    for slaves in agreeing(alloc, net, workers)? {
-        buses.push(HeldBus {
-            slaves,
+    for slaves in agreeing(rt, alloc, net, workers).iter() {
+        let bus = HeldBus {
+            slaves: *slaves,
             asked,
             awaited,
             least,
-        })?;
+        };
+        buses.push(bus).ok().expect(rt, "memory");
     }
-    Ok(buses)
+    buses
 }
