@@ -267,7 +267,7 @@ class Live(Group):
 
     def ask(self, line, reply, words=''):
         """Types a call, and waits for its place and this reply, with these words behind it."""
-        start, match = self.err.wait(rf'(\d+) {reply}{words}', self.tell(line))
+        start, match = self.err.wait(rf'(\d+) {line}: {reply}{words}', self.tell(line))
         if not line.startswith('read'):
             self.asked.append((int(match[1]), f'{line} = {reply}'))
         return start

@@ -23,7 +23,7 @@ IsQuiet s = NoRequests s.list
 -- ---- the operator's list grows
 
 sooner_typed : (typed : Option (List ℕ)) (c : Call) (before from upto : ℕ) → before ≤ from → IsTypedCall typed c from upto → IsTypedCall typed c before upto
-sooner_typed typed (call.Request t v) before from upto le h = (omega (arith, le, h.0), h.1)
+sooner_typed typed (call.Request t v) before from upto le h = (omega (arith, le, h.0), h.1, h.2, h.3)
 sooner_typed typed _ before from upto le h = omega (arith, le, h)
 
 add_typed : (typed : Option (List ℕ)) (ms : List Made) (m : Made) (from mid upto : ℕ) → AreTyped typed ms from mid → IsTypedCall typed m.call mid upto → AreTyped typed (ms ++ m ∷ []) from upto

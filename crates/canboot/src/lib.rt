@@ -20,6 +20,7 @@ mod program;
 mod progress;
 mod rounds;
 mod running;
+mod saying;
 mod simulation;
 mod telling;
 mod timed;

@@ -1,6 +1,7 @@
 //! What a live run does for its operator.
 
-ghost use Rattle.std.specs.Prelude.{◌≡◌, ◌<◌, ◌^◌};
+ghost use Rattle.std.specs.Prelude.{◌<◌, ◌^◌};
+ghost use Rattle.cm_live.specs.Console.{AsksPlainly};
 
 use crate::live_register::LiveRegister;
 use crate::watching::{Ending, Watcher};
@@ -93,7 +94,7 @@ impl<'w, 'a, 'n, R: Wait + Clock + Drop, K: RunName, B: BusName, M: LiveRegister
         {
             Ok(so_far) => {
                 let entries = so_far.history.as_slice();
-                let _ = report_of(self.network(), &so_far.manager, entries, err);
+                let _ = report_of(self.register.network(), &so_far.manager, entries, err);
             }
             Err(fault) => {
                 let _ = writeln!(err, "canboot: {fault}");
@@ -111,22 +112,44 @@ impl<'w, 'a, 'n, R: Wait + Clock + Drop, K: RunName, B: BusName, M: LiveRegister
         }
     }
 
+    /// Does what this line of the operator asks for.
+    fn carry_out<E: Write>(
+        &mut self,
+        err: &mut E,
+        line: &TypedLine<B>,
+        command: &Command,
+        now: u64,
+    ) -> Result<(), Ending>
+        requires time { now < 2 ^ 63 }
+        requires plain { AsksPlainly command.now }
+    {
+        match command {
+            Command::Make(call) => self.call(*call)?,
+            Command::Request(target, value) => self.request(line, *target, *value)?,
+            Command::Boot(id) => {
+                let _in_range = id.get();
+                self.boot_now(err, *id, now);
+            }
+            Command::Start => self.start(line)?,
+            Command::Status => self.report(err),
+            Command::Help => {
+                let _ = writeln!(err, "{TYPING}");
+            }
+            Command::Quit => self.ends_at = Some(now),
+        }
+        Ok(())
+    }
+
     /// Does what a line asks for that the operator has typed.
     fn obey<E: Write>(&mut self, err: &mut E, line: &TypedLine<B>, now: u64) -> Result<(), Ending>
         requires { now < 2 ^ 63 }
     {
         match read_command(line.line()) {
-            Ok(Command::Make(call)) => self.call(call)?,
-            Ok(Command::Request(target, value)) => self.request(line, target, value)?,
-            Ok(Command::Boot(id)) => self.boot_now(err, id, now),
-            Ok(Command::Start) => self.start(line)?,
-            Ok(Command::Status) => self.report(err),
-            Ok(Command::Help) => {
-                let _ = writeln!(err, "{TYPING}");
+            Ok(command) => self.carry_out(err, line, &command, now),
+            Err(bad) => {
+                tell_bad(err, bad);
+                Ok(())
             }
-            Ok(Command::Quit) => self.ends_at = Some(now),
-            Err(bad) => tell_bad(err, bad),
         }
-        Ok(())
     }
 }

@@ -14,15 +14,84 @@ const NEARLY_FULL: u64 = MOST_ENTRIES as u64 / 10 * 9;
 
 /// What is to be told once its frames were handed to the wire.
 #[derive(Drop)]
-struct Untold<T> {
-    value: T,
-    told: Told,
+pub(crate) struct Untold<T> {
+    pub(crate) value: T,
+    pub(crate) told: Told,
     /// Whether the network was halted before it.
-    is_halted: bool,
+    pub(crate) is_halted: bool,
     /// Its place in the history, counted from 1.
-    place: u64,
+    pub(crate) place: u64,
     /// How many frames were handed to the wire with it.
     frames: u64,
+}
+
+/// What waits to be told: each value once, in the order of the history, once its frames were handed to the wire.
+#[derive(Drop)]
+pub(crate) struct Waiting<T> {
+    order: InOrder<T>,
+    untold: Vec<Untold<T>>,
+    /// How many frames the values so far have.
+    frames: u64,
+}
+
+impl<T: Drop> Waiting<T> {
+    /// Nothing waits.
+    pub(crate) fn new(alloc: Global) -> Waiting<T> {
+        Waiting {
+            order: InOrder::new(alloc),
+            untold: Vec::new(alloc),
+            frames: 0,
+        }
+    }
+
+    /// A value comes, before which so many stand.
+    pub(crate) fn take(&mut self, position: u64, value: T) -> Result<(), AllocError> {
+        self.order.take(Placed { position, value })
+    }
+
+    /// The next value of the history, where it has come.
+    pub(crate) fn next(&mut self) -> Option<T> {
+        if self.order.count() >= u64::from(MOST_ENTRIES) {
+            return None;
+        }
+        match self.order.next() {
+            Some(placed) => Some(placed.value),
+            None => None,
+        }
+    }
+
+    /// The value, with what is told with it, waits for so many frames.
+    pub(crate) fn wait(
+        &mut self,
+        value: T,
+        told: Told,
+        is_halted: bool,
+        frames: u64,
+    ) -> Result<(), AllocError> {
+        self.frames = self.frames.saturating_add(frames);
+        self.untold.push(Untold {
+            value,
+            told,
+            is_halted,
+            place: self.order.count(),
+            frames: self.frames,
+        })?;
+        Ok(())
+    }
+
+    /// The next that waits, once so many frames were handed to the wire; at the end of a run at once. With it, whether its
+    /// frames were.
+    pub(crate) fn next_handed(&mut self, handed: u64, is_end: bool) -> Option<(Untold<T>, bool)> {
+        let is_handed = match self.untold.first() {
+            Some(first) => first.frames <= handed,
+            None => return None,
+        };
+        if is_handed || is_end {
+            Some((self.untold.remove(0), is_handed))
+        } else {
+            None
+        }
+    }
 }
 
 /// What came of the boots of a slave.
@@ -34,50 +103,21 @@ struct Boots {
     status: Option<Status>,
 }
 
-/// What is told of the entries of the history: each once, in the order of the history, once its frames were handed to
-/// the wire.
-#[derive(Drop)]
-pub(crate) struct Teller {
-    order: InOrder<Entry>,
-    untold: Vec<Untold<Entry>>,
-    /// How many frames the entries so far have.
-    frames: u64,
+/// What came of the boots of all slaves.
+#[derive(Clone, Copy)]
+pub(crate) struct Tried {
     /// Of each node, that of node i at place i.
     boots: [Boots; 128],
 }
 
-impl Teller {
-    /// Nothing was told.
-    pub(crate) fn new(alloc: Global) -> Teller {
+impl Tried {
+    /// None was booted.
+    pub(crate) fn new() -> Tried {
         let none = Boots {
             attempts: 0,
             status: None,
         };
-        Teller {
-            order: InOrder::new(alloc),
-            untold: Vec::new(alloc),
-            frames: 0,
-            boots: [none; 128],
-        }
-    }
-
-    /// An entry comes, before which so many stand.
-    pub(crate) fn take(&mut self, position: u64, entry: Entry) -> Result<(), AllocError> {
-        self.order.take(Placed {
-            position,
-            value: entry,
-        })
-    }
-
-    /// The next entry of the history, where it has come.
-    pub(crate) fn next(&mut self) -> Option<Entry> {
-        if self.order.count() >= u64::from(MOST_ENTRIES) {
-            return None;
-        }
-        match self.order.next() {
-            Some(placed) => Some(placed.value),
-            None => None,
-        }
+        Tried { boots: [none; 128] }
     }
 
     /// What came of the boots of a node.
@@ -91,7 +131,7 @@ impl Teller {
     }
 
     /// Counts the boots in an entry.
-    fn count(&mut self, entry: &Entry) {
+    pub(crate) fn count(&mut self, entry: &Entry) {
         match (&entry.call, entry.reply) {
             (Call::Begin(id), Reply::Begun(_)) => {
                 let boots = &mut self.boots[usize::from(id.get())];
@@ -104,67 +144,8 @@ impl Teller {
         }
     }
 
-    /// The entry, and what is told with it, waits for its frames.
-    pub(crate) fn wait(
-        &mut self,
-        network: &Network,
-        entry: &Entry,
-        told: &Told,
-        is_halted: bool,
-    ) -> Result<(), AllocError> {
-        self.count(entry);
-        let count = frames(network, entry.orders).len() as u64;
-        self.frames = self.frames.saturating_add(count);
-        self.untold.push(Untold {
-            value: *entry,
-            told: *told,
-            is_halted,
-            place: self.order.count(),
-            frames: self.frames,
-        })?;
-        Ok(())
-    }
-
-    /// Tells the next entry that waits, if so many frames were handed to the wire as it has with those before it; at the
-    /// end of a run, all. Whether it did.
-    pub(crate) fn tell_next<E: Write>(
-        &mut self,
-        err: &mut E,
-        network: &Network,
-        watch: &Watch,
-        running: Nodes,
-        handed: u64,
-        is_end: bool,
-    ) -> bool {
-        let is_handed = match self.untold.first() {
-            Some(first) => first.frames <= handed,
-            None => return false,
-        };
-        if !is_handed && !is_end {
-            return false;
-        }
-        let untold = self.untold.remove(0);
-        let words = EntryWords {
-            network,
-            entry: &untold.value,
-            is_handed,
-            is_halted: untold.is_halted,
-            place: untold.place,
-            unbooted: self.unbooted(&untold.value, watch),
-        };
-        if has_words(&untold.value) {
-            let _ = writeln!(err, "{words}");
-        }
-        self.tell_told(err, &running, &untold.value, &untold.told);
-        if untold.place == NEARLY_FULL {
-            let left = u64::from(MOST_ENTRIES) - NEARLY_FULL;
-            let _ = writeln!(err, "the journal is nearly full: {left} entries are left");
-        }
-        true
-    }
-
     /// The slave that a request starts though it isn't booted, with the status of its last boot.
-    fn unbooted(&self, entry: &Entry, watch: &Watch) -> Option<Option<Status>> {
+    pub(crate) fn unbooted(&self, entry: &Entry, watch: &Watch) -> Option<Option<Status>> {
         match (&entry.call, entry.reply) {
             (Call::Request(target, 5), Reply::Done) => {
                 let id = NodeId::new(*target)?;
@@ -175,38 +156,6 @@ impl Teller {
                 }
             }
             _ => None,
-        }
-    }
-
-    /// Tells what became of the network with an entry.
-    fn tell_told<E: Write>(&self, err: &mut E, running: &Nodes, entry: &Entry, told: &Told) {
-        if told.is_stopped {
-            tell_stopped(err, entry);
-        }
-        if told.is_halted {
-            tell_halted(err, running, entry);
-        }
-        if told.is_ready {
-            let _ = writeln!(err, "network ready");
-        }
-        if let Some(id) = told.back {
-            let number = id.get();
-            let _ = writeln!(
-                err,
-                "node {number} is back; the network is stopped: boot {number}, or start"
-            );
-        }
-        if let Some(id) = told.unwatched {
-            let number = id.get();
-            let _ = writeln!(err, "node {number} isn't watched: it has no heartbeat time");
-        }
-    }
-
-    /// Whether the next entry that waits has halted the network.
-    pub(crate) fn is_halt_next(&self) -> bool {
-        match self.untold.first() {
-            Some(first) => first.told.is_halted,
-            None => false,
         }
     }
 
@@ -221,6 +170,46 @@ impl Teller {
         };
         let _ = writeln!(err, "{given_up}");
     }
+}
+
+/// Tells an entry in words.
+pub(crate) fn tell_entry<E: Write>(err: &mut E, words: &EntryWords<'_>) {
+    if has_words(words.entry) {
+        let _ = writeln!(err, "{words}");
+    }
+    if words.place == NEARLY_FULL {
+        let left = u64::from(MOST_ENTRIES) - NEARLY_FULL;
+        let _ = writeln!(err, "the journal is nearly full: {left} entries are left");
+    }
+}
+
+/// Tells what became of slaves with an entry.
+fn tell_slaves<E: Write>(err: &mut E, told: &Told) {
+    if let Some(id) = told.back {
+        let number = id.get();
+        let _ = writeln!(
+            err,
+            "node {number} is back; the network is stopped: boot {number}, or start"
+        );
+    }
+    if let Some(id) = told.unwatched {
+        let number = id.get();
+        let _ = writeln!(err, "node {number} isn't watched: it has no heartbeat time");
+    }
+}
+
+/// Tells what became of the network with an entry.
+pub(crate) fn tell_told<E: Write>(err: &mut E, running: &Nodes, entry: &Entry, told: &Told) {
+    if told.is_stopped {
+        tell_stopped(err, entry);
+    }
+    if told.is_halted {
+        tell_halted(err, running, entry);
+    }
+    if told.is_ready {
+        let _ = writeln!(err, "network ready");
+    }
+    tell_slaves(err, told);
 }
 
 /// Tells that all nodes were stopped, and by what.

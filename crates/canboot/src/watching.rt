@@ -6,13 +6,14 @@ ghost use Rattle.cm_live.specs.Console.{IsOfWatch};
 use crate::live::Setting;
 use crate::live_register::LiveRegister;
 use crate::operator_seat::OperatorSeat;
-use crate::progress::Nodes;
-use crate::telling::{Teller, tell_left_out, tell_time_over};
+use crate::progress::{EntryWords, Nodes};
+use crate::telling::{Tried, Waiting, tell_left_out, tell_time_over};
 use cm_history::{Call, Entry};
 use cm_live::{BusName, Happening, TypedLine};
 use cm_netlist::Network;
 use cm_nmt::NodeId;
 use cm_register::{CallFault, RunName};
+use cm_sequential::frames;
 use cm_watch::{Happening as Watched, Pace, Settings, Step, Watch};
 use crossbeam_channel::{Receiver, Sender};
 use std::alloc::{AllocError, Global};
@@ -28,10 +29,7 @@ const TURN_MS: u64 = 5;
 const CATCH_UP_MS: u64 = 20;
 
 /// How many happenings are taken at most before the time is looked at.
-const MOST_TAKEN: u32 = 65_536;
-
-/// The state operational, as object 1F82h reads it (CiA 302-2).
-const OPERATIONAL: u8 = 5;
+pub(crate) const MOST_TAKEN: u32 = 65_536;
 
 /// How a live run ends.
 #[derive(Clone, Copy, Debug, PartialEq, Eq)]
@@ -67,15 +65,16 @@ pub(crate) struct Watcher<
     /// The slaves that each worker is to boot.
     jobs: Vec<Sender<NodeId>>,
     pub(crate) watch: Watch,
-    pub(crate) teller: Teller,
+    pub(crate) waiting: Waiting<Entry>,
+    pub(crate) tried: Tried,
     pace: Pace,
     pub(crate) ends_at: Option<u64>,
     /// It was told that a line of the journal couldn't be written.
-    is_unrecorded_told: bool,
+    pub(crate) is_unrecorded_told: bool,
 }
 
 /// Whether this was set by another thread.
-fn is_set(flag: &AtomicBool) -> bool {
+pub(crate) fn is_set(flag: &AtomicBool) -> bool {
     flag.load(Ordering::SeqCst)
 }
 
@@ -114,7 +113,8 @@ impl<'w, 'a, 'n, R: Wait + Clock + Drop, K: RunName, B: BusName, M: LiveRegister
             typed,
             jobs,
             watch: Watch::new(settings),
-            teller: Teller::new(setting.alloc),
+            waiting: Waiting::new(setting.alloc),
+            tried: Tried::new(),
             pace: Pace::new(),
             ends_at: None,
             is_unrecorded_told: false,
@@ -133,7 +133,7 @@ impl<'w, 'a, 'n, R: Wait + Clock + Drop, K: RunName, B: BusName, M: LiveRegister
     }
 
     /// The time since the run began, in ms.
-    fn now(&self) -> u64
+    pub(crate) fn now(&self) -> u64
         ensures { result < 2 ^ 63 }
     {
         match self.setting.start.elapsed(self.setting.rt) {
@@ -154,7 +154,7 @@ impl<'w, 'a, 'n, R: Wait + Clock + Drop, K: RunName, B: BusName, M: LiveRegister
 
     /// Lets its worker boot the slave.
     fn boot(&mut self, id: NodeId) {
-        self.teller.hand_out(id);
+        self.tried.hand_out(id);
         let listed = self.network().listed_ids();
         let workers = self.jobs.len();
         let Some(place) = listed.as_slice().iter().position(|listed| *listed == id) else {
@@ -176,19 +176,21 @@ impl<'w, 'a, 'n, R: Wait + Clock + Drop, K: RunName, B: BusName, M: LiveRegister
         let told = self.watch.take(network, now, happening);
         if let Some(id) = told.given_up {
             if !self.watch.phase().is_halted() {
-                self.teller.tell_given_up(err, network, id);
+                self.tried.tell_given_up(err, network, id);
             }
         }
     }
 
     /// An entry of the history is told to the watch, and waits to be told in words.
-    fn take_entry(&mut self, entry: &Entry, now: u64) -> Result<(), AllocError>
+    fn take_entry(&mut self, entry: Entry, now: u64) -> Result<(), AllocError>
         requires { now < 2 ^ 63 }
     {
         let network = self.network();
         let is_halted = self.watch.phase().is_halted();
-        let told = self.watch.take(network, now, &Watched::Called(*entry));
-        self.teller.wait(network, entry, &told, is_halted)
+        let told = self.watch.take(network, now, &Watched::Called(entry));
+        self.tried.count(&entry);
+        let count = frames(network, entry.orders).len() as u64;
+        self.waiting.wait(entry, told, is_halted, count)
     }
 
     /// The entries that come next in the history are told to the watch, and wait to be told in words.
@@ -196,20 +198,44 @@ impl<'w, 'a, 'n, R: Wait + Clock + Drop, K: RunName, B: BusName, M: LiveRegister
         requires { now < 2 ^ 63 }
     {
         for _ in self.setting.rt.forever() {
-            let Some(entry) = self.teller.next() else {
+            let Some(entry) = self.waiting.next() else {
                 break;
             };
-            had(self.take_entry(&entry, now))?;
+            had(self.take_entry(entry, now))?;
         }
         Ok(())
     }
 
     /// An entry of the history was recorded.
-    fn enter(&mut self, position: u64, entry: Entry, now: u64) -> Result<(), Ending>
+    pub(crate) fn enter(&mut self, position: u64, entry: Entry, now: u64) -> Result<(), Ending>
         requires { now < 2 ^ 63 }
     {
-        had(self.teller.take(position, entry))?;
+        had(self.waiting.take(position, entry))?;
         self.take_entries(now)
+    }
+
+    /// A worker's attempts at a slave have ended.
+    fn end<E: Write>(
+        &mut self,
+        err: &mut E,
+        id: NodeId,
+        fault: Option<CallFault>,
+        now: u64,
+    ) -> Result<(), Ending>
+        requires { now < 2 ^ 63 }
+    {
+        if let Some(fault) = fault {
+            return Err(Ending::NotCalled(fault));
+        }
+        self.note(err, &Watched::Ended(id), now);
+        Ok(())
+    }
+
+    /// An error control message of a node came, which is news.
+    fn hear<E: Write>(&mut self, err: &mut E, id: NodeId, byte: u8, now: u64)
+        requires { now < 2 ^ 63 }
+    {
+        self.note(err, &Watched::Heard(id, byte), now);
     }
 
     /// Takes one thing that has happened.
@@ -218,9 +244,8 @@ impl<'w, 'a, 'n, R: Wait + Clock + Drop, K: RunName, B: BusName, M: LiveRegister
     {
         match happening {
             Happening::Entered(position, entry) => self.enter(position, entry, now)?,
-            Happening::Ended(_, Some(fault)) => return Err(Ending::NotCalled(fault)),
-            Happening::Ended(id, None) => self.note(err, &Watched::Ended(id), now),
-            Happening::Told(id, byte) => self.note(err, &Watched::Heard(id, byte), now),
+            Happening::Ended(id, fault) => self.end(err, id, fault, now)?,
+            Happening::Told(id, byte) => self.hear(err, id, byte, now),
             Happening::Typed => self.obey_next(err, now)?,
             Happening::NoMoreTyped => {
                 let rest_ms = u64::from(self.setting.options.seconds) * 1000;
@@ -303,47 +328,6 @@ impl<'w, 'a, 'n, R: Wait + Clock + Drop, K: RunName, B: BusName, M: LiveRegister
         Ok(())
     }
 
-    /// The nodes that are operational now, as the manager knows it.
-    fn running(&self) -> Nodes {
-        let mut running = [false; 128];
-        if let Some(manager) = self
-            .register
-            .manager(self.setting.rt, self.operator.as_seat())
-        {
-            for id in self.network().listed_ids().as_slice() {
-                running[usize::from(id.get())] = manager.state(*id) == OPERATIONAL;
-            }
-        }
-        Nodes(running)
-    }
-
-    /// Tells the next entry that waits, if its frames were handed to the wire; at the end of the run, also if not. Whether
-    /// it did.
-    fn tell_next<E: Write>(&mut self, err: &mut E, handed: u64, is_end: bool) -> bool {
-        let running = if self.teller.is_halt_next() {
-            self.running()
-        } else {
-            Nodes([false; 128])
-        };
-        let network = self.network();
-        self.teller
-            .tell_next(err, network, &self.watch, running, handed, is_end)
-    }
-
-    /// Tells what is to be told by now.
-    fn tell<E: Write>(&mut self, err: &mut E, is_end: bool) {
-        let handed = self.setting.handed.load(Ordering::SeqCst);
-        for _ in self.setting.rt.forever() {
-            if !self.tell_next(err, handed, is_end) {
-                break;
-            }
-        }
-        if is_set(&self.setting.unrecorded) && !self.is_unrecorded_told {
-            self.is_unrecorded_told = true;
-            let _ = writeln!(err, "journal: write failed; what follows isn't recorded");
-        }
-    }
-
     /// Why the run has to end now, if it has.
     fn end_at(&self, now: u64) -> Result<(), Ending> {
         if is_set(&self.setting.broken) {
@@ -376,22 +360,6 @@ impl<'w, 'a, 'n, R: Wait + Clock + Drop, K: RunName, B: BusName, M: LiveRegister
         }
         self.make_steps(err, now)?;
         Ok(TURN_MS)
-    }
-
-    /// Tells what was recorded by now and wasn't told yet, at the end of the run.
-    fn tell_rest<E: Write>(&mut self, err: &mut E, happenings: &Receiver<Happening>) {
-        for _ in 0..MOST_TAKEN {
-            let Ok(happening) = happenings.try_recv(self.setting.rt) else {
-                break;
-            };
-            if let Happening::Entered(position, entry) = happening {
-                let now = self.now();
-                if self.enter(position, entry, now).is_err() {
-                    break;
-                }
-            }
-        }
-        self.tell(err, true);
     }
 
     /// Watches the network until the run is to end.

@@ -15,8 +15,8 @@ fn writing(assignment: u32, value: u32) -> SlaveEntry {
 }
 
 /// Asserts that the bytes are those of the frame.
-fn is_frame(rt: &impl Abort, frame: Frame, bytes: [u8; 2]) {
-    sure(rt, Frame::read(&bytes) == Some(frame));
+fn is_frame(rt: &impl Abort, frame: &Frame, bytes: [u8; 2]) {
+    sure(rt, Frame::read(&bytes) == Some(*frame));
     sure(rt, frame.bytes() == bytes);
 }
 
@@ -26,12 +26,12 @@ fn frames_are_two_bytes(rt: HostRuntime) {
         command: Command::Start,
         target: Target::All,
     };
-    is_frame(&rt, start_all, [0x01, 0x00]);
+    is_frame(&rt, &start_all, [0x01, 0x00]);
     let reset = Frame {
         command: Command::ResetComm,
         target: Target::Node(node(&rt, 127)),
     };
-    is_frame(&rt, reset, [0x82, 0x7F]);
+    is_frame(&rt, &reset, [0x82, 0x7F]);
     let refused = [
         [].as_slice(),
         [0x01].as_slice(),

@@ -128,10 +128,10 @@ impl<K: RunName> Member<K> {
 }
 
 /// What is seen of the node of this number, of which nothing was yet, with memory for all.
-fn watch_of(rt: &impl Abort, alloc: Global, number: u16) -> Watch {
+fn watch_of(rt: &impl Abort, alloc: Global, number: u8) -> Watch {
     let seen = Vec::with_capacity(alloc, LIMIT as usize + 1);
     Watch {
-        id: node(rt, number as u8),
+        id: node(rt, number),
         seen: seen.ok().expect(rt, "memory"),
     }
 }
@@ -140,7 +140,7 @@ fn watch_of(rt: &impl Abort, alloc: Global, number: u16) -> Watch {
 fn members_of<K: RunName>(rt: &impl Abort, alloc: Global, seats: Vec<Seat<K>>) -> Vec<Member<K>> {
     let mut members = Vec::new(alloc);
     for seat in seats {
-        let watch = watch_of(rt, alloc, seat.number());
+        let watch = watch_of(rt, alloc, seat.number() as u8);
         let member = Member { seat, watch };
         members.push(member).ok().expect(rt, "memory");
     }

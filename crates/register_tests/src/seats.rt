@@ -46,6 +46,20 @@ fn read_stopped<K: RunName>(rt: &impl Abort, seat: &mut Seat<K>) {
     }
 }
 
+/// The first seat reads the slave while the second reads it by calls.
+fn read_both<K: RunName + Send + Sync, R: Wait + Threads + Abort + Send + Sync>(
+    rt: &R,
+    register: &Register<SimWire, K>,
+    first: &mut Seat<K>,
+    second: &mut Seat<K>,
+) {
+    thread::join(
+        rt,
+        || read_by_calls(rt, register, &mut *second),
+        || read_stopped(rt, &mut *first),
+    );
+}
+
 /// The first seat stops the slave, and reads it while the second reads it by calls.
 fn read_beside_calls<K: RunName + Send + Sync, R: Wait + Threads + Abort + Send + Sync>(
     rt: &R,
@@ -56,11 +70,7 @@ fn read_beside_calls<K: RunName + Send + Sync, R: Wait + Threads + Abort + Send 
         return sure(rt, false);
     };
     stop_the_slave(rt, register, first);
-    thread::join(
-        rt,
-        || read_by_calls(rt, register, second),
-        || read_stopped(rt, first),
-    );
+    read_both(rt, register, first, second);
 }
 
 fn reads_beside_calls<K: RunName + Send + Sync, R: Wait + Threads + Abort + Send + Sync>(
@@ -167,6 +177,20 @@ fn read_two<K: RunName>(rt: &impl Abort, seat: &mut Seat<K>) {
     }
 }
 
+/// The first seat reads two nodes while the second changes the slave.
+fn read_two_both<K: RunName + Send + Sync, R: Wait + Threads + Abort + Send + Sync>(
+    rt: &R,
+    register: &Register<SimWire, K>,
+    first: &mut Seat<K>,
+    second: &mut Seat<K>,
+) {
+    thread::join(
+        rt,
+        || change_by_calls(rt, register, &mut *second),
+        || read_two(rt, &mut *first),
+    );
+}
+
 /// The first seat stops the slave, and reads two nodes while the second changes the slave.
 fn read_two_beside_calls<K: RunName + Send + Sync, R: Wait + Threads + Abort + Send + Sync>(
     rt: &R,
@@ -177,11 +201,7 @@ fn read_two_beside_calls<K: RunName + Send + Sync, R: Wait + Threads + Abort + S
         return sure(rt, false);
     };
     stop_the_slave(rt, register, first);
-    thread::join(
-        rt,
-        || change_by_calls(rt, register, second),
-        || read_two(rt, first),
-    );
+    read_two_both(rt, register, first, second);
 }
 
 fn reads_two_beside_calls<K: RunName + Send + Sync, R: Wait + Threads + Abort + Send + Sync>(

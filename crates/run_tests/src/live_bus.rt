@@ -306,12 +306,12 @@ fn only_another_state_is_news(rt: HostRuntime) {
     let two = node(&rt, 2);
     sure(&rt, heartbeats.last(two).is_none());
     sure(&rt, heartbeats.hear(two, 0, 0));
-    sure(&rt, heartbeats.last(two) == Some(0));
+    sure(&rt, heartbeats.last(two) == Some((0, 0)));
     sure(&rt, heartbeats.hear(two, 0, 10));
     sure(&rt, heartbeats.hear(two, 0x7F, 20));
     sure(&rt, !heartbeats.hear(two, 0x7F, 30));
     sure(&rt, !heartbeats.hear(two, 0xFF, 40));
     sure(&rt, heartbeats.hear(two, 5, 50));
-    sure(&rt, heartbeats.last(two) == Some(50));
+    sure(&rt, heartbeats.last(two) == Some((50, 5)));
     sure(&rt, heartbeats.last(node(&rt, 3)).is_none());
 }
