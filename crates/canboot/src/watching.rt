@@ -25,9 +25,6 @@ use std::time::{Clock, Duration};
 /// How long nothing may happen before the time is looked at, in ms.
 const TURN_MS: u64 = 5;
 
-/// How long what was received while the process was stopped is waited for between two looks at it, in ms.
-const CATCH_UP_MS: u64 = 20;
-
 /// How many happenings are taken at most before the time is looked at.
 pub(crate) const MOST_TAKEN: u32 = 65_536;
 
@@ -256,14 +253,13 @@ impl<'w, 'a, 'n, R: Wait + Clock + Drop, K: RunName, B: BusName, M: LiveRegister
         Ok(())
     }
 
-    /// Takes what has happened, if something has within this time, and then all else that has.
+    /// Takes what has happened, if something has within a turn's time, and then all else that has.
     fn take_all<E: Write>(
         &mut self,
         err: &mut E,
         happenings: &Receiver<Happening>,
-        wait_ms: u64,
     ) -> Result<(), Ending> {
-        let wait = Duration::from_millis(wait_ms);
+        let wait = Duration::from_millis(TURN_MS);
         let mut next = happenings.recv_timeout(self.setting.rt, wait).ok();
         for _ in 0..MOST_TAKEN {
             let Some(happening) = next else {
@@ -342,24 +338,21 @@ impl<'w, 'a, 'n, R: Wait + Clock + Drop, K: RunName, B: BusName, M: LiveRegister
         }
     }
 
-    /// One turn: takes what has happened, and looks at the time once that was all that was received. The answer is how long
-    /// to wait then for what happens, in ms.
+    /// One turn: takes what has happened, and looks at the time once that was all that was received.
     fn turn<E: Write>(
         &mut self,
         err: &mut E,
         happenings: &Receiver<Happening>,
-        wait_ms: u64,
-    ) -> Result<u64, Ending> {
-        self.take_all(err, happenings, wait_ms)?;
+    ) -> Result<(), Ending> {
+        self.take_all(err, happenings)?;
         let now = self.now();
         self.take_heartbeats(now);
         self.tell(err, false);
         self.end_at(now)?;
-        if !self.pace.look(now, self.setting.listening.received()) {
-            return Ok(CATCH_UP_MS);
+        if self.pace.look(now, self.setting.listening.received()) {
+            self.make_steps(err, now)?;
         }
-        self.make_steps(err, now)?;
-        Ok(TURN_MS)
+        Ok(())
     }
 
     /// Watches the network until the run is to end.
@@ -368,14 +361,10 @@ impl<'w, 'a, 'n, R: Wait + Clock + Drop, K: RunName, B: BusName, M: LiveRegister
         err: &mut E,
         happenings: &Receiver<Happening>,
     ) -> Ending {
-        let mut wait_ms = TURN_MS;
         for _ in self.setting.rt.forever() {
-            match self.turn(err, happenings, wait_ms) {
-                Ok(next_ms) => wait_ms = next_ms,
-                Err(ending) => {
-                    self.tell_rest(err, happenings);
-                    return ending;
-                }
+            if let Err(ending) = self.turn(err, happenings) {
+                self.tell_rest(err, happenings);
+                return ending;
             }
         }
         unreachable!()

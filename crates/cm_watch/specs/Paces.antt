@@ -15,10 +15,13 @@ waited_since since now ago =
     if nat_le 1000 ago then Some now
     else (if nat_lt 20 ago then Some (unwrap_or since now) else since)
 
--- that it is waited for ends with a look that isn't late and since whose last one nothing was read, or after a second
+-- since when nothing was read, by the looks so far: since now, where something was, or the look comes late
+abbrev pub still_at : Pace → ℕ → ℕ → ℕ
+still_at p now received = if nat_le (since_look p.looked now) 20 && received == p.received then p.still else now
+
+-- that it is waited for ends where nothing was read for 20 ms, or after a second
 abbrev pub is_caught_up : Pace → ℕ → ℕ → ℕ → Bool
-is_caught_up p now received since =
-    nat_le 1000 (now - since) || (nat_le (since_look p.looked now) 20 && received == p.received)
+is_caught_up p now received since = nat_le 1000 (now - since) || nat_le 20 (now - still_at p now received)
 
 abbrev pub unless_caught_up : Pace → ℕ → ℕ → Option ℕ → Option ℕ
 unless_caught_up p now received None = None
@@ -34,5 +37,6 @@ abbrev pub pace_after : Pace → ℕ → ℕ → Pace
 pace_after p now received = record {
   looked = Some now;
   received = received;
+  still = still_at p now received;
   behind = behind_at p now received;
 }
