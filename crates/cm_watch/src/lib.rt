@@ -12,6 +12,7 @@ mod course;
 mod happening;
 mod in_order;
 mod laws;
+mod looking;
 mod pace;
 mod schedule;
 mod settings;

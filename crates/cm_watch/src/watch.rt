@@ -1,13 +1,10 @@
-ghost use Rattle.std.specs.Prelude.{◌≡◌, ◌<◌, ◌^◌, ℕ, List, [], ◌∷◌, ◌++◌, map, filter, IfOk, OnOk, OnErr, is_some};
+ghost use Rattle.std.specs.Prelude.{◌≡◌, ◌<◌, ◌^◌, ℕ, List, [], ◌∷◌, ◌++◌, map, filter, IfOk, OnOk, OnErr};
 ghost use Rattle.cm_history.specs.History.{is_empty};
 ghost use Rattle.cm_netlist.specs.Network.{Network as NetworkList};
 ghost use Rattle.cm_nmt.specs.Listing.{node_ids};
-ghost use Rattle.cm_watch.specs.Course.{is_stopped_in, phase_in};
 ghost use Rattle.cm_watch.specs.Kept.{course_of};
 ghost use Rattle.cm_watch.specs.Limits.{AreLimited};
 ghost use Rattle.cm_watch.specs.Pasts.{Past};
-ghost use Rattle.cm_watch.specs.Signals.{state_heard};
-ghost use Rattle.cm_watch.specs.Slaves.{booted_since, heard_last};
 ghost use Rattle.cm_watch.specs.Steps.{given, heartbeat_of, steps_at};
 ghost use Rattle.cm_watch.specs.Telling.{given_up_of, told_of};
 ghost use Rattle.cm_watch.specs.Watches.{AreSlaves, Watches, elapsed_by, is_end_by, is_given_by, is_given_up_by, is_late_by, is_left_out_by, is_pending_by, is_time_over_by, is_to_be_booted_by, is_to_be_told_by, kept_at, left_out_by, signal_by, step_by, steps_by};
@@ -31,7 +28,7 @@ use std::alloc::{AllocError, Global};
 #[derive(Clone, Copy)]
 pub struct Watch {
     settings: Settings,
-    course: Course,
+    pub(crate) course: Course,
     /// Of each node, that of node i at place i.
     slaves: [Slave; 128],
 }
@@ -158,7 +155,7 @@ impl Watch {
         }
     }
 
-    fn slave(&self, id: NodeId) -> Slave
+    pub(crate) fn slave(&self, id: NodeId) -> Slave
         ensures { result ≡ kept_at self.now.slaves id }
     {
         self.slaves[usize::from(id.get())]
@@ -357,46 +354,6 @@ impl Watch {
             }
             _ => None,
         }
-    }
-
-    /// How far the manager has come.
-    pub fn phase(&self) -> Phase
-        ensures { (net : NetworkList) (s : WatchSettings) (past : Past) → Watches self.now net s past
-            → result ≡ phase_in net past }
-    {
-        self.course.phase
-    }
-
-    /// Whether all nodes are stopped.
-    pub fn is_stopped(&self) -> bool
-        ensures { (net : NetworkList) (s : WatchSettings) (past : Past) → Watches self.now net s past
-            → result ≡ is_stopped_in past }
-    {
-        self.course.is_stopped
-    }
-
-    /// Whether the slave is booted.
-    pub fn is_booted(&self, id: NodeId) -> bool
-        ensures { (net : NetworkList) (s : WatchSettings) (past : Past) → Watches self.now net s past
-            → result ≡ is_some (booted_since past id) }
-    {
-        self.slave(id).booted.is_some()
-    }
-
-    /// When an error control message of the node came last.
-    pub fn heard(&self, id: NodeId) -> Option<u64>
-        ensures { (net : NetworkList) (s : WatchSettings) (past : Past) → Watches self.now net s past
-            → result ≡ heard_last past id }
-    {
-        self.slave(id).heard
-    }
-
-    /// The state in it, without the toggle bit.
-    pub fn state_heard(&self, id: NodeId) -> Option<u8>
-        ensures { (net : NetworkList) (s : WatchSettings) (past : Past) → Watches self.now net s past
-            → result ≡ state_heard past id }
-    {
-        self.slave(id).news.heard
     }
 
     /// The steps that are to be made now. They count as given. Where memory is refused nothing is given.
