@@ -39,7 +39,12 @@ fn a_network_is_booted_on_a_bus(rt: HostRuntime) -> Result<(), Fail> {
     assert!(&rt; has(printed.err.as_slice(), b" done\n"));
     assert!(&rt; has(printed.err.as_slice(), b" read 5: state "));
     assert!(&rt; has(printed.err.as_slice(), b" request 3 5: done\n"));
-    assert!(&rt; has(printed.err.as_slice(), b"bad line: it is request TARGET VALUE"));
+    assert!(&rt;
+        has(
+            printed.err.as_slice(),
+            b"bad line: it is request TARGET VALUE"
+        )
+    );
     assert!(&rt; has(printed.err.as_slice(), b"bad line: no such word"));
     Ok(())
 }
