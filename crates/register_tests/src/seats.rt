@@ -46,31 +46,63 @@ fn read_stopped<K: RunName>(rt: &impl Abort, seat: &mut Seat<K>) {
     }
 }
 
-/// The first seat reads the slave while the second reads it by calls.
-fn read_both<K: RunName + Send + Sync, R: Wait + Threads + Abort + Send + Sync>(
+/// What two seats do beside one another.
+#[derive(Clone, Copy)]
+enum Story {
+    /// The first reads the slave, the second reads it by calls.
+    Reads,
+    /// The first reads two nodes, the second changes the slave.
+    Changes,
+}
+
+/// The calls of the second seat.
+fn call<K: RunName, R: Wait + Abort>(
+    rt: &R,
+    register: &Register<SimWire, K>,
+    seat: &mut Seat<K>,
+    story: Story,
+) {
+    match story {
+        Story::Reads => read_by_calls(rt, register, seat),
+        Story::Changes => change_by_calls(rt, register, seat),
+    }
+}
+
+/// The reads of the first seat.
+fn read<K: RunName>(rt: &impl Abort, seat: &mut Seat<K>, story: Story) {
+    match story {
+        Story::Reads => read_stopped(rt, seat),
+        Story::Changes => read_two(rt, seat),
+    }
+}
+
+/// The first seat reads while the second calls.
+fn read_beside<K: RunName + Send + Sync, R: Wait + Threads + Abort + Send + Sync>(
     rt: &R,
     register: &Register<SimWire, K>,
     first: &mut Seat<K>,
     second: &mut Seat<K>,
+    story: Story,
 ) {
     thread::join(
         rt,
-        || read_by_calls(rt, register, &mut *second),
-        || read_stopped(rt, &mut *first),
+        || call(rt, register, &mut *second, story),
+        || read(rt, &mut *first, story),
     );
 }
 
-/// The first seat stops the slave, and reads it while the second reads it by calls.
+/// The first seat stops the slave, and reads while the second calls.
 fn read_beside_calls<K: RunName + Send + Sync, R: Wait + Threads + Abort + Send + Sync>(
     rt: &R,
     register: &Register<SimWire, K>,
     seats: &mut [Seat<K>],
+    story: Story,
 ) {
     let [first, second] = seats else {
         return sure(rt, false);
     };
     stop_the_slave(rt, register, first);
-    read_both(rt, register, first, second);
+    read_beside(rt, register, first, second, story);
 }
 
 fn reads_beside_calls<K: RunName + Send + Sync, R: Wait + Threads + Abort + Send + Sync>(
@@ -80,7 +112,7 @@ fn reads_beside_calls<K: RunName + Send + Sync, R: Wait + Threads + Abort + Send
     requires { Names K.RunName opened }
 {
     let (register, mut seats) = named::<K>(rt, opened);
-    read_beside_calls(rt, &register, seats.as_mut_slice());
+    read_beside_calls(rt, &register, seats.as_mut_slice(), Story::Reads);
     let closed = close(rt, register, seats);
     sure(rt, closed.history.len() == READS as usize + 2);
 }
@@ -177,33 +209,6 @@ fn read_two<K: RunName>(rt: &impl Abort, seat: &mut Seat<K>) {
     }
 }
 
-/// The first seat reads two nodes while the second changes the slave.
-fn read_two_both<K: RunName + Send + Sync, R: Wait + Threads + Abort + Send + Sync>(
-    rt: &R,
-    register: &Register<SimWire, K>,
-    first: &mut Seat<K>,
-    second: &mut Seat<K>,
-) {
-    thread::join(
-        rt,
-        || change_by_calls(rt, register, &mut *second),
-        || read_two(rt, &mut *first),
-    );
-}
-
-/// The first seat stops the slave, and reads two nodes while the second changes the slave.
-fn read_two_beside_calls<K: RunName + Send + Sync, R: Wait + Threads + Abort + Send + Sync>(
-    rt: &R,
-    register: &Register<SimWire, K>,
-    seats: &mut [Seat<K>],
-) {
-    let [first, second] = seats else {
-        return sure(rt, false);
-    };
-    stop_the_slave(rt, register, first);
-    read_two_both(rt, register, first, second);
-}
-
 fn reads_two_beside_calls<K: RunName + Send + Sync, R: Wait + Threads + Abort + Send + Sync>(
     rt: &R,
     opened: Opened<SimWire>,
@@ -211,7 +216,7 @@ fn reads_two_beside_calls<K: RunName + Send + Sync, R: Wait + Threads + Abort + 
     requires { Names K.RunName opened }
 {
     let (register, mut seats) = named::<K>(rt, opened);
-    read_two_beside_calls(rt, &register, seats.as_mut_slice());
+    read_beside_calls(rt, &register, seats.as_mut_slice(), Story::Changes);
 }
 
 #[test]
