@@ -16,6 +16,13 @@ fn has(text: &[u8], part: &[u8]) -> bool {
     text.windows(part.len().max(1)).any(|window| window == part)
 }
 
+/// How often a text has this part.
+fn times(text: &[u8], part: &[u8]) -> usize {
+    text.windows(part.len().max(1))
+        .filter(|window| *window == part)
+        .count()
+}
+
 #[test]
 fn a_network_is_booted_on_a_bus(rt: HostRuntime) -> Result<(), Fail> {
     let bus = bus_of(
@@ -72,7 +79,8 @@ fn a_bus_that_ends_in_mid_boot_ends_the_run(rt: HostRuntime) -> Result<(), Fail>
     Ok(())
 }
 
-/// The bus goes on, and the operator waits for ever: that a message couldn't be written ends the run.
+/// The bus goes on, and the operator waits for ever: that a message couldn't be written ends the run. Behind the reset of
+/// all 39 starts were written, and no other slave is told as started.
 #[test]
 fn a_message_that_can_not_be_written_ends_the_run(rt: HostRuntime) -> Result<(), Fail> {
     let most = Most {
@@ -83,5 +91,6 @@ fn a_message_that_can_not_be_written_ends_the_run(rt: HostRuntime) -> Result<(),
     let printed = lives(&rt, rt.alloc(), bus)?;
     assert_eq!(&rt; printed.status, 3);
     assert!(&rt; printed.err.as_slice().ends_with(WRITE_FAILED));
+    assert_eq!(&rt; times(printed.err.as_slice(), b", started\n"), 39);
     Ok(())
 }
