@@ -1,5 +1,5 @@
 -- What a reader sees, by the first word and then the word of a node.
-use Rattle.std.proofs.Common.{◌≡◌, ℕ, ◌%◌, ◌/◌, ◌-◌, ◌<◌, ◌≤◌, ◌⊎◌, inl, inr, true, List, [], ◌∷◌, length, ap, sym, subst, ◌∙◌, arith}
+use Rattle.std.proofs.Common.{◌≡◌, ℕ, ◌-◌, ◌<◌, ◌≤◌, ◌⊎◌, inl, inr, true, List, [], ◌∷◌, length, ap, sym, subst, ◌∙◌, arith}
 use mathlib.Core.List.{IsPrefix}
 use base.Growing.{prefix_trans}
 use Rattle.logbook.specs.Pages.{Cell, cell}
@@ -8,14 +8,15 @@ use Rattle.cm_history.proofs.LegalHistories.{legal_take}
 use Rattle.cm_past.specs.declared.log_item.LogItem.{LogItem}
 use Rattle.cm_past.specs.declared.log_item.LogItem.TheVariants as item
 use Rattle.cm_past.specs.Items.{IsOf, IsSame, current_in, done_in, entries_in, shown_at, since_in}
-use Rattle.cm_past.specs.Row.{Found, IsLooked, IsRight, IsRow, gone_word, status_word}
+use Rattle.cm_past.specs.Row.{Found, IsLooked, IsRight, IsRow}
+use Rattle.cm_past.specs.Words.{gone_word, status_done, status_node, status_state, status_word}
 use Rattle.cm_past.proofs.Items.{entries_count, same_later, same_net}
 
 -- what the first word says
 record IsRead (net : Network) (log : List LogItem) (n : ℕ) : Type 0 where
-  pub done : done_in log ≡ n / 65536 % 2097152
-  pub node : current_in log ≡ n / 256 % 256
-  pub shown : 1 ≤ current_in log → n % 256 ≡ shown_at (listing net) (entries_in log) (done_in log) (current_in log)
+  pub done : done_in log ≡ status_done n
+  pub node : current_in log ≡ status_node n
+  pub shown : 1 ≤ current_in log → status_state n ≡ shown_at (listing net) (entries_in log) (done_in log) (current_in log)
 
 read_status : (net : Network) (cs : List Cell) (log : List LogItem) (n : ℕ) → IsRow net cs log → (cell cs 0).0 ≡ n → (n ≡ gone_word → ⊥) → IsRead net log n
 read_status net cs log n row found here = by row.status
@@ -23,7 +24,7 @@ read_status net cs log n row found here = by row.status
     by : (cell cs 0 ≡ (status_word (length (entries_in log)) (done_in log) (current_in log) row.state, true)) ⊎ (cell cs 0 ≡ (gone_word, true)) → IsRead net log n
     by (inl p) =
         let word : n ≡ status_word (length (entries_in log)) (done_in log) (current_in log) row.state = sym found ∙ ap (λ (w : Cell). w.0) p in
-        let state : n % 256 ≡ row.state = omega (arith, word, row.first.byte) in
+        let state : status_state n ≡ row.state = omega (arith, word, row.first.byte) in
         record {
           done = omega (arith, word, row.right.few, row.right.done, row.first.node, row.first.byte);
           node = omega (arith, word, row.right.few, row.right.done, row.first.node, row.first.byte);
@@ -36,12 +37,12 @@ right_of : (net : Network) (log : List LogItem) (t found : ℕ) → IsOf net log
 right_of net log t found of (cs, (n, row), is) = subst (λ (w : Network). IsRight (listing w) log) (sym (same_net net n log of row.of)) row.right
 
 -- what the first word says of a node is what is shown of it
-pub looked_current : (net : Network) (log : List LogItem) (t status : ℕ) → Found 0 status log → (status ≡ gone_word → ⊥) → IsOf net log → 1 ≤ t → status / 256 % 256 ≡ t
-    → IsLooked net log t (status % 256) (status / 65536 % 2097152)
+pub looked_current : (net : Network) (log : List LogItem) (t status : ℕ) → Found 0 status log → (status ≡ gone_word → ⊥) → IsOf net log → 1 ≤ t → status_node status ≡ t
+    → IsLooked net log t (status_state status) (status_done status)
 looked_current net log t status (cs, (n, row), found) here of low is = record {
   there = omega (arith, read.done, row.right.done);
   few = omega (arith, read.done, row.right.done, row.right.few);
-  legal = rw same (legal_take (listing n) (entries_in log) (status / 65536 % 2097152) row.right.legal);
+  legal = rw same (legal_take (listing n) (entries_in log) (status_done status) row.right.legal);
   shows = rw (same, ← is, ← read.node, ← read.done) (read.shown (omega (arith, read.node, is, low)));
 }
   where
@@ -53,7 +54,7 @@ looked_current net log t status (cs, (n, row), found) here of low is = record {
 
 -- what is shown of another node is the same from where its word was stored up to where the words are right
 same_read : (net : Network) (xs ys : List LogItem) (t status : ℕ) → Found 0 status xs → (status ≡ gone_word → ⊥) → IsPrefix xs ys → IsOf net ys → 1 ≤ t → t < 128
-    → (status / 256 % 256 ≡ t → ⊥) → (status / 65536 % 2097152 ≤ length (entries_in xs)) × IsSame (listing net) ys (status / 65536 % 2097152) t
+    → (status_node status ≡ t → ⊥) → (status_done status ≤ length (entries_in xs)) × IsSame (listing net) ys (status_done status) t
 same_read net xs ys t status (cs, (n, row), found) here p of low small away =
     let read = read_status n cs xs status row found here in
     let same : net ≡ n = same_net net n ys of (prefix_trans (item.Opened n ∷ []) xs ys row.of p) in (
@@ -62,23 +63,23 @@ same_read net xs ys t status (cs, (n, row), found) here p of low small away =
     )
 
 -- where a node's word was stored with no more entries than are right, it is right with all of these
-pub looked_done : (net : Network) (xs ys : List LogItem) (t status word since state : ℕ) → Found 0 status xs → (status ≡ gone_word → ⊥) → (status / 256 % 256 ≡ t → ⊥) → IsPrefix xs ys
+pub looked_done : (net : Network) (xs ys : List LogItem) (t status word since state : ℕ) → Found 0 status xs → (status ≡ gone_word → ⊥) → (status_node status ≡ t → ⊥) → IsPrefix xs ys
     → IsOf net ys → 1 ≤ t → t < 128 → Found t word ys → since ≡ since_in ys t → state ≡ shown_at (listing net) (entries_in ys) (since_in ys t) t
-    → since ≤ status / 65536 % 2097152 → IsLooked net ys t state (status / 65536 % 2097152)
+    → since ≤ status_done status → IsLooked net ys t state (status_done status)
 looked_done net xs ys t status word since state first here away p of low small there stored shown behind = record {
   there = fits;
   few = omega (arith, fits, right.few);
-  legal = legal_take (listing net) (entries_in ys) (status / 65536 % 2097152) right.legal;
-  shows = shown ∙ sym (same.1 (status / 65536 % 2097152) (omega (arith, behind, stored)) (omega arith));
+  legal = legal_take (listing net) (entries_in ys) (status_done status) right.legal;
+  shows = shown ∙ sym (same.1 (status_done status) (omega (arith, behind, stored)) (omega arith));
 }
   where
     right : IsRight (listing net) ys
     right = right_of net ys t word of there
 
-    same : (status / 65536 % 2097152 ≤ length (entries_in xs)) × IsSame (listing net) ys (status / 65536 % 2097152) t
+    same : (status_done status ≤ length (entries_in xs)) × IsSame (listing net) ys (status_done status) t
     same = same_read net xs ys t status first here p of low small away
 
-    fits : status / 65536 % 2097152 ≤ length (entries_in ys)
+    fits : status_done status ≤ length (entries_in ys)
     fits = omega (arith, same.0, entries_count xs ys p)
 
 -- where it was stored with more, it says what was shown with one entry less

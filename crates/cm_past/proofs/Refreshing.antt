@@ -1,5 +1,5 @@
 -- How what is shown of each node is found right with one entry more.
-use Rattle.std.proofs.Common.{◌≡◌, ℕ, ◌+◌, ◌-◌, ◌*◌, ◌<◌, ◌≤◌, ◌==◌, inl, inr, cond, Bool, true, false, List, [], ◌∷◌, ◌++◌, length, take, refl, ap, sym, subst, ◌∙◌, arith}
+use Rattle.std.proofs.Common.{◌≡◌, ℕ, ◌+◌, ◌-◌, ◌<◌, ◌≤◌, ◌==◌, inl, inr, cond, Bool, true, false, List, [], ◌∷◌, ◌++◌, length, take, refl, ap, sym, subst, ◌∙◌, arith}
 use Rattle.std.specs.Prelude.{reverse}
 use Rattle.std.proofs.lemmas.List.{length-take-le, reverse-append}
 use Rattle.std.proofs.lemmas.Bool.{cases_eq, cases_lt, ne_eqb}
@@ -14,7 +14,8 @@ use Rattle.cm_past.specs.Changes.{IsChange, Stays}
 use Rattle.cm_past.specs.Items.{IsOf, IsSame, entries_in, shown_at, since_in}
 use Rattle.cm_past.specs.declared.log_item.LogItem.TheVariants as item
 use base.Growing.{prefix_trans}
-use Rattle.cm_past.specs.Row.{Found, IsMoving, IsPending, IsWord}
+use Rattle.cm_past.specs.Row.{Found, IsMoving, IsPending}
+use Rattle.cm_past.specs.Words.{IsWord, word_since}
 use Rattle.logbook.specs.Pages.{cell}
 use Rattle.cm_past.proofs.Items.{entries_count, same_later, same_net, take_same}
 
@@ -47,10 +48,10 @@ split_is net log t found since state before own of low small there is says =
     says (since_in log t) (shown_at (listing net) (entries_in log) (since_in log t) t) (shown_at (listing net) (entries_in log) (since_in log t - 1) t) (look_word net log t found of low small there)
     (λ z. ap (λ (s : ℕ). shown_at (listing net) (entries_in log) s t) z ∙ first_shown (listing net) t ∙ ap (λ (b : Bool). cond b 127 0) (sym is))
 
--- a word that was stored with no more entries than these is small
-pub word_small : (found since state before c : ℕ) → IsWord found since state before → since ≤ c → found < (c + 1) * 65536
-word_small found since state before c (inl p) le = omega (arith, p.1)
-word_small found since state before c (inr p) le = omega (arith, p.1, p.2, p.3, le)
+-- with how many entries a word was stored is in it
+pub since_is : (word since state before : ℕ) → IsWord word since state before → word_since word ≡ since
+since_is word since state before (inl p) = omega (arith, p.0, p.1)
+since_is word since state before (inr p) = omega (arith, p.1, p.2, p.3)
 
 pub pending_later : (net : Listing) (xs ys : List LogItem) (c : ℕ) (e : Entry) → IsPrefix xs ys → IsPending net xs c e → IsPending net ys c e
 pending_later net xs ys c e p was = record {

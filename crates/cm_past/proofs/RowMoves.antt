@@ -8,7 +8,8 @@ use prog.Atomic.{either}
 use Rattle.logbook.specs.Pages.{Cell, Goes, Moves, View, cell, keeps, no_nib, step}
 use Rattle.cm_netlist.specs.Network.{Network}
 use Rattle.cm_past.specs.declared.log_item.LogItem.{LogItem}
-use Rattle.cm_past.specs.Row.{Ends, Found, HasRow, IsRow, Looks, Puts, gone_word, status_word}
+use Rattle.cm_past.specs.Row.{Ends, Found, HasRow, IsRow, Looks, Puts}
+use Rattle.cm_past.specs.Words.{gone_word, status_word}
 use Rattle.cm_past.proofs.RowSteps.{gone}
 use Rattle.cm_past.specs.Items.{current_in, done_in, entries_in}
 

@@ -1,5 +1,5 @@
 -- Each step on a row leaves a row.
-use Rattle.std.proofs.Common.{◌≡◌, ℕ, ◌+◌, ◌-◌, ◌*◌, ◌<◌, ◌≤◌, ◌⊎◌, inl, inr, max, true, false, List, [], ◌∷◌, ◌++◌, length, replicate, slice_set, take, refl, ap, sym, subst, ◌∙◌, arith, length-append}
+use Rattle.std.proofs.Common.{◌≡◌, ℕ, ◌+◌, ◌-◌, ◌<◌, ◌≤◌, ◌⊎◌, inl, inr, max, true, false, List, [], ◌∷◌, ◌++◌, length, replicate, slice_set, take, refl, ap, sym, subst, ◌∙◌, arith, length-append}
 use Rattle.std.specs.Prelude.{reverse}
 use Rattle.std.proofs.lemmas.List.{get_or-replicate, length-replicate, get_or-set_other, length-set, take_at, take_all, append-nil}
 use Rattle.std.proofs.lemmas.Grind.{get_or-set_at}
@@ -15,7 +15,8 @@ use Rattle.cm_past.specs.declared.log_item.LogItem.{LogItem}
 use Rattle.cm_past.specs.declared.log_item.LogItem.TheVariants as item
 use Rattle.cm_past.specs.declared.current.Current.{Current}
 use Rattle.cm_past.specs.Items.{IsOf, IsSame, current_from, current_in, done_in, entries_in, number_of, shown_at, since_in}
-use Rattle.cm_past.specs.Row.{Found, HasRow, IsAdded, IsCurrent, IsPending, IsReady, IsRow, IsWord, gone_word, status_word}
+use Rattle.cm_past.specs.Row.{Found, HasRow, IsAdded, IsCurrent, IsPending, IsReady, IsRow}
+use Rattle.cm_past.specs.Words.{IsByte, IsWord, gone_word, node_word, status_word, word_since}
 use Rattle.cm_past.proofs.Items.{current_more, done_more, entries_count, entries_more, same_later, same_net, shown_same, since_more, take_same}
 use Rattle.cm_past.proofs.LegalEnds.{legal_longer}
 use Rattle.cm_past.proofs.CurrentNode.{current_next}
@@ -32,7 +33,7 @@ pub record IsStatus (net : Network) (log : List LogItem) (c d k v : ℕ) : Type 
   pub shown : 1 ≤ k → v ≡ shown_at (listing net) (entries_in log) d k
 
 pub status_is : (net : Network) (cs : List Cell) (log : List LogItem) (c d k v : ℕ) → IsRow net cs log → (cell cs 0).0 ≡ status_word c d k v → c ≤ most_entries → d ≤ most_entries
-    → k < 128 → v < 256 → IsStatus net log c d k v
+    → k < 128 → IsByte v → IsStatus net log c d k v
 status_is net cs log c d k v is_row found small less node byte = by is_row.status
   where
     by : (cell cs 0 ≡ (status_word (length (entries_in log)) (done_in log) (current_in log) is_row.state, true)) ⊎ (cell cs 0 ≡ (gone_word, true)) → IsStatus net log c d k v
@@ -59,13 +60,13 @@ added_from net log now e c count entries = record {
 }
 
 -- an entry that was found right to add is added
-pub added_now : (log now : List LogItem) (i : LogItem) (e : Entry) (c k v : ℕ) → c < most_entries → k < 128 → v < 256 → Found 0 (status_word c c k v) log
+pub added_now : (log now : List LogItem) (i : LogItem) (e : Entry) (c k v : ℕ) → c < most_entries → k < 128 → IsByte v → Found 0 (status_word c c k v) log
     → now ≡ log ++ i ∷ [] → entries_in (i ∷ []) ≡ e ∷ [] → IsAdded now c e
 added_now log now i e c k v few node byte (cs, (n, is_row), found) is entry =
     added_from n log now e c (status_is n cs log c c k v is_row found (omega (arith, few)) (omega (arith, few)) node byte).count
     (ap entries_in is ∙ entries_more log (i ∷ []) ∙ ap (λ (es : List Entry). entries_in log ++ es) entry)
 
-pub pending_now : (net : Network) (seen log now : List LogItem) (e : Entry) (c k v : ℕ) → c < most_entries → c ≤ length (entries_in seen) → k < 128 → v < 256
+pub pending_now : (net : Network) (seen log now : List LogItem) (e : Entry) (c k v : ℕ) → c < most_entries → c ≤ length (entries_in seen) → k < 128 → IsByte v
     → ((t : ℕ) → 1 ≤ t → t < 128 → IsSame (listing net) seen c t) → IsPrefix seen log → Found 0 (status_word c c k v) log
     → now ≡ log ++ item.Entry e ∷ [] → IsPending (listing net) now c e
 pending_now net seen log now e c k v few fits node byte same pre there is =
@@ -102,8 +103,8 @@ module _ (net : Network) (cs : List Cell) (log : List LogItem) (is_row : IsRow n
 -- an entry is added, with which the words of all nodes but one are right up to so many
 adds : (net : Network) (seen : List LogItem) (i : LogItem) (e : Entry) (c d p s k v : ℕ) (cs : List Cell) (log : List LogItem)
     → IsOf net seen → c ≤ length (entries_in seen) → c < most_entries → IsAnswered (listing net) e (reverse (take c (entries_in seen)))
-    → p < 128 → s < 256 → HasRow cs log → IsPrefix seen log → (cell cs 0).0 ≡ status_word c c p s
-    → entries_in (i ∷ []) ≡ e ∷ [] → max c (done_in (i ∷ [])) ≡ d → d ≤ c + 1 → current_from (current_in log) (i ∷ []) ≡ k → k < 128 → v < 256
+    → p < 128 → IsByte s → HasRow cs log → IsPrefix seen log → (cell cs 0).0 ≡ status_word c c p s
+    → entries_in (i ∷ []) ≡ e ∷ [] → max c (done_in (i ∷ [])) ≡ d → d ≤ c + 1 → current_from (current_in log) (i ∷ []) ≡ k → k < 128 → IsByte v
     → ((t : ℕ) → since_in (i ∷ []) t ≡ 0)
     → (1 ≤ k → v ≡ shown_at (listing net) (entries_in (log ++ i ∷ [])) d k)
     → ((t : ℕ) → 1 ≤ t → t < 128 → (t ≡ k → ⊥) → IsSame (listing net) (log ++ i ∷ []) d t)
@@ -163,7 +164,7 @@ adds net seen i e c d p s k v cs log of there few next old byte (n, is_row) pre 
 pub adds_entry : (net : Network) (seen : List LogItem) (e : Entry) (c p s : ℕ) (cs : List Cell) (log : List LogItem)
     → IsOf net seen → c ≤ length (entries_in seen) → c < most_entries → IsAnswered (listing net) e (reverse (take c (entries_in seen)))
     → ((t : ℕ) → 1 ≤ t → t < 128 → IsSame (listing net) seen c t)
-    → p < 128 → s < 256 → HasRow cs log → IsPrefix seen log → (cell cs 0).0 ≡ status_word c c p s
+    → p < 128 → IsByte s → HasRow cs log → IsPrefix seen log → (cell cs 0).0 ≡ status_word c c p s
     → HasRow (slice_set cs 0 (status_word (c + 1) c 0 0, true)) (log ++ item.Entry e ∷ [])
 adds_entry net seen e c p s cs log of there few next same old byte row pre found =
     adds net seen (item.Entry e) e c c p s 0 0 cs log of there few next old byte row pre found refl (omega arith) (omega arith) refl (omega arith) (omega arith) (λ t. refl)
@@ -173,8 +174,8 @@ adds_entry net seen e c p s cs log of there few next same old byte row pre found
 -- an entry is added, with which nothing else is shown of any node but one
 pub adds_moved : (net : Network) (seen : List LogItem) (e : Entry) (c p s : ℕ) (to : Current) (cs : List Cell) (log : List LogItem)
     → IsOf net seen → c ≤ length (entries_in seen) → c < most_entries → IsAnswered (listing net) e (reverse (take c (entries_in seen)))
-    → IsReady (listing net) seen c e to → to.state < 256
-    → p < 128 → s < 256 → HasRow cs log → IsPrefix seen log → (cell cs 0).0 ≡ status_word c c p s
+    → IsReady (listing net) seen c e to → IsByte to.state
+    → p < 128 → IsByte s → HasRow cs log → IsPrefix seen log → (cell cs 0).0 ≡ status_word c c p s
     → HasRow (slice_set cs 0 (status_word (c + 1) (c + 1) (number_of to.node) to.state, true)) (log ++ item.Moved e (c + 1) to.node ∷ [])
 adds_moved net seen e c p s to cs log of there few next ready less old byte row pre found =
     adds net seen (item.Moved e (c + 1) to.node) e c (c + 1) p s (number_of to.node) to.state cs log of there few next old byte row pre found refl (omega arith) (omega arith) refl
@@ -189,23 +190,23 @@ adds_moved net seen e c p s to cs log of there few next ready less old byte row 
 
 -- the word of a node is stored
 pub stores : (net : Network) (seen : List LogItem) (k old c v b : ℕ) (cs : List Cell) (log : List LogItem)
-    → IsOf net seen → 1 ≤ k → k < 128 → c ≤ length (entries_in seen) → c ≤ most_entries → old < c * 65536 → v < 256 → b < 256
+    → IsOf net seen → 1 ≤ k → k < 128 → c ≤ length (entries_in seen) → c ≤ most_entries → word_since old < c → IsByte v → IsByte b
     → v ≡ shown_at (listing net) (entries_in seen) c k → b ≡ shown_at (listing net) (entries_in seen) (c - 1) k
     → HasRow cs log → IsPrefix seen log → (cell cs k).0 ≡ old
-    → HasRow (slice_set cs k (c * 65536 + v * 256 + b, true)) (log ++ item.Stored k c ∷ [])
+    → HasRow (slice_set cs k (node_word c v b, true)) (log ++ item.Stored k c ∷ [])
 stores net seen k old c v b cs log of low small there few older byte less_byte state state_before (n, is_row) pre found = (
   n,
   record {
     of = of_later n log (log ++ item.Stored k c ∷ []) is_row.of (item.Stored k c ∷ [], refl);
-    long = long_set n cs log is_row k (c * 65536 + v * 256 + b, true);
+    long = long_set n cs log is_row k (node_word c v b, true);
     state = is_row.state;
     first = record {
       node = omega (arith, current, is_row.first.node);
       byte = is_row.first.byte;
       shown = λ some. is_row.first.shown (omega (arith, some, current)) ∙ rw (entries, dones, current) refl;
     };
-    status = rw (at_other n cs log is_row k 0 (c * 65536 + v * 256 + b, true) (λ z. absurd (omega (arith, z, low))), entries, dones, current) is_row.status;
-    home = λ t l s. home_later n cs log is_row k (c * 65536 + v * 256 + b) t small l s;
+    status = rw (at_other n cs log is_row k 0 (node_word c v b, true) (λ z. absurd (omega (arith, z, low))), entries, dones, current) is_row.status;
+    home = λ t l s. home_later n cs log is_row k (node_word c v b) t small l s;
     words = words;
     right = record {
       legal = rw entries is_row.right.legal;
@@ -261,11 +262,11 @@ stores net seen k old c v b cs log of low small there few older byte less_byte s
     shows_before : b ≡ shown_at (listing n) (entries_in (log ++ item.Stored k c ∷ [])) (c - 1) k
     shows_before = state_before ∙ ap (λ (w : Network). shown_at (listing w) (entries_in seen) (c - 1) k) net_is ∙ shown_same (listing n) seen log (c - 1) k pre (omega (arith, there)) ∙ ap (λ (w : List Entry). shown_at (listing n) w (c - 1) k) (sym entries)
 
-    words : (t : ℕ) → 1 ≤ t → t < 128 → IsWord (cell (slice_set cs k (c * 65536 + v * 256 + b, true)) t).0 (since_in (log ++ item.Stored k c ∷ []) t) (shown_at (listing n) (entries_in (log ++ item.Stored k c ∷ [])) (since_in (log ++ item.Stored k c ∷ []) t) t) (shown_at (listing n) (entries_in (log ++ item.Stored k c ∷ [])) (since_in (log ++ item.Stored k c ∷ []) t - 1) t)
+    words : (t : ℕ) → 1 ≤ t → t < 128 → IsWord (cell (slice_set cs k (node_word c v b, true)) t).0 (since_in (log ++ item.Stored k c ∷ []) t) (shown_at (listing n) (entries_in (log ++ item.Stored k c ∷ [])) (since_in (log ++ item.Stored k c ∷ []) t) t) (shown_at (listing n) (entries_in (log ++ item.Stored k c ∷ [])) (since_in (log ++ item.Stored k c ∷ []) t - 1) t)
     words t l s = elim (cases_eq t k) [
-      | inl here ↦ subst (λ (i : ℕ). IsWord (cell (slice_set cs k (c * 65536 + v * 256 + b, true)) i).0 (since_in (log ++ item.Stored k c ∷ []) i) (shown_at (listing n) (entries_in (log ++ item.Stored k c ∷ [])) (since_in (log ++ item.Stored k c ∷ []) i) i) (shown_at (listing n) (entries_in (log ++ item.Stored k c ∷ [])) (since_in (log ++ item.Stored k c ∷ []) i - 1) i)) (sym here)
-          (rw (ap (λ (w : Cell). w.0) (at_set n cs log is_row k (c * 65536 + v * 256 + b) small), now, sym shows, sym shows_before) (inr (omega (arith, less), refl, byte, less_byte)))
-      | inr away ↦ word_later n cs log is_row (log ++ item.Stored k c ∷ []) t (c * 65536 + v * 256 + b, true) k l s away (item.Stored k c ∷ [], refl) (since_other t away)
+      | inl here ↦ subst (λ (i : ℕ). IsWord (cell (slice_set cs k (node_word c v b, true)) i).0 (since_in (log ++ item.Stored k c ∷ []) i) (shown_at (listing n) (entries_in (log ++ item.Stored k c ∷ [])) (since_in (log ++ item.Stored k c ∷ []) i) i) (shown_at (listing n) (entries_in (log ++ item.Stored k c ∷ [])) (since_in (log ++ item.Stored k c ∷ []) i - 1) i)) (sym here)
+          (rw (ap (λ (w : Cell). w.0) (at_set n cs log is_row k (node_word c v b) small), now, sym shows, sym shows_before) (inr (omega (arith, less), refl, byte, less_byte)))
+      | inr away ↦ word_later n cs log is_row (log ++ item.Stored k c ∷ []) t (node_word c v b, true) k l s away (item.Stored k c ∷ [], refl) (since_other t away)
     ]
 
 -- the words of all nodes are right

@@ -1,5 +1,5 @@
 -- Working definitions: how a row of words keeps to its log, and what a step on it tells (own).
-use Rattle.std.specs.Prelude.{◌≡◌, ◌≤◌, ◌<◌, ◌⊎◌, ◌+◌, ◌-◌, ◌*◌, ◌==◌, ℕ, true, List, [], ◌∷◌, ◌++◌, length, slice_index_or, reverse, take, MatchBool}
+use Rattle.std.specs.Prelude.{◌≡◌, ◌≤◌, ◌<◌, ◌⊎◌, ◌+◌, ◌-◌, ◌==◌, ℕ, true, List, [], ◌∷◌, ◌++◌, length, slice_index_or, reverse, take, MatchBool}
 use mathlib.Core.List.{IsPrefix}
 use Rattle.logbook.specs.Pages.{Book, Cell, cell, Named, Step, View}
 use Rattle.cm_nmt.specs.Listing.{Listing}
@@ -11,21 +11,7 @@ use Rattle.cm_past.specs.declared.current.Current.{Current}
 use Rattle.cm_past.specs.declared.log_item.LogItem.{LogItem}
 use Rattle.cm_past.specs.Changes.{IsChange, OthersStay}
 use Rattle.cm_past.specs.Items.{IsOf, IsSame, current_in, done_in, entries_in, number_of, shown_at, since_in}
-
--- the first word: how many entries there are; up to how many the words of all nodes are right, but for one; and this
--- one, 0 where there is none, with its state with so many
-abbrev pub status_word : ℕ → ℕ → ℕ → ℕ → ℕ
-status_word count done node state = count * 137438953472 + done * 65536 + node * 256 + state
-
--- the first word where the history is shown no more
-abbrev pub gone_word : ℕ
-gone_word = 18446744073709551615
-
--- a node's word: 0 where it was never stored, else with how many entries it was, the state, and the state with one
--- entry less
-abbrev pub IsWord : ℕ → ℕ → ℕ → ℕ → Type 0
-IsWord n since state before =
-    ((since ≡ 0) × (n ≡ 0)) ⊎ ((0 < since) × (n ≡ since * 65536 + state * 256 + before) × (state < 256) × (before < 256))
+use Rattle.cm_past.specs.Words.{IsByte, IsWord, gone_word, status_word}
 
 -- the entries are a legal history, and what was stored of each node but one is what it shows, up to where the words are
 -- right
@@ -39,7 +25,7 @@ pub record IsRight (net : Listing) (log : List LogItem) : Type 0 where
 -- what the first word says of a node is what is shown of it, up to where the words are right
 pub record IsFirst (net : Listing) (log : List LogItem) (state : ℕ) : Type 0 where
   pub node : current_in log < 128
-  pub byte : state < 256
+  pub byte : IsByte state
   pub shown : 1 ≤ current_in log → state ≡ shown_at net (entries_in log) (done_in log) (current_in log)
 
 -- the words are those of the log

@@ -3,6 +3,7 @@ ghost use Rattle.std.specs.Prelude.{◌≡◌, ◌<◌, ◌+◌, ◌↔◌, None
 ghost use Rattle.cm_history.specs.Legal.{most_entries};
 ghost use Rattle.cm_past.specs.Items.{number_of};
 
+use crate::status::Status;
 use cm_nmt::NodeId;
 
 /// The node whose state the first word has, and what its own word has to say before another takes its place.
@@ -27,6 +28,37 @@ impl Current {
             node: None,
             state: 0,
             before: 0,
+        }
+    }
+
+    /// The number of the node, 0 for none.
+    #[inline(always)]
+    fn number(&self) -> u8
+        ensures value { result ≡ number_of self.now.node }
+        ensures range { result < 128 }
+    {
+        match self.node {
+            Some(id) => id.get(),
+            None => 0,
+        }
+    }
+
+    /// What the first word says where there are so many entries, with which the words of all others are right.
+    #[inline(always)]
+    pub(crate) fn status(&self, count: u64) -> Status
+        ensures value { result ≡ record {
+          count = count;
+          done = count;
+          node = number_of self.now.node;
+          state = self.now.state;
+        } }
+        ensures range { number_of self.now.node < 128 }
+    {
+        Status {
+            count,
+            done: count,
+            node: self.number(),
+            state: self.state,
         }
     }
 

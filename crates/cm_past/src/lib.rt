@@ -21,6 +21,7 @@ mod past;
 mod reader;
 mod row;
 mod row_rule;
+mod status;
 mod storing;
 mod unnamed_history;
 mod writer;

@@ -1,18 +1,18 @@
-ghost use Rattle.std.specs.Prelude.{◌≡◌, ◌≤◌, ◌<◌, ℕ, length, reverse, if◌then◌else◌, IfSome};
+ghost use Rattle.std.specs.Prelude.{◌≡◌, ◌≤◌, length, reverse, IfSome};
 ghost use mathlib.Core.List.{IsPrefix};
 ghost use Rattle.cm_netlist.specs.Network.{listing};
 ghost use Rattle.cm_nmt.specs.Listing.{Listing};
 ghost use Rattle.cm_history.specs.History.{shown};
 ghost use Rattle.cm_history.specs.Legal.{most_entries};
-ghost use Rattle.cm_past.specs.Row.{IsLooked, IsWord};
+ghost use Rattle.cm_past.specs.Row.{IsLooked};
 ghost use Rattle.cm_past.specs.Items.{IsOf};
 
 use crate::history_name::HistoryName;
 use crate::past::Past;
-use crate::row::{GONE, Row};
+use crate::row::Row;
 use crate::row_rule::SeenLog;
-use cm_history::UNKNOWN;
-use cm_nmt::{NmtState, NodeId};
+use crate::status::{GONE, NodeWord, Status};
+use cm_nmt::NodeId;
 use std::marker::Model;
 use std::sync::Arc;
 
@@ -22,25 +22,6 @@ pub struct Look<K: HistoryName> {
     pub past: Past<K>,
     /// The state of the node, as object 1F82h reads it.
     pub state: u8,
-}
-
-/// What a node's word says: with how many entries it was stored, the state, and the state with one entry
-/// less. Where it never was, both are the state that is shown at first.
-#[inline(always)]
-pub(crate) fn split(word: u64, is_own: bool) -> (u64, u8, u8)
-    ensures { (since state before : ℕ) → IsWord word since state before
-        → (since ≡ 0 → state ≡ (if is_own then 127 else 0))
-        → (result.0 ≡ since) × (result.1 ≡ state) × (0 < since → result.2 ≡ before) }
-{
-    if word == 0 {
-        let state = if is_own {
-            NmtState::PreOperational.code()
-        } else {
-            UNKNOWN
-        };
-        return (0, state, state);
-    }
-    (word / 65_536, (word / 256 % 256) as u8, (word % 256) as u8)
 }
 
 /// How many entries are shown, and the state of the node with them.
@@ -57,20 +38,20 @@ fn see<K: HistoryName>(
     ensures later { IsPrefix seen.old.log seen.new.log }
     ensures looked { IfSome result (λ r. IsLooked K.net seen.new.log id r.1 r.0) }
 {
-    let status = row.look(0, seen);
-    if status == GONE {
+    let word = row.look(0, seen);
+    if word == GONE {
         return None;
     }
-    let done = status / 65_536 % 2_097_152;
-    if status / 256 % 256 == u64::from(id.get()) {
-        return Some((done, (status % 256) as u8));
+    let status = Status::of(word);
+    if status.node == id.get() {
+        return Some((status.done, status.state));
     }
-    let word = row.look(usize::from(id.get()), seen);
-    let (since, state, before) = split(word, id == own);
-    if since <= done {
-        Some((done, state))
+    let node_word = row.look(usize::from(id.get()), seen);
+    let found = NodeWord::found(node_word, id == own);
+    if found.since <= status.done {
+        Some((status.done, found.state))
     } else {
-        Some((since - 1, before))
+        Some((found.since - 1, found.before))
     }
 }
 

@@ -1,11 +1,13 @@
 //! The words that readers look at, and the steps that change them.
-ghost use Rattle.std.specs.Prelude.{◌≡◌, ◌≤◌, ◌<◌, ◌+◌, ◌-◌, ◌*◌, [], ◌∷◌, ◌++◌, ℕ, None, true, List, length, reverse, slice_set, take, IfOk, IfSome, IsTrue};
+ghost use Rattle.std.specs.Prelude.{◌≡◌, ◌≤◌, ◌<◌, ◌-◌, [], ◌∷◌, ◌++◌, ℕ, None, true, List, length};
+ghost use Rattle.std.specs.Prelude.{reverse, slice_set, take, IsTrue};
 ghost use mathlib.Core.List.{IsPrefix};
 ghost use Rattle.logbook.specs.Pages.{Cell, cell};
 ghost use Rattle.cm_netlist.specs.Network.{listing};
 ghost use Rattle.cm_history.specs.Legal.{IsAnswered, most_entries};
-ghost use Rattle.cm_past.specs.Items.{IsOf, IsSame, entries_in, number_of, shown_at, since_in};
-ghost use Rattle.cm_past.specs.Row.{AreWords, Found, HasRow, IsAdded, IsPending, IsReady, status_word};
+ghost use Rattle.cm_past.specs.Items.{IsOf, IsSame, entries_in, shown_at, since_in};
+ghost use Rattle.cm_past.specs.Row.{AreWords, Found, HasRow, IsAdded, IsPending, IsReady};
+ghost use Rattle.cm_past.specs.Words.{word_since};
 ghost use Rattle.cm_past.specs.declared.log_item.LogItem.{LogItem as Item};
 
 use crate::current::Current;
@@ -15,39 +17,14 @@ use crate::row_rule::{
     Adding, AskEntry, AskMoved, AskShown, AskStored, End, Look, NoGain, Put, RowRule, SeenLog,
     Storing,
 };
+use crate::status::{GONE, NodeWord, Status};
 use cm_history::Entry;
 use cm_nmt::NodeId;
 use logbook::{Plain, Word};
 use std::marker::PhantomData;
 
-/// The first word of a row whose history is shown no more.
-pub(crate) const GONE: u64 = u64::MAX;
-
 /// The words of a row.
 pub(crate) type Words = Vec<Word<LogItem, u64, RowRule>>;
-
-/// The number of a node, 0 for none.
-#[inline(always)]
-fn number(node: Option<NodeId>) -> u64
-    ensures value { result ≡ number_of node }
-    ensures range { result < 128 }
-{
-    match node {
-        Some(id) => u64::from(id.get()),
-        None => 0,
-    }
-}
-
-/// The first word: how many entries there are, up to how many the words of all nodes but one are right, and this
-/// one with its state.
-#[inline(always)]
-fn status(count: u64, done: u64, node: Option<NodeId>, state: u8) -> u64
-    requires { (count ≤ most_entries) × (done ≤ most_entries) }
-    ensures value { result ≡ status_word count done (number_of node) state }
-    ensures range { (number_of node < 128) × (state < 256) }
-{
-    count * 137_438_953_472 + done * 65_536 + number(node) * 256 + u64::from(state)
-}
 
 /// A word for the status, and one for each node, under the node's ID.
 #[derive(Drop)]
@@ -126,13 +103,13 @@ impl<K: HistoryName> Row<K> {
         ensures later { IsPrefix seen.old.log seen.new.log }
         ensures next { IsTrue result → IsPending (listing K.net) seen.new.log count entry.now }
     {
-        self.put::<Entry, AskEntry>(
-            0,
-            status(count, count, from.node, from.state),
-            status(count + 1, count, None, 0),
-            entry,
-            seen,
-        )
+        let new = Status {
+            count: count + 1,
+            done: count,
+            node: 0,
+            state: 0,
+        };
+        self.put::<Entry, AskEntry>(0, from.status(count).word(), new.word(), entry, seen)
     }
 
     /// Adds the next entry to the log, with which nothing else is shown of any node but one, where the history has
@@ -162,8 +139,8 @@ impl<K: HistoryName> Row<K> {
         };
         self.put::<Adding<'_>, AskMoved>(
             0,
-            status(count, count, from.node, from.state),
-            status(count + 1, count + 1, to.node, to.state),
+            from.status(count).word(),
+            to.status(count + 1).word(),
             &adding,
             seen,
         )
@@ -172,30 +149,21 @@ impl<K: HistoryName> Row<K> {
     /// Stores what is shown of a node with so many entries, and with one less, where its word has this older
     /// number.
     #[inline(always)]
-    pub(crate) fn store(
-        &self,
-        id: NodeId,
-        old: u64,
-        count: u64,
-        state: u8,
-        before: u8,
-        seen: &mut SeenLog,
-    ) -> bool
+    pub(crate) fn store(&self, id: NodeId, old: u64, new: NodeWord, seen: &mut SeenLog) -> bool
         requires of { (seen.old.book ≡ K.log) × IsOf K.net seen.old.log }
-        requires older { old < count * 65536 }
-        requires count { (count ≤ most_entries) × (count ≤ length (entries_in seen.old.log)) }
-        requires state { state ≡ shown_at (listing K.net) (entries_in seen.old.log) count id }
-        requires before { before ≡ shown_at (listing K.net) (entries_in seen.old.log) (count - 1) id }
+        requires older { word_since old < new.since }
+        requires count { (new.since ≤ most_entries) × (new.since ≤ length (entries_in seen.old.log)) }
+        requires state { new.state ≡ shown_at (listing K.net) (entries_in seen.old.log) new.since id }
+        requires before { new.before ≡ shown_at (listing K.net) (entries_in seen.old.log) (new.since - 1) id }
         ensures book { seen.new.book ≡ seen.old.book }
         ensures later { IsPrefix seen.old.log seen.new.log }
-        ensures stored { IsTrue result → count ≤ since_in seen.new.log id }
+        ensures stored { IsTrue result → new.since ≤ since_in seen.new.log id }
     {
         let about = Storing {
             node: id,
-            since: count,
+            since: new.since,
         };
-        let new = count * 65_536 + u64::from(state) * 256 + u64::from(before);
-        self.put::<Storing, AskStored>(usize::from(id.get()), old, new, &about, seen)
+        self.put::<Storing, AskStored>(usize::from(id.get()), old, new.word(), &about, seen)
     }
 
     /// Says that the words of all nodes are right with so many entries, where they were with one less.
@@ -209,24 +177,25 @@ impl<K: HistoryName> Row<K> {
         ensures book { seen.new.book ≡ seen.old.book }
         ensures later { IsPrefix seen.old.log seen.new.log }
     {
-        self.put::<u64, AskShown>(
-            0,
-            status(count, count - 1, None, 0),
-            status(count, count, None, 0),
-            &count,
-            seen,
-        )
+        let old = Status {
+            count,
+            done: count - 1,
+            node: 0,
+            state: 0,
+        };
+        let new = Status { done: count, ..old };
+        self.put::<u64, AskShown>(0, old.word(), new.word(), &count, seen)
     }
 
     /// Says that the history is shown no more.
     pub(crate) fn end(&self, seen: &mut SeenLog)
         requires { seen.old.book ≡ K.log }
     {
-        let status = self.look(0, seen);
+        let word = self.look(0, seen);
         let mut offer = seen.plain::<NoGain, u64, AskShown>(&0);
         let mut pen = seen.no_pen();
         let _found = self.words[0].compare_exchange::<End, NoGain>(
-            status, GONE, seen, &mut offer, &mut pen,
+            word, GONE, seen, &mut offer, &mut pen,
         );
     }
 }

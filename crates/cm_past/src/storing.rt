@@ -9,28 +9,27 @@ ghost use Rattle.cm_past.specs.Row.{IsCurrent, IsFound, IsMoving};
 use crate::change::Change;
 use crate::current::Current;
 use crate::history_name::HistoryName;
-use crate::reader::split;
 use crate::row::Row;
 use crate::row_rule::SeenLog;
+use crate::status::NodeWord;
 use cm_nmt::NodeId;
 
-/// What is in a node's word: the number, with how many entries it was stored, and the state.
+/// A node's word, and what it says.
 #[inline(always)]
 pub(crate) fn find<K: HistoryName>(
     row: &Row<K>,
     own: NodeId,
     id: NodeId,
     seen: &mut SeenLog,
-) -> (u64, u64, u8)
+) -> (u64, NodeWord)
     requires of { (seen.old.book ≡ K.log) × IsOf K.net seen.old.log }
     requires own { own ≡ K.net.own }
     ensures book { seen.new.book ≡ seen.old.book }
     ensures later { IsPrefix seen.old.log seen.new.log }
-    ensures found { IsFound (listing K.net) seen.new.log id result.0 result.1 result.2 }
+    ensures found { IsFound (listing K.net) seen.new.log id result.0 result.1.since result.1.state }
 {
     let word = row.look(usize::from(id.get()), seen);
-    let (since, state, _before) = split(word, id == own);
-    (word, since, state)
+    (word, NodeWord::found(word, id == own))
 }
 
 /// Stores the word of the node whose state the first word has: the words of all nodes are right then. `false` where
@@ -54,18 +53,16 @@ pub(crate) fn put_away<K: HistoryName>(
     let Some(id) = current.node else {
         return true;
     };
-    let (found, since, _state) = find(row, own, id, seen);
-    if current.since <= since {
+    let (word, found) = find(row, own, id, seen);
+    if current.since <= found.since {
         return true;
     }
-    row.store(
-        id,
-        found,
-        current.since,
-        current.state,
-        current.before,
-        seen,
-    )
+    let stored = NodeWord {
+        since: current.since,
+        state: current.state,
+        before: current.before,
+    };
+    row.store(id, word, stored, seen)
 }
 
 /// Stores what is shown of a node with the entry, where it was another before. `false` where its word
@@ -84,15 +81,20 @@ fn refresh<K: HistoryName>(
     ensures later { IsPrefix seen.old.log seen.new.log }
     ensures same { IsTrue result → IsSame (listing K.net) seen.new.log (change.now.count + 1) id }
 {
-    let (found, since, before) = find(row, change.own, id, seen);
-    if since > change.count {
+    let (word, found) = find(row, change.own, id, seen);
+    if found.since > change.count {
         return true;
     }
-    let state = change.state(id, before);
-    if state == before {
+    let state = change.state(id, found.state);
+    if state == found.state {
         return true;
     }
-    row.store(id, found, change.count + 1, state, before, seen)
+    let stored = NodeWord {
+        since: change.count + 1,
+        state,
+        before: found.state,
+    };
+    row.store(id, word, stored, seen)
 }
 
 /// [`refresh`] for every node.

@@ -7,37 +7,37 @@ use Rattle.cm_past.proofs.Looking.{looked_before, looked_current, looked_done}
 use Rattle.cm_past.proofs.Refreshing.{split_is}
 use Rattle.cm_past.proofs.reader.see.Goals as goal
 
-pub returns-then-status-from-clause-looked : goal.returns-then-status-from-clause-looked
-returns-then-status-from-clause-looked g c =
+pub returns-then-status-get-clause-looked : goal.returns-then-status-get-clause-looked
+returns-then-status-get-clause-looked g c =
     let net = g.K.HistoryName.net in
-    let xs = c.look-status.new.seen.log in
-    let of : IsOf net xs = prefix_trans (item.Opened net ∷ []) c.args.seen.now.log xs c.requires.of.1 c.look-status.ensures.later in
-    looked_current net xs c.args.id c.look-status.result c.look-status.ensures.found c.if-status.false of (omega (arith, c.get.ensures.value, c.get.ensures.range))
-    (c.if-status-from.true ∙ c.from.ensures ∙ c.get.ensures.value)
+    let xs = c.look-word.new.seen.log in
+    let of : IsOf net xs = prefix_trans (item.Opened net ∷ []) c.args.seen.now.log xs c.requires.of.1 c.look-word.ensures.later in
+    rw (c.of-status.ensures.state, c.of-status.ensures.done) (looked_current net xs c.args.id c.look-word.result c.look-word.ensures.found c.if-word.false of (omega (arith, c.get.ensures.value, c.get.ensures.range))
+    (sym c.of-status.ensures.node ∙ c.if-status-get.true ∙ c.get.ensures.value))
 
-pub returns-then-since-done-clause-looked : goal.returns-then-since-done-clause-looked
-returns-then-since-done-clause-looked g c =
+pub returns-then-found-status-clause-looked : goal.returns-then-found-status-clause-looked
+returns-then-found-status-clause-looked g c =
     let net = g.K.HistoryName.net in
-    let xs = c.look-status.new.seen.log in
-    let ys = c.look-word.new.seen.log in
-    let of : IsOf net ys = prefix_trans (item.Opened net ∷ []) xs ys (prefix_trans (item.Opened net ∷ []) c.args.seen.now.log xs c.requires.of.1 c.look-status.ensures.later) c.look-word.ensures.later in
+    let xs = c.look-word.new.seen.log in
+    let ys = c.look-node_word.new.seen.log in
+    let of : IsOf net ys = prefix_trans (item.Opened net ∷ []) xs ys (prefix_trans (item.Opened net ∷ []) c.args.seen.now.log xs c.requires.of.1 c.look-word.ensures.later) c.look-node_word.ensures.later in
     let low : 1 ≤ c.args.id = omega (arith, c.get.ensures.value, c.get.ensures.range) in
     let small : c.args.id < 128 = omega (arith, c.get.ensures.value, c.get.ensures.range) in
-    let there : Found c.args.id c.look-word.result ys = rw (← (c.from-2.ensures ∙ c.get-2.ensures.value)) c.look-word.ensures.found in
-    let is = split_is net ys c.args.id c.look-word.result c.split-since.result.0 c.split-since.result.1 c.split-since.result.2 c.eq.result of low small there
-    (c.eq.ensures ∙ ap (λ (k : ℕ). c.args.id == k) c.requires.own) c.split-since.ensures in
-    looked_done net xs ys c.args.id c.look-status.result c.look-word.result c.split-since.result.0 c.split-since.result.1
-    c.look-status.ensures.found c.if-status.false (λ here. c.if-status-from.false (here ∙ sym c.get.ensures.value ∙ sym c.from.ensures)) c.look-word.ensures.later of low small there is.0 is.1 c.if-since-done.true
+    let there : Found c.args.id c.look-node_word.result ys = rw (← (c.from.ensures ∙ c.get-2.ensures.value)) c.look-node_word.ensures.found in
+    let is = split_is net ys c.args.id c.look-node_word.result c.found-found.result.since c.found-found.result.state c.found-found.result.before c.eq.result of low small there
+    (c.eq.ensures ∙ ap (λ (k : ℕ). c.args.id == k) c.requires.own) c.found-found.ensures in
+    rw c.of-status.ensures.done (looked_done net xs ys c.args.id c.look-word.result c.look-node_word.result c.found-found.result.since c.found-found.result.state
+    c.look-word.ensures.found c.if-word.false (λ here. c.if-status-get.false (c.of-status.ensures.node ∙ here ∙ sym c.get.ensures.value)) c.look-node_word.ensures.later of low small there is.0 is.1 (rw c.of-status.ensures.done at c.if-found-status.true))
 
-pub returns-else-since-done-clause-looked : goal.returns-else-since-done-clause-looked
-returns-else-since-done-clause-looked g c =
+pub returns-else-found-status-clause-looked : goal.returns-else-found-status-clause-looked
+returns-else-found-status-clause-looked g c =
     let net = g.K.HistoryName.net in
-    let xs = c.look-status.new.seen.log in
-    let ys = c.look-word.new.seen.log in
-    let of : IsOf net ys = prefix_trans (item.Opened net ∷ []) xs ys (prefix_trans (item.Opened net ∷ []) c.args.seen.now.log xs c.requires.of.1 c.look-status.ensures.later) c.look-word.ensures.later in
+    let xs = c.look-word.new.seen.log in
+    let ys = c.look-node_word.new.seen.log in
+    let of : IsOf net ys = prefix_trans (item.Opened net ∷ []) xs ys (prefix_trans (item.Opened net ∷ []) c.args.seen.now.log xs c.requires.of.1 c.look-word.ensures.later) c.look-node_word.ensures.later in
     let low : 1 ≤ c.args.id = omega (arith, c.get.ensures.value, c.get.ensures.range) in
     let small : c.args.id < 128 = omega (arith, c.get.ensures.value, c.get.ensures.range) in
-    let there : Found c.args.id c.look-word.result ys = rw (← (c.from-2.ensures ∙ c.get-2.ensures.value)) c.look-word.ensures.found in
-    let is = split_is net ys c.args.id c.look-word.result c.split-since.result.0 c.split-since.result.1 c.split-since.result.2 c.eq.result of low small there
-    (c.eq.ensures ∙ ap (λ (k : ℕ). c.args.id == k) c.requires.own) c.split-since.ensures in
-    looked_before net ys c.args.id c.look-word.result c.split-since.result.0 c.split-since.result.2 of low small there is.0 is.2 (omega (arith, c.if-since-done.false))
+    let there : Found c.args.id c.look-node_word.result ys = rw (← (c.from.ensures ∙ c.get-2.ensures.value)) c.look-node_word.ensures.found in
+    let is = split_is net ys c.args.id c.look-node_word.result c.found-found.result.since c.found-found.result.state c.found-found.result.before c.eq.result of low small there
+    (c.eq.ensures ∙ ap (λ (k : ℕ). c.args.id == k) c.requires.own) c.found-found.ensures in
+    looked_before net ys c.args.id c.look-node_word.result c.found-found.result.since c.found-found.result.before of low small there is.0 is.2 (omega (arith, c.if-found-status.false))

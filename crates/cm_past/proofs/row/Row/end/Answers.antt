@@ -10,10 +10,10 @@ compare_exchange-found-requires g c =
     let is : c.index.result.now ≡ word_of g.K.HistoryName.log 0 = c.index.ensures ∙ are.1 0 c.index.result.now (omega (arith, are.0)) in
     let offer = c.plain-offer.ensures in
     let pen = c.no_pen-pen.ensures in
-    let of = c.look-status.ensures.book ∙ (c.requires ∙ sym (ap (λ (w : Named). w.book) is)) in (
+    let of = c.look-word.ensures.book ∙ (c.requires ∙ sym (ap (λ (w : Named). w.book) is)) in (
       ap (λ (w : Named). w.tracked) is,
       of,
       pen.0 ∙ of,
       offer.0,
-      rw (ap (λ (w : Named). w.key) is, pen.1, offer.3) (ends c.look-status.new.seen.log c.look-status.result c.plain-offer.result.ask),
+      rw (ap (λ (w : Named). w.key) is, pen.1, offer.3) (ends c.look-word.new.seen.log c.look-word.result c.plain-offer.result.ask),
     )
