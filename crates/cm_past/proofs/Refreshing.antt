@@ -1,31 +1,28 @@
 -- How what is shown of each node is found right with one entry more.
 use Rattle.std.proofs.Common.{◌≡◌, ℕ, ◌+◌, ◌-◌, ◌<◌, ◌≤◌, ◌==◌, inl, inr, cond, Bool, true, false, List, [], ◌∷◌, ◌++◌, length, take, refl, ap, sym, subst, ◌∙◌, arith}
 use Rattle.std.specs.Prelude.{reverse}
-use Rattle.std.proofs.lemmas.List.{length-take-le, reverse-append}
+use Rattle.std.proofs.lemmas.List.{reverse-append}
 use Rattle.std.proofs.lemmas.Bool.{cases_eq, cases_lt, ne_eqb}
 use mathlib.Core.List.{IsPrefix}
 use Rattle.cm_nmt.specs.Listing.{Listing, is_listed}
 use Rattle.cm_netlist.specs.Network.{Network, listing}
 use Rattle.cm_history.specs.History.{shown}
-use Rattle.cm_history.specs.Legal.{most_entries}
 use Rattle.cm_history.specs.declared.call.Entry.{Entry}
 use Rattle.cm_past.specs.declared.log_item.LogItem.{LogItem}
 use Rattle.cm_past.specs.Changes.{IsChange, Stays}
 use Rattle.cm_past.specs.Items.{IsOf, IsSame, entries_in, shown_at, since_in}
-use Rattle.cm_past.specs.declared.log_item.LogItem.TheVariants as item
-use base.Growing.{prefix_trans}
-use Rattle.cm_past.specs.Row.{Found, IsMoving, IsPending}
+use Rattle.cm_past.specs.Row.{Found, IsPending, IsWordOf}
 use Rattle.cm_past.specs.Words.{IsWord, word_since}
 use Rattle.logbook.specs.Pages.{cell}
 use Rattle.cm_past.proofs.Items.{entries_count, same_later, same_net, take_same}
 
 -- what is found in a node's word
 pub look_word : (net : Network) (log : List LogItem) (t found : ℕ) → IsOf net log → 1 ≤ t → t < 128 → Found t found log
-    → IsWord found (since_in log t) (shown_at (listing net) (entries_in log) (since_in log t) t) (shown_at (listing net) (entries_in log) (since_in log t - 1) t)
+    → IsWordOf (listing net) log t found
 look_word net log t found of low small (cs, (n, row), is) =
     let same : net ≡ n = same_net net n log of row.of in
-    subst (λ (w : ℕ). IsWord w (since_in log t) (shown_at (listing net) (entries_in log) (since_in log t) t) (shown_at (listing net) (entries_in log) (since_in log t - 1) t)) is
-    (subst (λ (w : Network). IsWord (cell cs t).0 (since_in log t) (shown_at (listing w) (entries_in log) (since_in log t) t) (shown_at (listing w) (entries_in log) (since_in log t - 1) t)) (sym same) (row.words t low small))
+    subst (IsWordOf (listing net) log t) is
+    (subst (λ (w : Network). IsWordOf (listing w) log t (cell cs t).0) (sym same) (row.words t low small))
 
 -- what is shown at first
 unlisted : (b : Bool) → cond {A = ℕ} b 0 0 ≡ 0
@@ -113,16 +110,3 @@ pub others_same : (net : Listing) (log : List LogItem) (c : ℕ) (e : Entry) (no
 others_same net log c e node own t was stays low small not_node not_own =
     same_stays net log c t (was.same t low small)
     (shown_next net log c e t was.next ∙ stays t low small (ne_eqb node t (λ z. not_node (sym z))) (ne_eqb t own not_own))
-
--- what is found is found while the entry is added
-pub moving_later : (net : Network) (xs ys : List LogItem) (c : ℕ) (e : Entry) (node value own own_value : ℕ) → IsPrefix xs ys
-    → IsMoving net xs c e node value own own_value → IsMoving net ys c e node value own own_value
-moving_later net xs ys c e node value own own_value p was = record {
-  of = prefix_trans (item.Opened net ∷ []) xs ys was.of p;
-  pending = pending_later (listing net) xs ys c e p was.pending;
-  change = change_later (listing net) xs ys c e node value own own_value p (omega (arith, was.pending.there)) was.change;
-}
-
--- the change is of no more entries than a history may have
-pub moving_few : (net : Network) (log : List LogItem) (c : ℕ) (e : Entry) (node value own own_value : ℕ) → IsMoving net log c e node value own own_value → c < most_entries
-moving_few net log c e node value own own_value was = omega (arith, was.change.few, length-take-le c (entries_in log) (omega (arith, was.pending.there)))

@@ -15,8 +15,8 @@ use Rattle.cm_past.specs.declared.log_item.LogItem.{LogItem}
 use Rattle.cm_past.specs.declared.log_item.LogItem.TheVariants as item
 use Rattle.cm_past.specs.declared.current.Current.{Current}
 use Rattle.cm_past.specs.Items.{IsOf, IsSame, current_from, current_in, done_in, entries_in, number_of, shown_at, since_in}
-use Rattle.cm_past.specs.Row.{Found, HasRow, IsAdded, IsCurrent, IsPending, IsReady, IsRow}
-use Rattle.cm_past.specs.Words.{IsByte, IsWord, gone_word, node_word, status_word, word_since}
+use Rattle.cm_past.specs.Row.{Found, HasRow, IsAdded, IsCurrent, IsPending, IsReady, IsRow, IsWordOf}
+use Rattle.cm_past.specs.Words.{IsByte, gone_word, node_word, status_word, word_since}
 use Rattle.cm_past.proofs.Items.{current_more, done_more, entries_count, entries_more, same_later, same_net, shown_same, since_more, take_same}
 use Rattle.cm_past.proofs.LegalEnds.{legal_longer}
 use Rattle.cm_past.proofs.CurrentNode.{current_next}
@@ -90,7 +90,7 @@ module _ (net : Network) (cs : List Cell) (log : List LogItem) (is_row : IsRow n
 
   -- a node's word that isn't stored is right in the longer log
   word_later : (ys : List LogItem) (t : ℕ) (x : Cell) (k : ℕ) → 1 ≤ t → t < 128 → (t ≡ k → ⊥) → IsPrefix log ys → since_in ys t ≡ since_in log t
-      → IsWord (cell (slice_set cs k x) t).0 (since_in ys t) (shown_at (listing net) (entries_in ys) (since_in ys t) t) (shown_at (listing net) (entries_in ys) (since_in ys t - 1) t)
+      → IsWordOf (listing net) ys t (cell (slice_set cs k x) t).0
   word_later ys t x k low small away p same =
       rw (ap (λ (w : Cell). w.0) (at_other k t x away), same, sym (shown_same (listing net) log ys (since_in log t) t p (is_row.right.since t low small)), sym (shown_same (listing net) log ys (since_in log t - 1) t p (omega (arith, is_row.right.since t low small)))) (is_row.words t low small)
 
@@ -249,7 +249,7 @@ stores net seen k old c v b cs log of low small there few older byte less_byte s
     less : since_in log k < c
     less = by (is_row.words k low small)
       where
-        by : IsWord (cell cs k).0 (since_in log k) (shown_at (listing n) (entries_in log) (since_in log k) k) (shown_at (listing n) (entries_in log) (since_in log k - 1) k) → since_in log k < c
+        by : IsWordOf (listing n) log k (cell cs k).0 → since_in log k < c
         by (inl p) = omega (arith, p.0, older)
         by (inr p) = omega (arith, p.1, found, older)
 
@@ -262,9 +262,9 @@ stores net seen k old c v b cs log of low small there few older byte less_byte s
     shows_before : b ≡ shown_at (listing n) (entries_in (log ++ item.Stored k c ∷ [])) (c - 1) k
     shows_before = state_before ∙ ap (λ (w : Network). shown_at (listing w) (entries_in seen) (c - 1) k) net_is ∙ shown_same (listing n) seen log (c - 1) k pre (omega (arith, there)) ∙ ap (λ (w : List Entry). shown_at (listing n) w (c - 1) k) (sym entries)
 
-    words : (t : ℕ) → 1 ≤ t → t < 128 → IsWord (cell (slice_set cs k (node_word c v b, true)) t).0 (since_in (log ++ item.Stored k c ∷ []) t) (shown_at (listing n) (entries_in (log ++ item.Stored k c ∷ [])) (since_in (log ++ item.Stored k c ∷ []) t) t) (shown_at (listing n) (entries_in (log ++ item.Stored k c ∷ [])) (since_in (log ++ item.Stored k c ∷ []) t - 1) t)
+    words : (t : ℕ) → 1 ≤ t → t < 128 → IsWordOf (listing n) (log ++ item.Stored k c ∷ []) t (cell (slice_set cs k (node_word c v b, true)) t).0
     words t l s = elim (cases_eq t k) [
-      | inl here ↦ subst (λ (i : ℕ). IsWord (cell (slice_set cs k (node_word c v b, true)) i).0 (since_in (log ++ item.Stored k c ∷ []) i) (shown_at (listing n) (entries_in (log ++ item.Stored k c ∷ [])) (since_in (log ++ item.Stored k c ∷ []) i) i) (shown_at (listing n) (entries_in (log ++ item.Stored k c ∷ [])) (since_in (log ++ item.Stored k c ∷ []) i - 1) i)) (sym here)
+      | inl here ↦ subst (λ (i : ℕ). IsWordOf (listing n) (log ++ item.Stored k c ∷ []) i (cell (slice_set cs k (node_word c v b, true)) i).0) (sym here)
           (rw (ap (λ (w : Cell). w.0) (at_set n cs log is_row k (node_word c v b) small), now, sym shows, sym shows_before) (inr (omega (arith, less), refl, byte, less_byte)))
       | inr away ↦ word_later n cs log is_row (log ++ item.Stored k c ∷ []) t (node_word c v b, true) k l s away (item.Stored k c ∷ [], refl) (since_other t away)
     ]

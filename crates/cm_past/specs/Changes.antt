@@ -32,5 +32,5 @@ OthersStay net before e node = (t : ℕ) → 1 ≤ t → t < 128 → (t ≡ node
 -- after the entry this is shown of a node, where that was shown of it before
 abbrev pub LeavesState : Entry → ℕ → ℕ → ℕ → ℕ → ℕ → ℕ → ℕ → Type 0
 LeavesState e node value own own_value t state after =
-    (net : Listing) (before : List Entry) → IsChange net before e node value own own_value → 1 ≤ t → t < 128 → state ≡ shown net (reverse before) t
-    → after ≡ shown net (e ∷ reverse before) t
+    (net : Listing) (before : List Entry) → IsChange net before e node value own own_value → 1 ≤ t → t < 128
+    → state ≡ shown net (reverse before) t → after ≡ shown net (e ∷ reverse before) t

@@ -54,7 +54,9 @@ shown_at net es m t = shown net (reverse (take m es)) t
 
 -- from where the node's word was stored last up to c entries, what is shown of the node is the same
 abbrev pub IsSame : Listing → List LogItem → ℕ → ℕ → Type 0
-IsSame net log c t = (m : ℕ) → since_in log t ≤ m → m ≤ c → shown_at net (entries_in log) m t ≡ shown_at net (entries_in log) (since_in log t) t
+IsSame net log c t =
+    (m : ℕ) → since_in log t ≤ m → m ≤ c
+    → shown_at net (entries_in log) m t ≡ shown_at net (entries_in log) (since_in log t) t
 
 -- the network list with which the log opens
 abbrev pub net_in : List LogItem → Network

@@ -1,5 +1,6 @@
 -- Working definitions: how a row of words keeps to its log, and what a step on it tells (own).
-use Rattle.std.specs.Prelude.{◌≡◌, ◌≤◌, ◌<◌, ◌⊎◌, ◌+◌, ◌-◌, ◌==◌, ℕ, true, List, [], ◌∷◌, ◌++◌, length, slice_index_or, reverse, take, MatchBool}
+use Rattle.std.specs.Prelude.{◌≡◌, ◌≤◌, ◌<◌, ◌⊎◌, ◌+◌, ◌-◌, ◌==◌, ℕ, true, List, [], ◌∷◌, ◌++◌, length, reverse, take}
+use Rattle.std.specs.Prelude.{slice_index_or, MatchBool}
 use mathlib.Core.List.{IsPrefix}
 use Rattle.logbook.specs.Pages.{Book, Cell, cell, Named, Step, View}
 use Rattle.cm_nmt.specs.Listing.{Listing}
@@ -9,7 +10,7 @@ use Rattle.cm_history.specs.Legal.{IsLegal, most_entries}
 use Rattle.cm_history.specs.declared.call.Entry.{Entry}
 use Rattle.cm_past.specs.declared.current.Current.{Current}
 use Rattle.cm_past.specs.declared.log_item.LogItem.{LogItem}
-use Rattle.cm_past.specs.Changes.{IsChange, OthersStay}
+use Rattle.cm_past.specs.Changes.{OthersStay}
 use Rattle.cm_past.specs.Items.{IsOf, IsSame, current_in, done_in, entries_in, number_of, shown_at, since_in}
 use Rattle.cm_past.specs.Words.{IsByte, IsWord, gone_word, status_word}
 
@@ -28,15 +29,24 @@ pub record IsFirst (net : Listing) (log : List LogItem) (state : ℕ) : Type 0 w
   pub byte : IsByte state
   pub shown : 1 ≤ current_in log → state ≡ shown_at net (entries_in log) (done_in log) (current_in log)
 
+-- the word of a node says what its log does: with how many entries it was stored last, what these show of the node, and
+-- what one less do
+abbrev pub IsWordOf : Listing → List LogItem → ℕ → ℕ → Type 0
+IsWordOf net log t word =
+    IsWord word (since_in log t) (shown_at net (entries_in log) (since_in log t) t)
+    (shown_at net (entries_in log) (since_in log t - 1) t)
+
 -- the words are those of the log
 pub record IsRow (net : Network) (cells : List Cell) (log : List LogItem) : Type 0 where
   pub of : IsOf net log
   pub long : length cells ≡ 128
   pub state : ℕ
   pub first : IsFirst (listing net) log state
-  pub status : (cell cells 0 ≡ (status_word (length (entries_in log)) (done_in log) (current_in log) state, true)) ⊎ (cell cells 0 ≡ (gone_word, true))
+  pub status :
+      (cell cells 0 ≡ (status_word (length (entries_in log)) (done_in log) (current_in log) state, true))
+      ⊎ (cell cells 0 ≡ (gone_word, true))
   pub home : (t : ℕ) → 1 ≤ t → t < 128 → (cell cells t).1 ≡ true
-  pub words : (t : ℕ) → 1 ≤ t → t < 128 → IsWord (cell cells t).0 (since_in log t) (shown_at (listing net) (entries_in log) (since_in log t) t) (shown_at (listing net) (entries_in log) (since_in log t - 1) t)
+  pub words : (t : ℕ) → 1 ≤ t → t < 128 → IsWordOf (listing net) log t (cell cells t).0
   pub right : IsRight (listing net) log
 
 abbrev pub HasRow : List Cell → List LogItem → Type 0
@@ -100,17 +110,11 @@ pub record IsReady (net : Listing) (log : List LogItem) (count : ℕ) (e : Entry
   pub same : (t : ℕ) → 1 ≤ t → t < 128 → (t ≡ number_of c.node → ⊥) → IsSame net log count t
   pub others : OthersStay net (take count (entries_in log)) e (number_of c.node)
 
--- the log is that of the network, and the change is that of the entry that was added to so many
-pub record IsMoving (net : Network) (log : List LogItem) (count : ℕ) (e : Entry) (node value own own_value : ℕ) : Type 0 where
-  pub of : IsOf net log
-  pub pending : IsPending (listing net) log count e
-  pub change : IsChange (listing net) (take count (entries_in log)) e node value own own_value
-
 -- what was found in a node's word: with how many entries it was stored, and the state
 pub record IsFound (net : Listing) (log : List LogItem) (t word since state : ℕ) : Type 0 where
   pub low : 1 ≤ t
   pub small : t < 128
-  pub said : IsWord word (since_in log t) (shown_at net (entries_in log) (since_in log t) t) (shown_at net (entries_in log) (since_in log t - 1) t)
+  pub said : IsWordOf net log t word
   pub stored : since ≡ since_in log t
   pub shown : state ≡ shown_at net (entries_in log) (since_in log t) t
 

@@ -1,10 +1,11 @@
 //! How the words of nodes are looked at and stored.
-ghost use Rattle.std.specs.Prelude.{◌≡◌, ◌≤◌, ◌<◌, ◌+◌, ℕ, length, IsTrue};
+ghost use Rattle.std.specs.Prelude.{◌≡◌, ◌≤◌, ◌+◌, length, IsTrue};
 ghost use mathlib.Core.List.{IsPrefix};
 ghost use Rattle.cm_netlist.specs.Network.{listing};
 ghost use Rattle.cm_history.specs.Legal.{most_entries};
+ghost use Rattle.cm_past.specs.Growing.{IsMoving, Stores};
 ghost use Rattle.cm_past.specs.Items.{IsOf, IsSame, entries_in};
-ghost use Rattle.cm_past.specs.Row.{IsCurrent, IsFound, IsMoving};
+ghost use Rattle.cm_past.specs.Row.{IsCurrent, IsFound};
 
 use crate::change::Change;
 use crate::current::Current;
@@ -45,10 +46,7 @@ pub(crate) fn put_away<K: HistoryName>(
     requires own { own ≡ K.net.own }
     requires count { (count ≤ most_entries) × (count ≤ length (entries_in seen.old.log)) }
     requires current { IsCurrent (listing K.net) seen.old.log count current.now }
-    ensures book { seen.new.book ≡ seen.old.book }
-    ensures later { IsPrefix seen.old.log seen.new.log }
-    ensures same { IsTrue result → (t : ℕ) → 1 ≤ t → t < 128
-        → IsSame (listing K.net) seen.new.log count t }
+    ensures { Stores (listing K.net) seen.old seen.new count result }
 {
     let Some(id) = current.node else {
         return true;
@@ -74,9 +72,7 @@ fn refresh<K: HistoryName>(
     id: NodeId,
     seen: &mut SeenLog,
 ) -> bool
-    requires book { seen.old.book ≡ K.log }
-    requires moving { IsMoving K.net seen.old.log change.now.count change.now.entry.now change.now.node
-        change.now.value change.now.own change.now.own_value }
+    requires { IsMoving K.net K.log seen.old change.now }
     ensures book { seen.new.book ≡ seen.old.book }
     ensures later { IsPrefix seen.old.log seen.new.log }
     ensures same { IsTrue result → IsSame (listing K.net) seen.new.log (change.now.count + 1) id }
@@ -100,13 +96,8 @@ fn refresh<K: HistoryName>(
 /// [`refresh`] for every node.
 #[inline(never)]
 fn refresh_all<K: HistoryName>(row: &Row<K>, change: &Change<'_>, seen: &mut SeenLog) -> bool
-    requires book { seen.old.book ≡ K.log }
-    requires moving { IsMoving K.net seen.old.log change.now.count change.now.entry.now change.now.node
-        change.now.value change.now.own change.now.own_value }
-    ensures book { seen.new.book ≡ seen.old.book }
-    ensures later { IsPrefix seen.old.log seen.new.log }
-    ensures same { IsTrue result → (t : ℕ) → 1 ≤ t → t < 128
-        → IsSame (listing K.net) seen.new.log (change.now.count + 1) t }
+    requires { IsMoving K.net K.log seen.old change.now }
+    ensures { Stores (listing K.net) seen.old seen.new (change.now.count + 1) result }
 {
     for number in 1..128 {
         let Some(id) = NodeId::new(number) else {
@@ -127,13 +118,8 @@ pub(crate) fn store_states<K: HistoryName>(
     change: &Change<'_>,
     seen: &mut SeenLog,
 ) -> bool
-    requires book { seen.old.book ≡ K.log }
-    requires moving { IsMoving K.net seen.old.log change.now.count change.now.entry.now change.now.node
-        change.now.value change.now.own change.now.own_value }
-    ensures book { seen.new.book ≡ seen.old.book }
-    ensures later { IsPrefix seen.old.log seen.new.log }
-    ensures same { IsTrue result → (t : ℕ) → 1 ≤ t → t < 128
-        → IsSame (listing K.net) seen.new.log (change.now.count + 1) t }
+    requires { IsMoving K.net K.log seen.old change.now }
+    ensures { Stores (listing K.net) seen.old seen.new (change.now.count + 1) result }
 {
     if change.is_of_all() {
         return refresh_all(row, change, seen);
