@@ -1,5 +1,6 @@
 pub mod Lists
 pub mod Rows
+pub mod About
 pub mod Steps
 pub mod Courses
 pub mod Losses

@@ -1,7 +1,11 @@
 -- Working definitions: what is kept of a slave and of the network, and what one moment makes of it.
-use Rattle.std.specs.Prelude.{ℕ, None, false, if◌then◌else◌, unwrap_or}
+use Rattle.std.specs.Prelude.{ℕ, Option, Some, None, false, ◌&&◌, if◌then◌else◌, nat_le, unwrap_or}
 use Rattle.std.specs.Option.{option_or}
 use Rattle.cm_history.specs.Machine.{phase_after}
+use Rattle.cm_history.specs.Orders.{is_reset_all}
+use Rattle.cm_history.specs.declared.call.Call.{Call}
+use Rattle.cm_history.specs.declared.call.Call.TheVariants as call
+use Rattle.cm_history.specs.declared.call.Orders.{Orders}
 use Rattle.cm_history.specs.declared.phase.Phase.{Phase}
 use Rattle.cm_history.specs.declared.phase.Phase.TheVariants as phase
 use Rattle.cm_netlist.specs.Network.{Network, listing}
@@ -12,9 +16,12 @@ use Rattle.cm_watch.specs.Schedules.{blank_schedule, cause_by, schedule_after, s
 use Rattle.cm_watch.specs.Signals.{boot_up_by, changes_by, budget_in, full_budget, news_in, spends, spent, state_heard_by, state_told_by}
 use Rattle.cm_watch.specs.Slaves.{asked_by, booted_by, booted_since, busy_by, heard_by, heard_last, held_by, is_asked_in, is_busy_in, is_held_in, is_lost_given, is_tried_in, lost_by, tried_by}
 use Rattle.cm_watch.specs.declared.course.Course.{Course}
+use Rattle.cm_watch.specs.declared.happening.Happening.{Happening}
 use Rattle.cm_watch.specs.declared.happening.Happening.TheVariants as happening
 use Rattle.cm_watch.specs.declared.happening.Moment.{Moment}
 use Rattle.cm_watch.specs.declared.happening.Moment.TheVariants as moment
+use Rattle.cm_watch.specs.declared.happening.Step.{Step}
+use Rattle.cm_watch.specs.declared.happening.Step.TheVariants as step
 use Rattle.cm_watch.specs.declared.schedule.Schedule.{Schedule}
 use Rattle.cm_watch.specs.declared.settings.Settings.{Settings}
 use Rattle.cm_watch.specs.declared.signals.Budget.{Budget}
@@ -78,6 +85,45 @@ slave_after net s t m i k = record {
   news = news_after m i k.news;
   budget = budget_after t m i k.schedule k.budget;
 }
+
+-- ---- which slave a moment may change
+
+-- the node of a sub-index of object 1F82h, request NMT; none at 128, which stands for all nodes (CiA 302-2)
+abbrev pub node_at : ℕ → Option ℕ
+node_at t = if nat_le 1 t && nat_le t 127 then Some t else None
+
+-- the node that a call with these orders is about; none where it may be about all, as a start of the network, a loss that is
+-- handled by a reset of all, and a request to all, or is about no node, as one that tells the time
+abbrev pub about_call : Call → Orders → Option ℕ
+about_call call.StartNetwork o = None
+about_call (call.Begin j) o = Some j
+about_call (call.Report j n a) o = Some j
+about_call (call.Signal j b) o = Some j
+about_call (call.Lost j) o = if is_reset_all o then None else Some j
+about_call (call.Request t v) o = node_at t
+about_call (call.Read t) o = node_at t
+about_call (call.Elapsed ms) o = None
+about_call (call.Hold j) o = Some j
+about_call (call.Release j) o = Some j
+
+abbrev pub about_happening : Happening → Option ℕ
+about_happening (happening.Heard j b) = Some j
+about_happening (happening.Called e) = about_call e.call e.orders
+about_happening (happening.Ended j) = Some j
+about_happening (happening.Asked j) = Some j
+
+abbrev pub about_step : Step → Option ℕ
+about_step (step.Lost j) = Some j
+about_step (step.Boot j) = Some j
+about_step (step.Signal j b) = Some j
+about_step (step.LeftOut j n) = Some j
+about_step (step.TimeOver ms) = None
+about_step (step.AllTried ms) = None
+
+-- which node a moment is about: what is kept of each other slave stays as it is; none where it may be about all
+abbrev pub about : Moment → Option ℕ
+about (moment.Happened h) = about_happening h
+about (moment.Gave s) = about_step s
 
 -- ---- the network
 

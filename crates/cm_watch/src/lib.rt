@@ -18,6 +18,7 @@ mod schedule;
 mod settings;
 mod signals;
 mod slave;
+mod taking;
 mod telling;
 mod watch;
 

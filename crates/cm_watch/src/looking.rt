@@ -5,7 +5,7 @@ ghost use Rattle.cm_netlist.specs.Network.{Network as NetworkList};
 ghost use Rattle.cm_watch.specs.Course.{is_stopped_in, phase_in};
 ghost use Rattle.cm_watch.specs.Pasts.{Past};
 ghost use Rattle.cm_watch.specs.Signals.{state_heard};
-ghost use Rattle.cm_watch.specs.Slaves.{booted_since, heard_last};
+ghost use Rattle.cm_watch.specs.Slaves.{booted_since, heard_last, is_held_in};
 ghost use Rattle.cm_watch.specs.Watches.{Watches};
 ghost use Rattle.cm_watch.specs.declared.settings.Settings.{Settings as WatchSettings};
 
@@ -36,6 +36,14 @@ impl Watch {
             → result ≡ is_some (booted_since past id) }
     {
         self.slave(id).booted.is_some()
+    }
+
+    /// Whether an operator holds the slave.
+    pub fn is_held(&self, id: NodeId) -> bool
+        ensures { (net : NetworkList) (s : WatchSettings) (past : Past) → Watches self.now net s past
+            → result ≡ is_held_in past id }
+    {
+        self.slave(id).is_held
     }
 
     /// When an error control message of the node came last.

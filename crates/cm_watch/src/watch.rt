@@ -7,7 +7,7 @@ ghost use Rattle.cm_watch.specs.Limits.{AreLimited};
 ghost use Rattle.cm_watch.specs.Pasts.{Past};
 ghost use Rattle.cm_watch.specs.Steps.{given, heartbeat_of, steps_at};
 ghost use Rattle.cm_watch.specs.Telling.{given_up_of, told_of};
-ghost use Rattle.cm_watch.specs.Watches.{AreSlaves, Watches, elapsed_by, is_end_by, is_given_by, is_given_up_by, is_late_by, is_left_out_by, is_pending_by, is_time_over_by, is_to_be_booted_by, is_to_be_told_by, kept_at, left_out_by, signal_by, step_by, steps_by};
+ghost use Rattle.cm_watch.specs.Watches.{Watches, elapsed_by, is_end_by, is_given_by, is_given_up_by, is_late_by, is_left_out_by, is_pending_by, is_time_over_by, is_to_be_booted_by, is_to_be_told_by, kept_at, left_out_by, signal_by, step_by, steps_by};
 ghost use Rattle.cm_watch.specs.declared.happening.Moment.TheVariants.{Gave, Happened};
 ghost use Rattle.cm_watch.specs.declared.happening.Step.TheVariants as step;
 ghost use Rattle.cm_watch.specs.declared.settings.Settings.{Settings as WatchSettings};
@@ -18,6 +18,7 @@ use crate::schedule::{Again, Schedule};
 use crate::settings::Settings;
 use crate::signals::{Budget, MOST_AT_ONCE, News};
 use crate::slave::{Slave, is_overdue};
+use crate::taking::take_all;
 use crate::telling::{Told, back_while, becomes, unwatched_by};
 use cm_history::Phase;
 use cm_netlist::Network;
@@ -31,26 +32,6 @@ pub struct Watch {
     pub(crate) course: Course,
     /// Of each node, that of node i at place i.
     slaves: [Slave; 128],
-}
-
-/// What is kept of all slaves after the moment.
-fn take_all(
-    slaves: &mut [Slave; 128],
-    network: &Network,
-    settings: Settings,
-    now: u64,
-    moment: &Moment,
-)
-    requires { now < 2 ^ 63 }
-    ensures { (past : Past) → AreSlaves slaves.old network.now settings past
-        → AreSlaves slaves.new network.now settings ((now, moment.now) ∷ past) }
-{
-    for number in 1..128u8 {
-        if let Some(id) = NodeId::new(number) {
-            let place = usize::from(number);
-            slaves[place] = slaves[place].after(network, settings, now, moment, id);
-        }
-    }
 }
 
 /// In which time the heartbeat of the node has to come, in ms; 0 where it isn't watched.

@@ -1,7 +1,7 @@
 use Rattle.std.proofs.Common.{◌≡◌, ℕ, ◌<◌, ◌≤◌}
 use Rattle.cm_watch.specs.Kept.{slave_after}
 use Rattle.cm_watch.specs.Watches.{kept_at}
-use Rattle.cm_watch.proofs.watch.take_all.Given as goal
+use Rattle.cm_watch.proofs.taking.take_each.Given as goal
 
 -- the slaves below the node are as after the moment, the others as before it
 abbrev pub invariant-loop-number : goal.invariant-loop-number

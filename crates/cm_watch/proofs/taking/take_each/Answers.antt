@@ -6,8 +6,8 @@ use Rattle.cm_watch.specs.Kept.{blank_slave, slave_after}
 use Rattle.cm_watch.specs.Watches.{kept_at}
 use Rattle.cm_watch.specs.declared.slave.Slave.{Slave}
 use Rattle.cm_watch.proofs.Rows.{take_step}
-use Rattle.cm_watch.proofs.watch.take_all.Goals as goal
-use Rattle.cm_watch.proofs.watch.take_all.Goals.{in-Some, in_default}
+use Rattle.cm_watch.proofs.taking.take_each.Goals as goal
+use Rattle.cm_watch.proofs.taking.take_each.Goals.{in-Some, in_default}
 
 pub loop-number-preserved : goal.loop-number-preserved
 loop-number-preserved c =
