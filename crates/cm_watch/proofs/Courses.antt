@@ -1,10 +1,14 @@
 -- What is kept of the network is what the past says: a slave is booted where the history says so, and the phase is that of the
--- history.
+-- history. Whether a slave is open matters only while the mandatory ones are being booted.
 use Rattle.std.proofs.Common.{◌≡◌, ◌∙◌, ℕ, ◌&&◌, ◌||◌, not, Bool, true, false, List, [], ◌∷◌, ap, refl, sym, Option, Some, None, is_some, unwrap_or}
 use Rattle.std.specs.Bool.{if◌then◌else◌}
 use Rattle.std.specs.List.{filter}
-use Rattle.cm_history.specs.History.{boots, clears, is_booted, open_of, phase_of}
+use Rattle.cm_history.specs.History.{boots, clears, is_booted, is_empty, is_start_by, open_of, phase_of}
+use Rattle.cm_history.specs.Machine.{phase_then}
+use Rattle.cm_history.specs.Phases.{is_booting}
 use Rattle.cm_history.specs.declared.call.Entry.{Entry}
+use Rattle.cm_history.specs.declared.phase.Phase.{Phase}
+use Rattle.cm_history.specs.declared.phase.Phase.TheVariants as phase
 use Rattle.cm_history.proofs.PhaseSteps.{phase_more}
 use Rattle.cm_netlist.specs.Network.{Network, listing}
 use Rattle.cm_nmt.specs.Listing.{is_mandatory, node_ids}
@@ -12,6 +16,7 @@ use Rattle.cm_watch.specs.Kept.{course_after, course_of, phase_behind}
 use Rattle.cm_watch.specs.Pasts.{Past, entries_in, with_entry}
 use Rattle.cm_watch.specs.Slaves.{booted_by, booted_since}
 use Rattle.cm_watch.specs.Watches.{AreSlaves, is_pending_by}
+use Rattle.cm_watch.specs.declared.course.Course.{Course}
 use Rattle.cm_watch.specs.declared.watch.Pending.TheVariants as pending
 use Rattle.cm_watch.specs.declared.happening.Happening.TheVariants as happening
 use Rattle.cm_watch.specs.declared.happening.Moment.{Moment}
@@ -70,3 +75,35 @@ course_step net past t m =
       is_over_given = (course_of net ((t, m) ∷ past)).is_over_given;
       is_end_given = (course_of net ((t, m) ∷ past)).is_end_given;
     }) (phase_step net m (entries_in past))
+
+-- in another phase than Booting no call decides
+same_then : (p : Phase) (a b : Option Phase) → is_booting p ≡ false → phase_then p a ≡ phase_then p b
+same_then phase.Booting a b other = absurd (cc)
+same_then phase.Idle a b other = refl
+same_then phase.Ready a b other = refl
+same_then phase.Halted a b other = refl
+
+same_behind : (net : Network) (m : Moment) (xs ys : List ℕ) (p : Phase) → is_booting p ≡ false → phase_behind net m xs p ≡ phase_behind net m ys p
+same_behind net (moment.Happened (happening.Called e)) xs ys p other =
+    ap (λ (q : Phase). if is_start_by e.call e.reply then phase.Booting else q) (same_then p _ _ other)
+same_behind net (moment.Happened (happening.Heard j k)) xs ys p other = refl
+same_behind net (moment.Happened (happening.Ended j)) xs ys p other = refl
+same_behind net (moment.Happened (happening.Asked j)) xs ys p other = refl
+same_behind net (moment.Gave g) xs ys p other = refl
+
+-- what is kept of the network by the open slaves is known by those that are open while they are being booted
+pub course_while : (net : Network) (t : ℕ) (m : Moment) (xs : List ℕ) (c after : Course) (none : Bool) → none ≡ (is_booting c.phase && is_empty xs)
+    → ((ys : List ℕ) → none ≡ is_empty ys → after ≡ course_after net t m ys c) → after ≡ course_after net t m xs c
+course_while net t m xs c after none is known = by_booting (is_booting c.phase) refl
+  where
+    by_booting : (b : Bool) → is_booting c.phase ≡ b → after ≡ course_after net t m xs c
+    by_booting true booting = known xs (is ∙ ap (λ b. b && is_empty xs) booting)
+    by_booting false other =
+        known (0 ∷ []) (is ∙ ap (λ b. b && is_empty xs) other)
+        ∙ ap (λ p. record {
+          phase = p;
+          started = (course_after net t m xs c).started;
+          is_stopped = (course_after net t m xs c).is_stopped;
+          is_over_given = (course_after net t m xs c).is_over_given;
+          is_end_given = (course_after net t m xs c).is_end_given;
+        }) (same_behind net m (0 ∷ []) xs c.phase other)

@@ -1,5 +1,6 @@
-ghost use Rattle.std.specs.Prelude.{◌≡◌, ◌<◌, ◌^◌, ℕ, List, [], ◌∷◌, ◌++◌, map, filter, IfOk, OnOk, OnErr};
+ghost use Rattle.std.specs.Prelude.{◌≡◌, ◌<◌, ◌^◌, ◌&&◌, ℕ, List, [], ◌∷◌, ◌++◌, map, filter, IfOk, OnOk, OnErr};
 ghost use Rattle.cm_history.specs.History.{is_empty};
+ghost use Rattle.cm_history.specs.Phases.{is_booting};
 ghost use Rattle.cm_netlist.specs.Network.{Network as NetworkList};
 ghost use Rattle.cm_nmt.specs.Listing.{node_ids};
 ghost use Rattle.cm_watch.specs.Kept.{course_of};
@@ -111,7 +112,7 @@ impl Watch {
             → Watches self.new network.now s ((now_ms, moment.now) ∷ past) }
     {
         take_all(&mut self.slaves, network, self.settings, now_ms, moment);
-        let none_open = self.none_pending(network, Pending::Open);
+        let none_open = self.is_none_open(network);
         self.course = self.course.after(network, now_ms, moment, none_open);
     }
 
@@ -263,6 +264,14 @@ impl Watch {
             }
         }
         true
+    }
+
+    /// Whether the mandatory slaves are being booted, and none is open any more: in another phase it doesn't matter.
+    fn is_none_open(&self, network: &Network) -> bool
+        ensures { result ≡ (is_booting self.now.course.phase
+            && is_empty (filter (is_pending_by self.now.slaves network.now Pending.Open) node_ids)) }
+    {
+        self.course.phase.is_booting() && self.none_pending(network, Pending::Open)
     }
 
     /// The ms since the network was started.

@@ -1,12 +1,13 @@
-use Rattle.std.proofs.Common.{◌∙◌, ◌∷◌, ap, subst, sym}
+use Rattle.std.proofs.Common.{◌∙◌, ◌∷◌, ◌&&◌, ℕ, List, ap, subst, sym}
 use Rattle.cm_history.specs.History.{is_empty, open_of}
+use Rattle.cm_history.specs.Phases.{is_booting}
 use Rattle.cm_netlist.specs.Network.{listing}
 use Rattle.cm_watch.specs.Kept.{course_after}
 use Rattle.cm_watch.specs.Pasts.{entries_in}
 use Rattle.cm_watch.specs.Watches.{AreSlaves}
 use Rattle.cm_watch.specs.declared.course.Course.{Course}
 use Rattle.cm_watch.specs.declared.settings.Settings.{Settings}
-use Rattle.cm_watch.proofs.Courses.{course_step, same_open}
+use Rattle.cm_watch.proofs.Courses.{course_step, course_while, same_open}
 use Rattle.cm_watch.proofs.watch.Watch.note.Goals as goal
 
 pub returns : goal.returns
@@ -21,7 +22,8 @@ returns c = λ s past w.
     record {
       settings = w.settings;
       slaves = after;
-      course = c.after-self.ensures (open_of (listing net) (entries_in ((t, m) ∷ past))) (c.none_pending-none_open.ensures ∙ ap is_empty open_is)
+      course = course_while net t m (open_of (listing net) (entries_in ((t, m) ∷ past))) old.course c.after-self.result c.is_none_open-none_open.result
+          (c.is_none_open-none_open.ensures ∙ ap (λ (xs : List ℕ). is_booting old.course.phase && is_empty xs) open_is) c.after-self.ensures
           ∙ ap (λ (x : Course). course_after net t m (open_of (listing net) (entries_in ((t, m) ∷ past))) x) w.course
           ∙ course_step net past t m;
     }
