@@ -10,6 +10,7 @@ use clap::error::ErrorKind;
 use clap::{Arg, ArgMatches, Command, Error, value_parser};
 use cm_nmt::NodeId;
 use std::alloc::{AllocError, Global};
+use std::ops::Range;
 
 /// Where the frames of a CAN bus come from, and where frames are sent to.
 #[derive(Clone, Copy, Debug, PartialEq, Eq)]
@@ -81,55 +82,79 @@ const NAME: &str = "canboot";
 
 const VERSION: &str = "0.1.0";
 
-/// The network list's path.
-pub(crate) fn network_argument<'a>(alloc: Global) -> Arg<'a> {
-    Arg::new(alloc, "network")
-        .value_name("NET")
-        .help("The path of the network list")
-        .required(true)
+/// A list of these items, if there was memory for each.
+pub(crate) fn listed<T: Drop, const N: usize>(
+    alloc: Global,
+    items: [Result<T, AllocError>; N],
+) -> Result<Vec<T>, AllocError> {
+    Vec::from_array(alloc, items)?
+        .into_iter()
+        .try_collect(alloc)
 }
 
-fn check_command<'a>(alloc: Global) -> Result<Command<'a>, AllocError> {
-    Command::new(alloc, "check")
-        .about(ABOUT_CHECK)
-        .long_about(HELP_CHECK)
-        .arg(network_argument(alloc))
+/// An argument of this name.
+pub(crate) fn argument<'a>(alloc: Global, name: &'a str, help: &'a str) -> Arg<'a> {
+    Arg::new(alloc, name).help(help)
+}
+
+/// An option of this name, with a value.
+pub(crate) fn option<'a>(alloc: Global, name: &'a str, value: &'a str, help: &'a str) -> Arg<'a> {
+    argument(alloc, name, help).long(name).value_name(value)
+}
+
+/// An option of this name, with a number of this range; clap's parser of a `u8` would be the same.
+pub(crate) fn number<'a>(
+    alloc: Global,
+    name: &'a str,
+    value: &'a str,
+    help: &'a str,
+    range: Range<i64>,
+) -> Arg<'a> {
+    option(alloc, name, value, help).value_parser(value_parser!(u32).range(range))
+}
+
+/// The network list's path.
+pub(crate) fn network_argument<'a>(alloc: Global) -> Arg<'a> {
+    argument(alloc, "network", "The path of the network list")
+        .value_name("NET")
+        .required(true)
 }
 
 /// How many workers there are; so many, unless it is given.
 pub(crate) fn workers_argument<'a>(alloc: Global, unless_given: &'a str) -> Arg<'a> {
-    Arg::new(alloc, "workers")
-        .long("workers")
-        .value_name("N")
-        .help("How many workers boot slaves, 1 to 16")
-        .value_parser(value_parser!(u8).range(1..17))
-        .default_value(unless_given)
+    let help = "How many workers boot slaves, 1 to 16";
+    number(alloc, "workers", "N", help, 1..17).default_value(unless_given)
 }
 
 /// How many attempts a slave has at most; so many, unless it is given.
 pub(crate) fn attempts_argument<'a>(alloc: Global, unless_given: &'a str) -> Arg<'a> {
-    Arg::new(alloc, "attempts")
-        .long("attempts")
-        .value_name("N")
-        .help("How often a slave is tried at most, 1 to 10")
-        .value_parser(value_parser!(u8).range(1..11))
-        .default_value(unless_given)
+    let help = "How often a slave is tried at most, 1 to 10";
+    number(alloc, "attempts", "N", help, 1..11).default_value(unless_given)
 }
 
 fn silent_argument<'a>(alloc: Global) -> Arg<'a> {
-    Arg::new(alloc, "silent")
-        .long("silent")
-        .value_name("ID")
-        .help("The node-ID of a slave that gives no answer, 1 to 127")
-        .value_parser(value_parser!(u8).range(1..128))
+    let help = "The node-ID of a slave that gives no answer, 1 to 127";
+    number(alloc, "silent", "ID", help, 1..128)
 }
 
 /// The journal's path.
 pub(crate) fn journal_argument<'a>(alloc: Global) -> Arg<'a> {
-    Arg::new(alloc, "journal")
-        .long("journal")
-        .value_name("FILE")
-        .help("The path to which the journal is written")
+    let help = "The path to which the journal is written";
+    option(alloc, "journal", "FILE", help)
+}
+
+/// A command of this name, with its short and its long help.
+pub(crate) fn described<'a>(
+    alloc: Global,
+    name: &'a str,
+    about: &'a str,
+    help: &'a str,
+) -> Command<'a> {
+    Command::new(alloc, name).about(about).long_about(help)
+}
+
+fn check_command<'a>(alloc: Global) -> Result<Command<'a>, AllocError> {
+    described(alloc, "check", ABOUT_CHECK, HELP_CHECK).arg(network_argument(alloc))
 }
 
 fn run_command<'a>(alloc: Global) -> Result<Command<'a>, AllocError> {
@@ -140,41 +165,48 @@ fn run_command<'a>(alloc: Global) -> Result<Command<'a>, AllocError> {
         silent_argument(alloc),
         journal_argument(alloc),
     ]?;
-    Command::new(alloc, "run")
-        .about(ABOUT_RUN)
-        .long_about(HELP_RUN)
-        .args(arguments)
+    described(alloc, "run", ABOUT_RUN, HELP_RUN).args(arguments)
 }
 
 fn replay_command<'a>(alloc: Global) -> Command<'a> {
-    Command::new(alloc, "replay")
-        .about(ABOUT_REPLAY)
-        .long_about(HELP_REPLAY)
+    described(alloc, "replay", ABOUT_REPLAY, HELP_REPLAY)
 }
 
 fn mend_command<'a>(alloc: Global) -> Command<'a> {
-    Command::new(alloc, "mend")
-        .about(ABOUT_MEND)
-        .long_about(HELP_MEND)
+    described(alloc, "mend", ABOUT_MEND, HELP_MEND)
 }
 
 fn subcommands<'a>(alloc: Global) -> Result<Vec<Command<'a>>, AllocError> {
-    let check = check_command(alloc)?;
-    let run = run_command(alloc)?;
-    let live = live_command(alloc)?;
-    let replay = replay_command(alloc);
-    Ok(vec![in alloc; check, run, live, replay, mend_command(alloc)]?)
+    listed(
+        alloc,
+        [
+            check_command(alloc),
+            run_command(alloc),
+            live_command(alloc),
+            Ok(replay_command(alloc)),
+            Ok(mend_command(alloc)),
+        ],
+    )
 }
 
-fn command<'a>(alloc: Global) -> Result<Command<'a>, AllocError> {
-    let subcommands = subcommands(alloc)?;
+/// The command with no subcommands yet.
+fn bare_command<'a>(alloc: Global) -> Result<Command<'a>, AllocError> {
     Command::new(alloc, NAME)
-        .bin_name(NAME)?
         .version(VERSION)
         .about(ABOUT)
         .after_help(AFTER)
         .subcommand_required(true)
-        .subcommands(subcommands)
+        .bin_name(NAME)
+}
+
+fn command<'a>(alloc: Global) -> Result<Command<'a>, AllocError> {
+    let subcommands = subcommands(alloc)?;
+    bare_command(alloc)?.subcommands(subcommands)
+}
+
+/// The text of this name, which clap found.
+pub(crate) fn text_of<'a>(given: &ArgMatches<'a>, name: &str) -> &'a str {
+    given.get_str(name).unwrap_or("")
 }
 
 /// A number of this name, which clap took only where it is 1 to `most`.
@@ -192,7 +224,7 @@ fn run_action<'a>(given: &ArgMatches<'a>) -> Action<'a>
     ensures { IsInRange result }
 {
     Action::Run {
-        network: given.get_str("network").unwrap_or(""),
+        network: text_of(given, "network"),
         workers: number_of(given, "workers", 16),
         attempts: number_of(given, "attempts", 10),
         silent: given.get_one::<u8>("silent").and_then(NodeId::new),
@@ -203,13 +235,16 @@ fn run_action<'a>(given: &ArgMatches<'a>) -> Action<'a>
 fn action_of<'a>(matches: &ArgMatches<'a>) -> Action<'a>
     ensures { IsInRange result }
 {
-    match matches.subcommand() {
-        Some(("check", given)) => Action::Check {
-            network: given.get_str("network").unwrap_or(""),
+    let Some((name, given)) = matches.subcommand() else {
+        return Action::Replay;
+    };
+    match name {
+        "check" => Action::Check {
+            network: text_of(given, "network"),
         },
-        Some(("run", given)) => run_action(given),
-        Some(("live", given)) => live_action(given),
-        Some(("mend", _)) => Action::Mend,
+        "run" => run_action(given),
+        "live" => live_action(given),
+        "mend" => Action::Mend,
         _ => Action::Replay,
     }
 }
