@@ -6,3 +6,7 @@ pub mod Places
 pub mod Cutting
 pub mod Receiving
 pub mod Console
+pub mod Identifiers
+pub mod Routing
+pub mod Heartbeats
+pub mod Strangers

@@ -16,6 +16,8 @@ pub enum Happening {
     Typed,
     /// The operator types no more.
     NoMoreTyped,
+    /// Many lines were received, and none of them is a frame.
+    NoFrames,
     /// Nothing is received any more: the input of frames has ended, or a read of it has failed.
     NoMoreHeard,
 }

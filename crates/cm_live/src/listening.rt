@@ -1,3 +1,10 @@
+ghost use Rattle.std.specs.Prelude.{◌≡◌, ◌==◌, ◌<◌, ◌-◌, IfOk, IsTrue, vec_len};
+ghost use Rattle.cm_boot.specs.declared.question.Answer.{Answer};
+ghost use Rattle.cm_can.specs.declared.frame.CanFrame.{CanFrame as Frame};
+ghost use Rattle.cm_can.specs.Questions.{IsAnswer};
+ghost use Rattle.cm_live.specs.Console.{within};
+ghost use Rattle.cm_live.specs.Identifiers.{id_of_answer, node_by, node_in};
+
 use cm_boot::Question;
 use cm_can::{CanFrame, Kind};
 use cm_nmt::NodeId;
@@ -18,8 +25,11 @@ pub struct Listening {
     received: AtomicU64,
 }
 
-/// The identifier of the frames that may answer a question.
-fn id_of_answer(node: NodeId, question: &Question) -> u16 {
+/// The identifier of the frames that may answer a question: each that answers it has this one.
+fn id_of_answer(node: NodeId, question: &Question) -> u16
+    ensures value { result ≡ id_of_answer node question.now }
+    ensures each { (f : Frame) (a : Answer) → IsAnswer node question.now f a → f.id.number ≡ result }
+{
     let base = match question {
         Question::Read(_, _) | Question::Write(_) => FROM_SERVER,
         Question::StateByBeat | Question::StateByGuard | Question::Beat => ERROR_CONTROL,
@@ -27,23 +37,49 @@ fn id_of_answer(node: NodeId, question: &Question) -> u16 {
     base + u16::from(node.get())
 }
 
-/// The node of which a frame may answer a question of a boot.
-pub(crate) fn node_of(frame: &CanFrame) -> Option<NodeId> {
-    let number = frame.id.number;
-    let base = if number >= ERROR_CONTROL {
-        ERROR_CONTROL
-    } else {
-        FROM_SERVER
-    };
-    if frame.kind != Kind::Data || number < base || number - base > 127 {
+/// The node whose node-ID an identifier has above this one.
+fn node_above(base: u16, id: u16) -> Option<NodeId>
+    ensures { result ≡ within 1 127 (id - base) }
+{
+    let above = id.saturating_sub(base);
+    if above > 127 {
         return None;
     }
-    NodeId::new((number - base) as u8)
+    NodeId::new(above as u8)
+}
+
+/// The node that sends data frames with this identifier, of which it may answer a question.
+fn node_by(id: u16) -> Option<NodeId>
+    ensures { result ≡ node_by id }
+{
+    match node_above(FROM_SERVER, id) {
+        Some(node) => Some(node),
+        None => node_above(ERROR_CONTROL, id),
+    }
+}
+
+/// The node of which a frame may answer a question of a boot.
+pub(crate) fn node_of(frame: &CanFrame) -> Option<NodeId>
+    ensures { result ≡ node_in frame.now.kind frame.now.id.number }
+{
+    match frame.kind {
+        Kind::Data => node_by(frame.id.number),
+        Kind::Remote => None,
+    }
+}
+
+/// Whether a worker that listens to this identifier listens to the frame.
+fn is_heard(id: u64, frame: &CanFrame) -> bool
+    ensures { result ≡ (id == frame.now.id.number) }
+{
+    id == u64::from(frame.id.number)
 }
 
 impl Listening {
     /// Nobody listens yet. Refused where memory is.
-    pub fn new(alloc: Global, workers: u8) -> Result<Listening, AllocError> {
+    pub fn new(alloc: Global, workers: u8) -> Result<Listening, AllocError>
+        ensures { IfOk result (λ l. vec_len l.ids ≡ workers) }
+    {
         let mut ids = Vec::with_capacity(alloc, usize::from(workers))?;
         for _worker in 0..workers {
             ids.push(AtomicU64::new(0))?;
@@ -72,9 +108,11 @@ impl Listening {
     }
 
     /// Whether the worker listens to this frame.
-    pub(crate) fn is_wanted(&self, worker: usize, frame: &CanFrame) -> bool {
+    pub(crate) fn is_wanted(&self, worker: usize, frame: &CanFrame) -> bool
+        ensures { IsTrue result → worker < vec_len self.now.ids }
+    {
         match self.ids.get(worker) {
-            Some(id) => id.load(Ordering::SeqCst) == u64::from(frame.id.number),
+            Some(id) => is_heard(id.load(Ordering::SeqCst), frame),
             None => false,
         }
     }

@@ -1,3 +1,6 @@
+ghost use Rattle.std.specs.Prelude.{◌≡◌, IfNone, IsFalse, IsTrue, None};
+ghost use Rattle.cm_live.specs.Outlets.{Writes};
+
 use crate::bus_name::BusName;
 use crate::listening::Listening;
 use crate::outlet::Outlet;
@@ -32,7 +35,9 @@ pub struct LivePort<R: Wait + Clock + Drop, B: BusName, W: Write + Drop> {
 }
 
 impl<R: Wait + Clock + Drop, B: BusName, W: Write + Drop> Port<B> for LivePort<R, B, W> {
-    fn listen(&mut self, node: NodeId, question: &Question, wait_ms: u32) {
+    fn listen(&mut self, node: NodeId, question: &Question, wait_ms: u32)
+        ensures { self.new.outlet ≡ self.old.outlet }
+    {
         self.listening.listen(self.worker, node, question);
         for _forgotten in 0..ENDLESS {
             if self.heard.try_recv(&self.rt).is_err() {
@@ -50,14 +55,21 @@ impl<R: Wait + Clock + Drop, B: BusName, W: Write + Drop> Port<B> for LivePort<R
         self.listening.received()
     }
 
-    fn send(&mut self, frame: &CanFrame) {
+    fn send(&mut self, frame: &CanFrame)
+        ensures written { IsFalse self.new.outlet.failed → Writes self.old.outlet.format frame.now
+            (W.contents self.old.outlet.writer) (W.contents self.new.outlet.writer) }
+        ensures stopped { IsTrue self.old.outlet.failed → self.new.outlet ≡ self.old.outlet }
+    {
         self.outlet.send(frame);
         if self.outlet.has_failed() {
             self.broken.store(true, Ordering::SeqCst);
         }
     }
 
-    fn hear(&mut self) -> Option<Received<B>> {
+    fn hear(&mut self) -> Option<Received<B>>
+        ensures outlet { self.new.outlet ≡ self.old.outlet }
+        ensures deadline { IfNone self.old.deadline (result ≡ None) }
+    {
         let deadline = self.deadline?;
         self.heard.recv_deadline(&self.rt, deadline).ok()
     }

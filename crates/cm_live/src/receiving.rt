@@ -1,22 +1,20 @@
-//! What is received of a bus, and whom it is given to.
+//! What is received of a bus.
 ghost use Rattle.std.specs.Prelude.{◌≡◌, ◌+◌, ◌<◌, ◌^◌, ◌∷◌, [], IfSome, length};
 ghost use Rattle.cm_live.specs.Places.{IsFrameLine};
 ghost use Rattle.cm_live.specs.Cutting.{ComeNext, IsLeft};
 
 use crate::bus_name::BusName;
 use crate::happening::Happening;
-use crate::heartbeats::Heartbeats;
 use crate::line_counter::LineCounter;
-use crate::listening::{Listening, node_of};
 use crate::outlet::Format;
 use crate::received::Received;
-use cm_can::{CanFrame, ErrorControl, error_control, read_adapter_line, read_log_line};
-use cm_nmt::NodeId;
-use crossbeam_channel::Sender;
+use crate::routes::Routes;
+use crate::strangers::Strangers;
+use cm_can::{CanFrame, read_adapter_line, read_log_line};
 use std::io::Read;
 use std::marker::{Model, PhantomData};
-use std::sync::{Arc, Wait};
-use std::time::{Clock, Instant};
+use std::sync::Wait;
+use std::time::Clock;
 
 /// How many reads there are at most: no input has so many.
 pub(crate) const MOST_READS: u64 = 1 << 50;
@@ -76,74 +74,12 @@ impl<B: BusName> FrameCutter<B> {
     }
 }
 
-/// Whom each frame is given to that is received.
-#[derive(Drop)]
-pub struct Routes<B: BusName> {
-    /// When the run began.
-    pub start: Instant,
-    /// The listed nodes, in rising order; the k-th, counted from 0, is booted by worker k modulo their number.
-    pub listed: Vec<NodeId>,
-    pub listening: Arc<Listening>,
-    pub heartbeats: Arc<Heartbeats>,
-    /// What each worker hears.
-    pub workers: Vec<Sender<Received<B>>>,
-    pub happenings: Sender<Happening>,
-}
-
-impl<B: BusName> Routes<B> {
-    /// The place of a node among the listed ones.
-    fn place_of(&self, node: NodeId) -> Option<usize> {
-        self.listed.iter().position(|listed| *listed == node)
-    }
-
-    /// Gives the frame to the worker that boots the node, if it listens to it.
-    fn give<R: Wait>(&self, rt: &R, received: Received<B>) {
-        let frame = received.frame();
-        let Some(place) = node_of(&frame).and_then(|node| self.place_of(node)) else {
-            return;
-        };
-        if self.workers.is_empty() {
-            return;
-        }
-        let worker = place % self.workers.len();
-        if self.listening.is_wanted(worker, &frame) {
-            if let Some(hears) = self.workers.get(worker) {
-                let _ = hears.send(rt, received);
-            }
-        }
-    }
-
-    /// Notes when a listed node was heard, and tells what is news of it.
-    fn note<R: Wait + Clock>(&self, rt: &R, message: ErrorControl) {
-        if self.place_of(message.node).is_none() {
-            return;
-        }
-        let Ok(time) = self.start.elapsed(rt) else {
-            return;
-        };
-        let now_ms = u64::try_from(time.as_millis()).unwrap_or(u64::MAX);
-        if self.heartbeats.hear(message.node, message.byte, now_ms) {
-            let _ = self
-                .happenings
-                .send(rt, Happening::Told(message.node, message.byte));
-        }
-    }
-
-    /// Gives a frame to all that it is for.
-    fn take<R: Wait + Clock>(&self, rt: &R, received: Received<B>) {
-        let frame = received.frame();
-        self.give(rt, received);
-        if let Some(message) = error_control(&frame) {
-            self.note(rt, message);
-        }
-    }
-}
-
-/// Takes the frames of these bytes, which come next.
+/// Takes the frames of these bytes, which come next. Where many lines were read, and no frame, that is told.
 fn take_bytes<B: BusName, R: Wait + Clock>(
     rt: &R,
     bytes: &[u8],
     cutter: &mut FrameCutter<B>,
+    strangers: &mut Strangers,
     routes: &Routes<B>,
 )
     requires room { cutter.old + length bytes.now < 2 ^ 63 }
@@ -151,7 +87,11 @@ fn take_bytes<B: BusName, R: Wait + Clock>(
     ensures { cutter.new ≡ cutter.old + length bytes.now }
 {
     for byte in bytes {
-        if let Some(received) = cutter.take(*byte) {
+        let received = cutter.take(*byte);
+        if strangers.take(*byte, received.is_some()) {
+            let _ = routes.happenings.send(rt, Happening::NoFrames);
+        }
+        if let Some(received) = received {
             routes.take(rt, received);
         }
     }
@@ -167,9 +107,11 @@ fn receive_from<B: BusName, R: Wait + Clock, I: Read>(
 )
     requires first { cutter.old ≡ 0 }
     requires left { IsLeft B.text cutter.old (I.remaining input.old) }
+    ensures { IsLeft B.text cutter.new (I.remaining input.new) }
 {
     let mut block = [0u8; 4096];
     let mut read = 0u64;
+    let mut strangers = Strangers::new();
     for _turn in 0..MOST_READS {
         let count = match input.read(&mut block) {
             Ok(0) | Err(_) => return,
@@ -177,7 +119,7 @@ fn receive_from<B: BusName, R: Wait + Clock, I: Read>(
         };
         read += count as u64;
         routes.listening.note_received(read);
-        take_bytes(rt, &block[..count], cutter, routes);
+        take_bytes(rt, &block[..count], cutter, &mut strangers, routes);
     }
 }
 
@@ -205,6 +147,7 @@ impl<B: BusName, I: Read + Drop> Source<B, I> {
     pub fn new(input: I, format: Format) -> Source<B, I>
         requires format { format ≡ B.format }
         requires text { I.remaining input ≡ B.text }
+        ensures { result ≡ format }
     {
         Source {
             input,

@@ -95,6 +95,7 @@ fn tell_from<B: BusName, R: Wait, T: Read>(
 )
     requires first { cutter.old ≡ 0 }
     requires left { IsLeft B.typed cutter.old (T.remaining input.old) }
+    ensures { IsLeft B.typed cutter.new (T.remaining input.new) }
 {
     let mut block = [0u8; 256];
     for _turn in 0..MOST_READS {
@@ -106,7 +107,7 @@ fn tell_from<B: BusName, R: Wait, T: Read>(
     }
 }
 
-/// Where lines are typed: a reader that holds what the bus's name says.
+/// Where lines are typed: a reader that holds what the bus's name says. Contracts see what it holds.
 #[derive(Drop)]
 pub struct TypedSource<B: BusName, T: Read + Drop> {
     input: T,
@@ -114,11 +115,11 @@ pub struct TypedSource<B: BusName, T: Read + Drop> {
 }
 
 impl<B: BusName, T: Read + Drop> Model for TypedSource<B, T> {
-    ghost use Rattle.std.specs.Prelude.{◌≡◌};
+    ghost use Rattle.std.specs.Prelude.{◌≡◌, ℕ, List, Option};
 
-    ghost Value = { Unit {0} };
+    ghost Value = { Option (List ℕ) };
 
-    ghost view = { λ s. tt };
+    ghost view = { λ s. T.remaining s.input };
 
     ghost invariant = { λ s. T.remaining s.input ≡ B.typed };
 }
@@ -127,6 +128,7 @@ impl<B: BusName, T: Read + Drop> TypedSource<B, T> {
     /// The reader of typed lines of the bus that `B` names.
     pub fn new(input: T) -> TypedSource<B, T>
         requires { T.remaining input ≡ B.typed }
+        ensures { result ≡ B.typed }
     {
         TypedSource {
             input,

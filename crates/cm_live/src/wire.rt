@@ -1,4 +1,4 @@
-ghost use Rattle.std.specs.Prelude.{◌≡◌, ◌+◌, ◌<◌, ◌≤◌, ◌++◌, ◌∷◌, [], false, true};
+ghost use Rattle.std.specs.Prelude.{◌≡◌, ◌+◌, ◌<◌, ◌≤◌, ◌++◌, ◌∷◌, ◌↔◌, [], IsFalse, false, true};
 ghost use Rattle.cm_nmt.specs.Frames.{frame_bytes};
 ghost use Rattle.cm_can.specs.Frames.{IsData};
 ghost use Rattle.cm_live.specs.Outlets.{WritesMessage, WritesMessageFront, WritesMessages};
@@ -96,11 +96,15 @@ impl<W: Write + Drop, B: BusName> Wire for LiveWire<W, B> {
 
     ghost room_of = { λ w. w.room };
 
-    fn room(&self) -> u32 {
+    fn room(&self) -> u32
+        ensures { result ≡ self.now.room }
+    {
         self.kept.room()
     }
 
-    fn used(&self) -> bool {
+    fn used(&self) -> bool
+        ensures { IsFalse result ↔ (self.now.sent ≡ []) }
+    {
         self.kept.used()
     }
 

@@ -1,0 +1,30 @@
+-- When it is told that nothing that was read is a frame (own): behind 16 lines, of which none is one.
+use Rattle.std.specs.Prelude.{◌==◌, ◌-◌, ◌&&◌, ◌||◌, ℕ, Bool, not, if◌then◌else◌}
+use Rattle.cm_live.specs.declared.strangers.Strangers.{Strangers}
+
+-- whether the byte ends a line: a line feed does, and a carriage return
+abbrev pub ends_line : ℕ → Bool
+ends_line byte = (byte == 10) || (byte == 13)
+
+-- whether the byte ends a line that has bytes: an empty line is none
+abbrev pub is_whole : Strangers → ℕ → Bool
+is_whole s byte = s.is_begun && ends_line byte
+
+-- how many lines are left until it is told, behind a line that is a frame or none: behind a frame it never is
+abbrev pub left_behind : ℕ → Bool → ℕ
+left_behind left is_frame = if is_frame then 0 else left - 1
+
+-- whether it is told behind that line: it is the last that was left, and no frame
+abbrev pub is_told : ℕ → Bool → Bool
+is_told left is_frame = (left == 1) && not is_frame
+
+-- what the next byte makes of that
+abbrev pub behind_byte : Strangers → ℕ → Bool → Strangers
+behind_byte s byte is_frame = record {
+  left = if is_whole s byte then left_behind s.left is_frame else s.left;
+  is_begun = not (ends_line byte);
+}
+
+-- whether it is told behind the next byte
+abbrev pub tells : Strangers → ℕ → Bool → Bool
+tells s byte is_frame = is_whole s byte && is_told s.left is_frame

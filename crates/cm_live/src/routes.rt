@@ -1,0 +1,107 @@
+//! Whom each frame is given to that is received.
+ghost use Rattle.std.specs.Prelude.{◌≡◌, ◌/◌, ◌-◌, ◌^◌, IfSome, Some, min, vec_len};
+ghost use Rattle.std.specs.Duration.{as_nanos};
+ghost use Rattle.cm_live.specs.Routing.{IsNewsIn, place_of, worker_for, worker_of};
+
+use crate::bus_name::BusName;
+use crate::happening::Happening;
+use crate::heartbeats::Heartbeats;
+use crate::listening::{Listening, node_of};
+use crate::received::Received;
+use cm_can::{CanFrame, error_control};
+use cm_nmt::NodeId;
+use crossbeam_channel::Sender;
+use std::sync::{Arc, Wait};
+use std::time::{Clock, Duration, Instant};
+
+/// Whom each frame is given to that is received.
+#[derive(Drop)]
+pub struct Routes<B: BusName> {
+    /// When the run began.
+    pub start: Instant,
+    /// The listed nodes, in rising order; the k-th, counted from 0, is booted by worker k modulo their number.
+    pub listed: Vec<NodeId>,
+    pub listening: Arc<Listening>,
+    pub heartbeats: Arc<Heartbeats>,
+    /// What each worker hears.
+    pub workers: Vec<Sender<Received<B>>>,
+    pub happenings: Sender<Happening>,
+}
+
+/// The place of a node among the listed ones.
+fn place_of(listed: &[NodeId], node: NodeId) -> Option<usize>
+    ensures { result ≡ place_of node listed.now }
+{
+    listed.iter().position(|listed| *listed == node)
+}
+
+/// Of so many workers, the one that boots the node.
+fn worker_of(listed: &[NodeId], workers: usize, node: NodeId) -> Option<usize>
+    ensures { result ≡ worker_of listed.now workers node }
+{
+    if workers == 0 {
+        return None;
+    }
+    let place = place_of(listed, node)?;
+    Some(place % workers)
+}
+
+/// Of so many workers, the one that a frame may be given to.
+fn worker_for(listed: &[NodeId], workers: usize, frame: &CanFrame) -> Option<usize>
+    ensures { result ≡ worker_for listed.now workers frame.now }
+{
+    worker_of(listed, workers, node_of(frame)?)
+}
+
+/// How many ms this time has.
+fn ms_in(time: Duration) -> u64
+    ensures { result ≡ min (as_nanos time / 1_000_000) (2 ^ 64 - 1) }
+{
+    u64::try_from(time.as_millis()).unwrap_or(u64::MAX)
+}
+
+impl<B: BusName> Routes<B> {
+    /// The worker that the frame is given to: the one that boots its node, if it listens to it.
+    fn worker_that_hears(&self, frame: &CanFrame) -> Option<usize>
+        ensures { IfSome result (λ k. worker_for self.now.listed.items (vec_len self.now.workers) frame.now ≡ Some k) }
+    {
+        let worker = worker_for(self.listed.as_slice(), self.workers.len(), frame)?;
+        if self.listening.is_wanted(worker, frame) {
+            Some(worker)
+        } else {
+            None
+        }
+    }
+
+    /// Notes when a listed node was heard, and gives what is news of it.
+    fn news_in<R: Clock>(&self, rt: &R, frame: &CanFrame) -> Option<Happening>
+        ensures { IfSome result (IsNewsIn self.now.listed.items frame.now) }
+    {
+        let message = error_control(frame)?;
+        let _listed = place_of(self.listed.as_slice(), message.node)?;
+        let Ok(time) = self.start.elapsed(rt) else {
+            return None;
+        };
+        if self
+            .heartbeats
+            .hear(message.node, message.byte, ms_in(time))
+        {
+            Some(Happening::Told(message.node, message.byte))
+        } else {
+            None
+        }
+    }
+
+    /// Gives a frame to all that it is for.
+    pub(crate) fn take<R: Wait + Clock>(&self, rt: &R, received: Received<B>) {
+        let frame = received.frame();
+        if let Some(worker) = self.worker_that_hears(&frame) {
+            if let Some(hears) = self.workers.get(worker) {
+                let _ = hears.send(rt, received);
+            }
+        }
+        if let Some(news) = self.news_in(rt, &frame) {
+            let _ = self.happenings.send(rt, news);
+        }
+    }
+}
