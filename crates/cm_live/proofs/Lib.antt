@@ -1,4 +1,6 @@
 mod Messages
+mod Nodes
+mod Untold
 pub mod Talking
 pub mod Waiting
 pub mod Lines

@@ -71,6 +71,22 @@ run_verb_of w =
     else (if bytes_eq w (codes "quit") then Some verb.Quit
     else (if bytes_eq w (codes "exit") then Some verb.Quit else None)))
 
+-- what there is to type with this first word
+abbrev pub usage_of : Verb → List ℕ
+usage_of verb.Request = codes "request TARGET VALUE, two numbers of 0 to 255"
+usage_of verb.Read = codes "read NODE, a number of 0 to 255"
+usage_of verb.Hold = codes "hold NODE, 1 to 127"
+usage_of verb.Release = codes "release NODE, 1 to 127"
+usage_of verb.Lost = codes "lost NODE, 1 to 127"
+usage_of verb.Boot = codes "boot NODE, 1 to 127"
+usage_of verb.Start = codes "start, or start NODE, 1 to 127"
+usage_of verb.Stop = codes "stop, or stop NODE, 1 to 127"
+usage_of verb.Reset = codes "reset NODE, 1 to 127"
+usage_of verb.PreOperational = codes "preop NODE, 1 to 127"
+usage_of verb.Status = codes "status alone"
+usage_of verb.Help = codes "help alone"
+usage_of verb.Quit = codes "quit alone"
+
 -- the first that there is
 abbrev pub first_of : {A : Type 0} → Option A → Option A → Option A
 first_of None y = y

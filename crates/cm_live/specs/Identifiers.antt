@@ -1,5 +1,6 @@
 -- Which frames may answer a question to a node, by their identifiers (CiA 301, pre-defined connection set).
-use Rattle.std.specs.Prelude.{◌+◌, ◌-◌, ℕ, Option, None}
+use Rattle.std.specs.Prelude.{◌≡◌, ◌⊎◌, ◌+◌, ◌-◌, ℕ, Option, None}
+use Rattle.cm_nmt.specs.NodeId.{IsNodeId}
 use Rattle.cm_boot.specs.declared.question.Question.{Question}
 use Rattle.cm_boot.specs.declared.question.Question.TheVariants.{Read, Write}
 use Rattle.cm_can.specs.declared.frame.CanFrame.{CanFrame}
@@ -23,3 +24,8 @@ node_by id = first_of (within 1 127 (id - 0x0580)) (within 1 127 (id - 0x0700))
 abbrev pub node_in : Kind → ℕ → Option ℕ
 node_in Data id = node_by id
 node_in Remote id = None
+
+-- the frame is a data frame of the node, of which it may answer a question: of its SDO server, with identifier 580h + node-ID, or of
+-- its error control, with identifier 700h + node-ID (CiA 301, pre-defined connection set)
+abbrev pub IsOfNode : ℕ → CanFrame → Type 0
+IsOfNode node f = IsNodeId node × (f.kind ≡ Data) × ((f.id.number ≡ 0x0580 + node) ⊎ (f.id.number ≡ 0x0700 + node))

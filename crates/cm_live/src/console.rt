@@ -2,7 +2,7 @@
 ghost use Rattle.std.specs.Prelude.{◌≡◌, ◌∷◌, [], None, Some, MatchOption, IfOk, IfErr, IfSome};
 ghost use Rattle.cm_text.specs.Left.{left};
 ghost use Rattle.cm_text.specs.Words.{split};
-ghost use Rattle.cm_live.specs.Console.{AsksPlainly, asked_by, command_with, request_to, some_words};
+ghost use Rattle.cm_live.specs.Console.{AsksPlainly, asked_by, command_with, request_to, some_words, usage_of};
 
 use crate::numbers::{node_of, number_of};
 use crate::verb::{Verb, verb_of};
@@ -41,7 +41,9 @@ pub enum BadLine {
 }
 
 /// What there is to type with this first word.
-fn usage(verb: Verb) -> &'static str {
+fn usage(verb: Verb) -> &'static str
+    ensures { result.now ≡ usage_of verb }
+{
     match verb {
         Verb::Request => "request TARGET VALUE, two numbers of 0 to 255",
         Verb::Read => "read NODE, a number of 0 to 255",

@@ -16,7 +16,7 @@ pub enum Happening {
     Typed,
     /// The operator types no more.
     NoMoreTyped,
-    /// Many lines were received, and none of them is a frame.
+    /// 16 lines were received, and none of them is a frame. This is told once.
     NoFrames,
     /// Nothing is received any more: the input of frames has ended, or a read of it has failed.
     NoMoreHeard,

@@ -1,9 +1,11 @@
-ghost use Rattle.std.specs.Prelude.{◌≡◌, ◌==◌, ◌<◌, ◌-◌, IfOk, IsTrue, vec_len};
+ghost use Rattle.std.specs.Prelude.{◌≡◌, ◌==◌, ◌<◌, ◌-◌, ◌↔◌, ℕ, IfOk, IsTrue, Some, vec_len};
+ghost use Rattle.cm_nmt.specs.NodeId.{IsNodeId};
 ghost use Rattle.cm_boot.specs.declared.question.Answer.{Answer};
+ghost use Rattle.cm_boot.specs.declared.question.Question.{Question as Asked};
 ghost use Rattle.cm_can.specs.declared.frame.CanFrame.{CanFrame as Frame};
 ghost use Rattle.cm_can.specs.Questions.{IsAnswer};
 ghost use Rattle.cm_live.specs.Console.{within};
-ghost use Rattle.cm_live.specs.Identifiers.{id_of_answer, node_by, node_in};
+ghost use Rattle.cm_live.specs.Identifiers.{IsOfNode, id_of_answer, node_by, node_in};
 
 use cm_boot::Question;
 use cm_can::{CanFrame, Kind};
@@ -58,9 +60,12 @@ fn node_by(id: u16) -> Option<NodeId>
     }
 }
 
-/// The node of which a frame may answer a question of a boot.
+/// The node of which a frame may answer a question of a boot: each frame that answers one is of the node that was asked.
+#[tactic(auto, using(crate::proofs::Nodes::node_is, crate::proofs::Nodes::answer_is_of))]
 pub(crate) fn node_of(frame: &CanFrame) -> Option<NodeId>
-    ensures { result ≡ node_in frame.now.kind frame.now.id.number }
+    ensures value { result ≡ node_in frame.now.kind frame.now.id.number }
+    ensures exact { (n : ℕ) → (result ≡ Some n) ↔ IsOfNode n frame.now }
+    ensures each { (n : ℕ) (q : Asked) (a : Answer) → IsNodeId n → IsAnswer n q frame.now a → result ≡ Some n }
 {
     match frame.kind {
         Kind::Data => node_by(frame.id.number),

@@ -1,5 +1,5 @@
-ghost use Rattle.std.specs.Prelude.{◌≡◌, false};
-ghost use Rattle.cm_live.specs.Strangers.{behind_byte, ends_line, is_told, left_behind, tells};
+ghost use Rattle.std.specs.Prelude.{◌≡◌, ◌++◌, ◌∷◌, [], Bool, List, false};
+ghost use Rattle.cm_live.specs.Strangers.{behind_byte, ends_line, is_told, is_told_behind, left_behind, left_of, tells};
 
 /// How many lines are read, of which none is a frame, until that is told.
 const ENOUGH: u8 = 16;
@@ -21,17 +21,21 @@ fn ends_line(byte: u8) -> bool
 }
 
 /// How many lines are left until it is told, behind a line.
+#[tactic(auto, using(crate::proofs::Untold::left_more))]
 fn left_behind(left: u8, is_frame: bool) -> u8
-    ensures { result ≡ left_behind left is_frame }
+    ensures value { result ≡ left_behind left is_frame }
+    ensures lines { (lines : List Bool) → left ≡ left_of lines → result ≡ left_of (lines ++ is_frame ∷ []) }
 {
     if is_frame { 0 } else { left.saturating_sub(1) }
 }
 
 /// Whether it is told behind a line.
+#[tactic(auto, using(crate::proofs::Untold::told_more))]
 fn is_told(left: u8, is_frame: bool) -> bool
-    ensures { result ≡ is_told left is_frame }
+    ensures value { result ≡ is_told left is_frame }
+    ensures lines { (lines : List Bool) → left ≡ left_of lines → result ≡ is_told_behind (lines ++ is_frame ∷ []) }
 {
-    left == 1 && !is_frame
+    !is_frame && left == 1
 }
 
 impl Strangers {

@@ -15,8 +15,9 @@ use std::sync::atomic::{AtomicBool, AtomicU64, Ordering};
 
 /// A wire to a CAN bus: each NMT frame is written as the message with identifier 000h. The frames sent are
 /// kept, in memory that is taken before. Once a write has failed nothing more is written, and frames are kept
-/// alone: the first bytes of the line of the frame that failed are the last. Contracts see the frames sent, the room for more, and the outlet; where no write has failed, its writer
-/// got just the lines of the frames sent since the wire was made.
+/// alone: the first bytes of the line of the frame that failed are the last. Contracts see the frames sent, the room
+/// for more, and the outlet; where no write has failed, its writer got just the lines of the frames sent since the
+/// wire was made.
 #[derive(Drop)]
 pub struct LiveWire<W: Write + Drop, B: BusName> {
     kept: SimWire,
