@@ -1,5 +1,5 @@
 -- Of which node a frame is.
-use Rattle.std.proofs.Common.{◌≡◌, ◌≤◌, ◌<◌, ◌+◌, ◌-◌, ◌⊎◌, ◌∙◌, ℕ, refl, sym, ap, inl, inr, arith}
+use Rattle.std.proofs.Common.{◌≡◌, ◌<◌, ◌+◌, ◌-◌, ◌⊎◌, ◌∙◌, ℕ, refl, ap, inl, inr, arith}
 use Rattle.std.specs.Prelude.{◌↔◌, Option, Some, None}
 use Rattle.cm_nmt.specs.NodeId.{IsNodeId}
 use Rattle.cm_boot.specs.declared.question.Question.{Question}

@@ -74,7 +74,7 @@ impl<B: BusName> FrameCutter<B> {
     }
 }
 
-/// Takes the frames of these bytes, which come next. Where many lines were read, and no frame, that is told.
+/// Takes the frames of these bytes, which come next. Where 16 lines were read, and no frame, that is told.
 fn take_bytes<B: BusName, R: Wait + Clock>(
     rt: &R,
     bytes: &[u8],
@@ -157,7 +157,7 @@ impl<B: BusName, I: Read + Drop> Source<B, I> {
     }
 
     /// Reads lines of frames to the end of the input, and gives each frame to all that it is for. Lines of no
-    /// frame are passed over.
+    /// frame are passed over; behind 16 of them, with no frame before, that is told.
     pub fn receive<R: Wait + Clock>(self, rt: &R, routes: &Routes<B>) {
         let Source {
             mut input,

@@ -1,6 +1,10 @@
 //! Whom each frame is given to that is received.
-ghost use Rattle.std.specs.Prelude.{◌≡◌, ◌/◌, ◌-◌, ◌^◌, IfSome, Some, min, vec_len};
+ghost use Rattle.std.specs.Prelude.{◌≡◌, ◌/◌, ◌-◌, ◌^◌, ℕ, IfSome, Some, min, vec_len};
 ghost use Rattle.std.specs.Duration.{as_nanos};
+ghost use Rattle.cm_nmt.specs.NodeId.{IsNodeId};
+ghost use Rattle.cm_boot.specs.declared.question.Answer.{Answer};
+ghost use Rattle.cm_boot.specs.declared.question.Question.{Question};
+ghost use Rattle.cm_can.specs.Questions.{IsAnswer};
 ghost use Rattle.cm_live.specs.Routing.{IsNewsIn, place_of, worker_for, worker_of};
 
 use crate::bus_name::BusName;
@@ -46,9 +50,12 @@ fn worker_of(listed: &[NodeId], workers: usize, node: NodeId) -> Option<usize>
     Some(place % workers)
 }
 
-/// Of so many workers, the one that a frame may be given to.
+/// Of so many workers, the one that a frame may be given to: a frame that answers a question is for the one that boots
+/// the node that was asked.
 fn worker_for(listed: &[NodeId], workers: usize, frame: &CanFrame) -> Option<usize>
-    ensures { result ≡ worker_for listed.now workers frame.now }
+    ensures value { result ≡ worker_for listed.now workers frame.now }
+    ensures each { (n : ℕ) (q : Question) (a : Answer) → IsNodeId n → IsAnswer n q frame.now a
+        → result ≡ worker_of listed.now workers n }
 {
     worker_of(listed, workers, node_of(frame)?)
 }
