@@ -31,7 +31,7 @@ left_behind left is_frame = if is_frame then 0 else left - 1
 abbrev pub is_told : ℕ → Bool → Bool
 is_told left is_frame = not is_frame && (left == 1)
 
--- what the next byte makes of that
+-- how the counter is behind the next byte, where that is known to end the line of a frame or not
 abbrev pub behind_byte : Strangers → ℕ → Bool → Strangers
 behind_byte s byte is_frame = record {
   left = if is_whole s byte then left_behind s.left is_frame else s.left;
