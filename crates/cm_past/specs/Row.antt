@@ -10,9 +10,14 @@ use Rattle.cm_history.specs.Legal.{IsLegal, most_entries}
 use Rattle.cm_history.specs.declared.call.Entry.{Entry}
 use Rattle.cm_past.specs.declared.current.Current.{Current}
 use Rattle.cm_past.specs.declared.log_item.LogItem.{LogItem}
+use Rattle.cm_past.specs.declared.status.Status.{Status}
 use Rattle.cm_past.specs.Changes.{OthersStay}
 use Rattle.cm_past.specs.Items.{IsOf, IsSame, current_in, done_in, entries_in, number_of, shown_at, since_in}
 use Rattle.cm_past.specs.Words.{IsByte, IsWord, gone_word, status_word}
+
+-- what the first word says where there are so many entries, with which the words of all nodes but this one are right
+abbrev pub status_at : ℕ → Current → Status
+status_at count c = record { count = count; done = count; node = number_of c.node; state = c.state }
 
 -- the entries are a legal history, and what was stored of each node but one is what it shows, up to where the words are
 -- right

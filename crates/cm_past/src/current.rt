@@ -2,6 +2,7 @@
 ghost use Rattle.std.specs.Prelude.{◌≡◌, ◌<◌, ◌+◌, ◌↔◌, None, IsTrue};
 ghost use Rattle.cm_history.specs.Legal.{most_entries};
 ghost use Rattle.cm_past.specs.Items.{number_of};
+ghost use Rattle.cm_past.specs.Row.{status_at};
 
 use crate::status::Status;
 use cm_nmt::NodeId;
@@ -46,12 +47,7 @@ impl Current {
     /// What the first word says where there are so many entries, with which the words of all others are right.
     #[inline(always)]
     pub(crate) fn status(&self, count: u64) -> Status
-        ensures value { result ≡ record {
-          count = count;
-          done = count;
-          node = number_of self.now.node;
-          state = self.now.state;
-        } }
+        ensures value { result ≡ status_at count self.now }
         ensures range { number_of self.now.node < 128 }
     {
         Status {
