@@ -10,7 +10,6 @@ use clap::error::ErrorKind;
 use clap::{Arg, ArgMatches, Command, Error, value_parser};
 use cm_nmt::NodeId;
 use std::alloc::{AllocError, Global};
-use std::ops::Range;
 
 /// Where the frames of a CAN bus come from, and where frames are sent to.
 #[derive(Clone, Copy, Debug, PartialEq, Eq)]
@@ -102,17 +101,6 @@ pub(crate) fn option<'a>(alloc: Global, name: &'a str, value: &'a str, help: &'a
     argument(alloc, name, help).long(name).value_name(value)
 }
 
-/// An option of this name, with a number of this range; clap's parser of a `u8` would be the same.
-pub(crate) fn number<'a>(
-    alloc: Global,
-    name: &'a str,
-    value: &'a str,
-    help: &'a str,
-    range: Range<i64>,
-) -> Arg<'a> {
-    option(alloc, name, value, help).value_parser(value_parser!(u32).range(range))
-}
-
 /// The network list's path.
 pub(crate) fn network_argument<'a>(alloc: Global) -> Arg<'a> {
     argument(alloc, "network", "The path of the network list")
@@ -123,18 +111,22 @@ pub(crate) fn network_argument<'a>(alloc: Global) -> Arg<'a> {
 /// How many workers there are; so many, unless it is given.
 pub(crate) fn workers_argument<'a>(alloc: Global, unless_given: &'a str) -> Arg<'a> {
     let help = "How many workers boot slaves, 1 to 16";
-    number(alloc, "workers", "N", help, 1..17).default_value(unless_given)
+    option(alloc, "workers", "N", help)
+        .value_parser(value_parser!(u8).range(1..17))
+        .default_value(unless_given)
 }
 
 /// How many attempts a slave has at most; so many, unless it is given.
 pub(crate) fn attempts_argument<'a>(alloc: Global, unless_given: &'a str) -> Arg<'a> {
     let help = "How often a slave is tried at most, 1 to 10";
-    number(alloc, "attempts", "N", help, 1..11).default_value(unless_given)
+    option(alloc, "attempts", "N", help)
+        .value_parser(value_parser!(u8).range(1..11))
+        .default_value(unless_given)
 }
 
 fn silent_argument<'a>(alloc: Global) -> Arg<'a> {
     let help = "The node-ID of a slave that gives no answer, 1 to 127";
-    number(alloc, "silent", "ID", help, 1..128)
+    option(alloc, "silent", "ID", help).value_parser(value_parser!(u8).range(1..128))
 }
 
 /// The journal's path.

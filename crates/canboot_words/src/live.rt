@@ -3,10 +3,10 @@ ghost use Rattle.canboot_words.specs.CommandLine.{IsInRange};
 
 use crate::command_line::{
     Action, BusPaths, argument, attempts_argument, described, journal_argument, listed,
-    network_argument, number, number_of, option, text_of, workers_argument,
+    network_argument, number_of, option, text_of, workers_argument,
 };
 use crate::help::{ABOUT_LIVE, HELP_LIVE, USAGE_LIVE};
-use clap::{Arg, ArgAction, ArgGroup, ArgMatches, Command};
+use clap::{Arg, ArgAction, ArgGroup, ArgMatches, Command, value_parser};
 use std::alloc::{AllocError, Global};
 
 fn receive_argument<'a>(alloc: Global) -> Result<Arg<'a>, AllocError> {
@@ -38,17 +38,21 @@ fn bus_group<'a>(alloc: Global) -> Result<ArgGroup<'a>, AllocError> {
 
 fn answer_argument<'a>(alloc: Global) -> Arg<'a> {
     let help = "How long an SDO answer or a guard answer is waited for, 1 to 60000";
-    number(alloc, "answer", "MS", help, 1..60_001).default_value("300")
+    option(alloc, "answer", "MS", help)
+        .value_parser(value_parser!(u32).range(1..60_001))
+        .default_value("300")
 }
 
 fn settle_argument<'a>(alloc: Global) -> Arg<'a> {
     let help = "How long boot-up messages are waited for behind a reset, 0 to 600000";
-    number(alloc, "settle", "MS", help, 0..600_001).default_value("1000")
+    option(alloc, "settle", "MS", help)
+        .value_parser(value_parser!(u32).range(0..600_001))
+        .default_value("1000")
 }
 
 fn seconds_argument<'a>(alloc: Global) -> Arg<'a> {
     let help = "How long the run goes on behind the end of the operator's input, 0 to 31536000";
-    number(alloc, "for", "SECONDS", help, 0..31_536_001)
+    option(alloc, "for", "SECONDS", help).value_parser(value_parser!(u32).range(0..31_536_001))
 }
 
 fn sync_argument<'a>(alloc: Global) -> Result<Arg<'a>, AllocError> {
