@@ -4,7 +4,7 @@ use Rattle.std.specs.Prelude.{All, remove, slice_index_or}
 use Rattle.std.proofs.lemmas.List.Elements.{All-append, All-drop, All-nil, All-push, All-same, All-take}
 use Rattle.cm_seat.specs.Opening.{fresh_seat, fresh_seats}
 use Rattle.cm_seat.specs.Views.{SeatView}
-use Rattle.canboot.proofs.Seats.{some_seats}
+use Rattle.canboot_run.proofs.Seats.{some_seats}
 
 abbrev pub IsFresh : SeatView → Type 0
 IsFresh s = s.list ≡ []

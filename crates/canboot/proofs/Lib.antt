@@ -1,4 +1,3 @@
-pub mod Seats
 pub mod ReceivedRounds
 pub mod Starts
 pub mod StartsOfAll
@@ -10,5 +9,4 @@ pub mod Fresh
 pub mod Attempts
 pub mod Begins
 pub mod Calls
-pub mod Buses
-pub mod Simulated
+pub mod Steps

@@ -1,5 +1,6 @@
-pub mod Causes
-pub mod Simulated
+pub mod Faults
+pub mod Steps
+pub mod Asking
 pub mod Run
 pub mod Program
 pub mod Typing

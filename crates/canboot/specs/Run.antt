@@ -1,7 +1,6 @@
--- What the run of a network list does.
-use Rattle.std.specs.Prelude.{◌≡◌, ◌⊎◌, ◌+◌, ℕ, Bool, List, [], Option, false}
+-- What the live run of a network list does.
+use Rattle.std.specs.Prelude.{◌≡◌, ◌⊎◌, ◌+◌, ℕ, Bool, List, [], Option}
 use Rattle.std.specs.Io.KnownBytes.{Appends}
-use Rattle.cm_nmt.specs.Bits.{has_bit}
 use Rattle.cm_nmt.specs.declared.frame.Frame.{Frame}
 use Rattle.cm_netlist.specs.Network.{Network, listing}
 use Rattle.cm_format.specs.Text.{JournalView, journal_of, text}
@@ -14,47 +13,10 @@ use Rattle.cm_live.specs.Outlets.{IsWell, SendsMessages}
 use Rattle.cm_live.specs.declared.outlet.Outlet.{Outlet}
 use Rattle.cm_format.specs.Unended.{unended_text}
 pub use Rattle.cm_recording.specs.Recorded.{AppendsIfThere, IsWritten}
-use Rattle.canboot_check.specs.Check.{IsFaultyText, IsList}
+pub use Rattle.canboot_run.specs.Run.{IsRun, IsOfNoMaster, RefusesRun}
 use Rattle.canboot.specs.Heard.{IsAllHeard}
 use Rattle.canboot.specs.Operated.{IsOperatedLive}
-use Rattle.canboot.specs.Simulated.{IsSimulated}
 use Rattle.cm_live.specs.declared.outlet.Format.{Format}
-
--- the input was read to its end and is the network list of this journal, which is of version 2, whose entries are legal,
--- and which has a seat for each of this many workers and one more, and this limit
-pub record IsRun (workers limit : ℕ) (input input' : Option (List ℕ)) (j : JournalView) : Type 0 where
-  pub list : IsList input input' j.network
-  pub version : j.version ≡ Two
-  pub journal : IsJournal j
-  pub seats : j.seats ≡ workers + 1
-  pub most : j.limit ≡ limit
-
--- the input was read to its end and is a network list; of the legal history of a journal of it, which is that of a run with
--- simulated slaves, just the report was written, and to the journal's output, if there is one, just the text of that journal
-pub record Runs (workers attempts : ℕ) (silent : Option ℕ) (limit : ℕ) (input input' output output' : Option (List ℕ)) (journal journal' : Option (Option (List ℕ))) : Type 0 where
-  pub of : JournalView
-  pub run : IsRun workers limit input input' of
-  pub simulated : IsSimulated of.network workers attempts silent of.entries
-  pub reported : Appends output output' (report_text of.network of.entries)
-  pub recorded : AppendsIfThere journal journal' (text of)
-
--- the input was read to its end and is a network list of which 1F80h bit 0 is clear (CiA 302-2: the device isn't the NMT
--- master)
-abbrev pub IsOfNoMaster : Option (List ℕ) → Option (List ℕ) → Type 0
-IsOfNoMaster input input' = (net : Network) × IsList input input' net × (has_bit net.startup 0 ≡ false)
-
--- the input was read to its end and has a fault, or is a network list of which the device isn't the NMT master; nothing
--- was written
-pub record RefusesRun (input input' output output' : Option (List ℕ)) (journal journal' : Option (Option (List ℕ))) : Type 0 where
-  pub cause : IsFaultyText input input' ⊎ IsOfNoMaster input input'
-  pub kept : output' ≡ output
-  pub unwritten : journal' ≡ journal
-
--- nothing was written, or the report of such a history was to be written
-abbrev pub FailsToRun : ℕ → ℕ → Option ℕ → ℕ → Option (List ℕ) → Option (List ℕ) → Option (List ℕ) → Option (List ℕ) → Option (Option (List ℕ)) → Option (Option (List ℕ)) → Type 0
-FailsToRun workers attempts silent limit input input' output output' journal journal' =
-    ((output' ≡ output) × (journal' ≡ journal))
-    ⊎ ((j : JournalView) × IsRun workers limit input input' j × IsSimulated j.network workers attempts silent j.entries)
 
 -- of the text of the journal of this history the beginning was written, and all of it where no write has failed
 abbrev pub WritesJournal : Network → ℕ → ℕ → List Entry → Option (Option (List ℕ)) → Option (Option (List ℕ)) → Bool → Type 0

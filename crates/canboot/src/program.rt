@@ -1,13 +1,12 @@
 ghost use Rattle.std.specs.Prelude.{◌≡◌, ◌≤◌, ◌⊎◌};
 ghost use Rattle.canboot.specs.Program.{EndsWithout};
 
-use crate::bus_files::{JournalPath, format_of, live_file};
 use crate::live::LiveOptions;
-use crate::running::run_text;
-use crate::simulation::Options;
+use crate::live::files::{JournalPath, format_of, live_file};
 use canboot_check::{
     FAILED, MISUSED, check_file, fault_line, mend_text, output_status, read_fault, replay_text,
 };
+use canboot_run::{Options, run_text};
 use canboot_words::{Action, NoAction, read_words};
 use std::alloc::Global;
 use std::fs::File;

@@ -1,0 +1,40 @@
+-- The calls that a live run makes at its operator's seat: for the steps of its watch, and for what is typed (own).
+use Rattle.std.specs.Prelude.{◌≡◌, ◌⊎◌, List, [], ◌∷◌, ◌++◌, map, filter_map, Option, Some, None}
+use Rattle.cm_history.specs.declared.call.Call.{Call}
+use Rattle.cm_history.specs.declared.call.Call.TheVariants as call
+use Rattle.cm_live.specs.declared.console.Command.{Command}
+use Rattle.cm_live.specs.declared.console.Command.TheVariants as command
+use Rattle.cm_seat.specs.Views.{SeatView}
+use Rattle.cm_seat.specs.declared.made.Made.{Made}
+use Rattle.cm_watch.specs.declared.happening.Step.{Step}
+use Rattle.cm_watch.specs.declared.happening.Step.TheVariants as step
+
+-- the calls that a seat has made, the oldest first
+abbrev pub calls_made : SeatView → List Call
+calls_made s = map (λ (m : Made). m.call) s.list
+
+-- the call that a step is, if it is one: a boot is handed to a worker, and what was left out is told
+abbrev pub call_for : Step → Option Call
+call_for (step.Lost i) = Some (call.Lost i)
+call_for (step.Boot i) = None
+call_for (step.Signal i byte) = Some (call.Signal i byte)
+call_for (step.LeftOut i n) = None
+call_for (step.TimeOver ms) = Some (call.Elapsed ms)
+call_for (step.AllTried ms) = Some (call.Elapsed ms)
+
+-- the seat has made just the calls of these steps more, each once, in their order
+abbrev pub HasMade : List Step → SeatView → SeatView → Type 0
+HasMade steps old new = calls_made new ≡ calls_made old ++ filter_map call_for steps
+
+-- the seat has made just this call more, or none
+abbrev pub HasMadeOrNot : Call → SeatView → SeatView → Type 0
+HasMadeOrNot c old new = (calls_made new ≡ calls_made old ++ c ∷ []) ⊎ (calls_made new ≡ calls_made old)
+
+-- by what is typed the seat has made just the call that is asked for: that of the line, its request, or the start of the network,
+-- or, where all nodes are stopped, of all nodes; a request is left out where its line doesn't stand behind that of the last; whatever
+-- else is typed makes none
+abbrev pub HasObeyed : Command → SeatView → SeatView → Type 0
+HasObeyed (command.Make c) old new = calls_made new ≡ calls_made old ++ c ∷ []
+HasObeyed (command.Request t v) old new = HasMadeOrNot (call.Request t v) old new
+HasObeyed command.Start old new = (calls_made new ≡ calls_made old ++ call.StartNetwork ∷ []) ⊎ HasMadeOrNot (call.Request 128 5) old new
+HasObeyed _ old new = calls_made new ≡ calls_made old

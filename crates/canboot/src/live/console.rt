@@ -1,0 +1,213 @@
+//! What a live run does for its operator.
+
+ghost use Rattle.std.specs.Prelude.{◌≡◌, ◌<◌, ◌^◌, ◌++◌, ◌∷◌, [], IfOk, None, Some};
+ghost use Rattle.cm_history.specs.declared.call.Call.TheVariants.{Request as RequestCall};
+ghost use Rattle.cm_live.specs.Console.{AsksPlainly, asked_by};
+ghost use Rattle.cm_live.specs.declared.console.Command.{Command as Asked};
+ghost use Rattle.cm_netlist.specs.Network.{Network as NetworkList};
+ghost use Rattle.cm_watch.specs.Pasts.{Past};
+ghost use Rattle.cm_watch.specs.Watches.{Watches};
+ghost use Rattle.cm_watch.specs.declared.settings.Settings.{Settings as WatchSettings};
+ghost use Rattle.canboot.specs.Steps.{HasMadeOrNot, HasObeyed, calls_made};
+ghost use Rattle.canboot.specs.Asking.{is_start_of_all, no_boot_of};
+ghost use Rattle.cm_live.specs.declared.console.Command.TheVariants.{Start};
+
+use crate::live::ending::Ending;
+use crate::live::register::LiveRegister;
+use crate::live::watching::Watcher;
+use cm_history::Call;
+use cm_journal::report_of;
+use cm_live::{BadLine, BusName, Command, TypedLine, read_command};
+use cm_netlist::Network;
+use cm_nmt::NodeId;
+use cm_register::RunName;
+use cm_watch::{Happening as Watched, Watch};
+use std::io::Write;
+use std::sync::Wait;
+use std::time::Clock;
+
+/// What there is to type, one line each.
+const TYPING: &str = "start                  start the network again, once it was halted or stopped
+boot NODE              boot a slave now
+stop, stop NODE        stop all nodes, or one; so start NODE, reset NODE, preop NODE
+request TARGET VALUE   4 stop, 5 start, 6 reset node, 7 reset communication, 127 pre-operational; \
+TARGET is a node, or 128 for all
+read NODE              the state of a node
+hold NODE              take a slave out of booting, and stop it
+release NODE           give it back
+lost NODE              say that a slave is lost
+status                 the report so far
+help                   this
+quit, exit             end the run
+Numbers are decimal, or hexadecimal behind 0x.";
+
+/// Why a slave isn't booted though the operator asks for it.
+#[derive(Clone, Copy, Debug, PartialEq, Eq)]
+pub(crate) enum NoBoot {
+    NotListed,
+    /// The network is halted.
+    Halted,
+    /// An operator holds it.
+    Held,
+    /// It is booted already.
+    Booted,
+}
+
+/// Why the slave isn't booted though the operator asks for it; none where the watch is asked.
+fn no_boot(network: &Network, watch: &Watch, id: NodeId) -> Option<NoBoot>
+    ensures { (s : WatchSettings) (past : Past) → Watches watch.now network.now s past
+        → result ≡ no_boot_of network.now past id }
+{
+    if !network.listed(id) {
+        Some(NoBoot::NotListed)
+    } else if watch.phase().is_halted() {
+        Some(NoBoot::Halted)
+    } else if watch.is_held(id) {
+        Some(NoBoot::Held)
+    } else if watch.is_booted(id) {
+        Some(NoBoot::Booted)
+    } else {
+        None
+    }
+}
+
+/// Whether the network is started by a request to all nodes: where all are stopped, but it isn't halted.
+fn is_start_of_all(watch: &Watch) -> bool
+    ensures { (net : NetworkList) (s : WatchSettings) (past : Past) → Watches watch.now net s past
+        → result ≡ is_start_of_all net past }
+{
+    watch.is_stopped() && !watch.phase().is_halted()
+}
+
+/// Tells why a slave isn't booted.
+fn tell_no_boot<E: Write>(err: &mut E, id: NodeId, none: NoBoot) {
+    let number = id.get();
+    let _ = match none {
+        NoBoot::NotListed => writeln!(err, "boot {number}: the node isn't listed"),
+        NoBoot::Halted => writeln!(err, "boot {number}: the network is halted; type start"),
+        NoBoot::Held => writeln!(err, "boot {number}: the slave is held; release {number}"),
+        NoBoot::Booted => writeln!(err, "boot {number}: the slave is booted already"),
+    };
+}
+
+/// Tells what is wrong with a line of the operator; of one without words nothing.
+fn tell_bad<E: Write>(err: &mut E, bad: BadLine) {
+    let _ = match bad {
+        BadLine::Empty => Ok(()),
+        BadLine::NoSuchWord => writeln!(err, "bad line: no such word; 'help' has them"),
+        BadLine::Wants(usage) => writeln!(err, "bad line: it is {usage}"),
+    };
+}
+
+impl<'w, 'a, 'n, R: Wait + Clock + Drop, K: RunName, B: BusName, M: LiveRegister<K, R>> Watcher<
+    'w,
+    'a,
+    'n,
+    R,
+    K,
+    B,
+    M,
+> {
+    /// Makes the request that this line of the operator spells.
+    fn request(&mut self, line: &TypedLine<B>, target: u8, value: u8) -> Result<(), Ending>
+        ensures made { IfOk result
+            (λ _. HasMadeOrNot (RequestCall target value) self.old.operator self.new.operator) }
+    {
+        let rt = self.setting.rt;
+        self.operator
+            .request(rt, self.register, line, target, value)?;
+        Ok(())
+    }
+
+    /// Starts the network: where all nodes are stopped, by a request to all.
+    fn start(&mut self, line: &TypedLine<B>) -> Result<(), Ending>
+        ensures made { IfOk result (λ _. HasObeyed Start self.old.operator self.new.operator) }
+    {
+        if is_start_of_all(&self.progress.watch) {
+            self.request(line, 128, 5)
+        } else {
+            self.call(Call::StartNetwork)
+        }
+    }
+
+    /// Asks the watch for a boot of the slave.
+    fn boot_now<E: Write>(&mut self, err: &mut E, id: NodeId, now: u64)
+        requires { now < 2 ^ 63 }
+        ensures calls { self.new.operator ≡ self.old.operator }
+    {
+        match no_boot(self.network, &self.progress.watch, id) {
+            Some(none) => tell_no_boot(err, id, none),
+            None => self.note(err, &Watched::Asked(id), now),
+        }
+    }
+
+    /// The report of what has happened so far.
+    fn report<E: Write>(&self, err: &mut E) {
+        let seat = self.operator.as_seat();
+        let alloc = self.setting.alloc;
+        match self.register.so_far(self.setting.rt, seat, alloc) {
+            Ok(so_far) => {
+                let entries = so_far.history.as_slice();
+                let _ = report_of(self.register.network(), &so_far.manager, entries, err);
+            }
+            Err(fault) => {
+                let _ = writeln!(err, "canboot: {fault}");
+            }
+        }
+    }
+
+    /// Does what the operator has typed next.
+    pub(crate) fn obey_next<E: Write>(&mut self, err: &mut E, now: u64) -> Result<(), Ending>
+        requires { now < 2 ^ 63 }
+    {
+        match self.typed.try_recv(self.setting.rt) {
+            Ok(line) => self.obey(err, &line, now),
+            Err(_) => Ok(()),
+        }
+    }
+
+    /// Does what this line of the operator asks for.
+    fn carry_out<E: Write>(
+        &mut self,
+        err: &mut E,
+        line: &TypedLine<B>,
+        command: &Command,
+        now: u64,
+    ) -> Result<(), Ending>
+        requires time { now < 2 ^ 63 }
+        requires plain { AsksPlainly command.now }
+        ensures made { IfOk result (λ _. HasObeyed command.now self.old.operator self.new.operator) }
+    {
+        match command {
+            Command::Make(call) => self.call(*call)?,
+            Command::Request(target, value) => self.request(line, *target, *value)?,
+            Command::Boot(id) => {
+                let _in_range = id.get();
+                self.boot_now(err, *id, now);
+            }
+            Command::Start => self.start(line)?,
+            Command::Status => self.report(err),
+            Command::Help => {
+                let _ = writeln!(err, "{TYPING}");
+            }
+            Command::Quit => self.ends_at = Some(now),
+        }
+        Ok(())
+    }
+
+    /// Does what a line asks for that the operator has typed.
+    fn obey<E: Write>(&mut self, err: &mut E, line: &TypedLine<B>, now: u64) -> Result<(), Ending>
+        requires { now < 2 ^ 63 }
+        ensures made { IfOk result (λ _. (c : Asked) → asked_by line.now.line ≡ Some c
+            → HasObeyed c self.old.operator self.new.operator) }
+        ensures none { asked_by line.now.line ≡ None → self.new.operator ≡ self.old.operator }
+    {
+        match read_command(line.line()) {
+            Ok(command) => self.carry_out(err, line, &command, now),
+            Err(bad) => {
+                tell_bad(err, bad);
+                Ok(())
+            }
+        }
+    }
+}

@@ -1,0 +1,167 @@
+//! The files of a live run.
+
+ghost use Rattle.std.specs.Prelude.{◌≤◌};
+
+use crate::live::journal_file::make_journal;
+use crate::live::timed::Timed;
+use crate::live::{LiveEnds, LiveOptions, live_text};
+use crate::program::write_fault;
+use canboot_check::{CheckFault, LONGEST_LIST, read_fault, read_list, refuse};
+use canboot_words::BusPaths;
+use cm_live::{Format, Outlet};
+use cm_text::{InputFault, read_input};
+use std::alloc::Global;
+use std::fs::{self, File, OpenOptions};
+use std::io::{self, BufWriter, ErrorKind, StdinLock, Write};
+use std::rt::Files;
+use std::sync::Wait;
+use std::thread::Threads;
+use std::time::Clock;
+
+/// In what lines the frames of a bus come and go.
+pub(crate) fn format_of(bus: &BusPaths<'_>) -> Format {
+    match bus {
+        BusPaths::CanUtils { .. } => Format::CanUtils,
+        BusPaths::Adapter { .. } => Format::Adapter,
+    }
+}
+
+/// Opens a bus: where frames are read, and where they are written.
+fn open_bus<R: Files<File = File>>(rt: &R, bus: &BusPaths<'_>) -> io::Result<(File, File)> {
+    match bus {
+        BusPaths::CanUtils { receive, send } => {
+            let received = fs::open(rt, *receive)?;
+            let sent = OpenOptions::new().write(true).open(rt, *send)?;
+            Ok((received, sent))
+        }
+        BusPaths::Adapter { device } => {
+            let sent = OpenOptions::new().read(true).write(true).open(rt, *device)?;
+            let received = sent.try_clone()?;
+            Ok((received, sent))
+        }
+    }
+}
+
+/// Opens the channel of a serial adapter, whose bit rate was set before. What it answers is no frame.
+fn open_channel(sent: &mut File, format: Format) {
+    if format == Format::Adapter {
+        let _ = sent.write_all(b"O\r");
+    }
+}
+
+/// Closes the channel of a serial adapter.
+fn close_channel(sent: &mut File, format: Format) {
+    if format == Format::Adapter {
+        let _ = sent.write_all(b"C\r");
+    }
+}
+
+/// Writers to one file, this many.
+fn writers_to(alloc: Global, file: &File, count: u8) -> io::Result<Vec<BufWriter<File>>> {
+    let mut writers = Vec::new(alloc);
+    for _writer in 0..count {
+        writers.push(BufWriter::new(alloc, file.try_clone()?)?)?;
+    }
+    Ok(writers)
+}
+
+/// What a live run writes its journal to, and how.
+#[derive(Clone, Copy, Debug, PartialEq, Eq)]
+pub(crate) struct JournalPath<'a> {
+    /// The path of its file, if it is written.
+    pub(crate) path: Option<&'a str>,
+    /// Whether each line is put on the disk before the next step.
+    pub(crate) is_synced: bool,
+}
+
+/// The bytes of the file of this path.
+fn read_file<R: Files + AllocGlobal>(rt: &R, path: &str) -> Result<Vec<u8>, CheckFault> {
+    match fs::open(rt, path) {
+        Ok(mut file) => match read_input(rt.alloc(), &mut file, LONGEST_LIST) {
+            Ok(text) => Ok(text),
+            Err(fault) => Err(CheckFault::Input(fault)),
+        },
+        Err(error) => Err(CheckFault::Input(match error.kind() {
+            ErrorKind::OutOfMemory => InputFault::Memory,
+            _ => InputFault::Read,
+        })),
+    }
+}
+
+/// `canboot live`, over the files of these paths. The list is read first; where it has no fault the bus is opened, and then
+/// the journal's file is made, if there is one, before a byte goes to the bus. Where `err` is a terminal, its lines have the
+/// time since the start.
+pub(crate) fn live_file<
+    R: Files<File = File>
+        + Input<Reader = StdinLock<'static>>
+        + Clock
+        + AllocGlobal
+        + Wait
+        + Threads
+        + Clone
+        + Send
+        + Sync
+        + Drop
+        + 'static,
+    O: Write,
+    E: Write,
+>(
+    rt: &R,
+    path: &str,
+    bus: &BusPaths<'_>,
+    options: LiveOptions,
+    journal: JournalPath<'_>,
+    out: &mut O,
+    err: &mut E,
+    is_terminal: bool,
+) -> u8
+    requires workers { (1 ≤ options.workers) × (options.workers ≤ 16) }
+{
+    let text = match read_file(rt, path) {
+        Ok(text) => text,
+        Err(fault) => return refuse(err, fault),
+    };
+    let is_master = match read_list(rt.alloc(), &mut text.as_slice()) {
+        Ok(network) => network.startup().is_master(),
+        Err(fault) => return refuse(err, fault),
+    };
+    let (received, mut sent) = match open_bus(rt, bus) {
+        Ok(files) => files,
+        Err(error) => return read_fault(err, error.kind()),
+    };
+    let made = writers_to(rt.alloc(), &sent, options.workers + 1);
+    let mut written = match made {
+        Ok(writers) => writers,
+        Err(error) => return write_fault(err, error.kind()),
+    };
+    let mut messages = match written.pop() {
+        Some(writer) => Some(Outlet::new(writer, options.format)),
+        None => None,
+    };
+    // Where the start will be refused, nothing is written.
+    let path = if is_master { journal.path } else { None };
+    let mut journal = match make_journal(rt, path, journal.is_synced, err) {
+        Ok(output) => output,
+        Err(error) => return write_fault(err, error.kind()),
+    };
+    let ends = LiveEnds {
+        received,
+        typed: rt.reader(),
+        written,
+    };
+    open_channel(&mut sent, options.format);
+    let mut timed = Timed::new(rt, err, is_terminal);
+    let status = live_text(
+        rt,
+        rt.alloc(),
+        &mut text.as_slice(),
+        options,
+        ends,
+        out,
+        &mut timed,
+        &mut messages,
+        &mut journal,
+    );
+    close_channel(&mut sent, options.format);
+    status
+}

@@ -1,0 +1,109 @@
+//! How far a live run has come.
+
+ghost use Rattle.std.specs.Prelude.{◌≡◌, ◌<◌, ◌^◌, [], ◌∷◌, IfOk};
+ghost use Rattle.cm_netlist.specs.Network.{Network as NetworkList};
+ghost use Rattle.cm_watch.specs.Pasts.{Past};
+ghost use Rattle.cm_watch.specs.Watches.{Watches};
+ghost use Rattle.cm_watch.specs.declared.happening.Happening.TheVariants.{Called};
+ghost use Rattle.cm_watch.specs.declared.happening.Moment.TheVariants.{Happened};
+ghost use Rattle.cm_watch.specs.declared.settings.Settings.{Settings as WatchSettings};
+
+use crate::live::telling::{Tried, Waiting};
+use cm_history::Entry;
+use cm_live::Heartbeats;
+use cm_netlist::Network;
+use cm_nmt::NodeId;
+use cm_sequential::frames;
+use cm_watch::{Happening, Settings, Watch};
+use std::alloc::{AllocError, Global};
+use std::io::Write;
+
+/// What the watch keeps of a live run, what waits to be told in words, and what came of the boots of slaves.
+#[derive(Drop)]
+pub(crate) struct Progress<T> {
+    pub(crate) watch: Watch,
+    pub(crate) waiting: Waiting<T>,
+    pub(crate) tried: Tried,
+}
+
+impl<T: Drop> Progress<T> {
+    /// Nothing has happened.
+    pub(crate) fn new(alloc: Global, settings: Settings) -> Progress<T>
+        ensures { (net : NetworkList) → Watches result.watch net settings [] }
+    {
+        Progress {
+            watch: Watch::new(settings),
+            waiting: Waiting::new(alloc),
+            tried: Tried::new(),
+        }
+    }
+}
+
+/// What the watch is told, and what an operator is told with it.
+pub(crate) fn note<E: Write>(
+    watch: &mut Watch,
+    tried: &Tried,
+    network: &Network,
+    err: &mut E,
+    happening: &Happening,
+    now: u64,
+)
+    requires { now < 2 ^ 63 }
+    ensures { (s : WatchSettings) (past : Past) → Watches watch.old network.now s past
+        → Watches watch.new network.now s ((now, Happened happening.now) ∷ past) }
+{
+    let told = watch.take(network, now, happening);
+    if let Some(id) = told.given_up {
+        if !watch.phase().is_halted() {
+            tried.tell_given_up(err, network, id);
+        }
+    }
+}
+
+impl Progress<Entry> {
+    /// An entry of the history is told to the watch, and waits to be told in words.
+    pub(crate) fn take_entry(
+        &mut self,
+        network: &Network,
+        entry: Entry,
+        now: u64,
+    ) -> Result<(), AllocError>
+        requires { now < 2 ^ 63 }
+        ensures { (s : WatchSettings) (past : Past) → Watches self.old.watch network.now s past
+            → Watches self.new.watch network.now s ((now, Happened (Called entry)) ∷ past) }
+    {
+        let is_halted = self.watch.phase().is_halted();
+        let told = self.watch.take(network, now, &Happening::Called(entry));
+        self.tried.count(&entry);
+        let count = frames(network, entry.orders).len() as u64;
+        self.waiting.wait(entry, told, is_halted, count)
+    }
+}
+
+/// The state in the error control message of a node that came last, where it came since the watch noted one and has the state
+/// that it noted last: another state, and a boot-up message, comes as a happening of its own.
+fn heard_again(watch: &Watch, heartbeats: &Heartbeats, id: NodeId) -> Option<u8> {
+    let (at, state) = heartbeats.last(id)?;
+    let noted = watch.heard(id)?;
+    if state != 0 && watch.state_heard(id) == Some(state) && noted <= at {
+        Some(state)
+    } else {
+        None
+    }
+}
+
+/// The slaves that were heard again are noted.
+pub(crate) fn note_heartbeats(
+    watch: &mut Watch,
+    network: &Network,
+    heartbeats: &Heartbeats,
+    now: u64,
+)
+    requires { now < 2 ^ 63 }
+{
+    for id in network.listed_ids().as_slice() {
+        if let Some(state) = heard_again(watch, heartbeats, *id) {
+            let _told = watch.take(network, now, &Happening::Heard(*id, state));
+        }
+    }
+}
