@@ -1,5 +1,6 @@
 -- What a line of an operator asks for (own).
-use Rattle.std.specs.Prelude.{ℕ, Bool, ◌+◌, ◌-◌, ◌*◌, ◌==◌, nat_le, ◌&&◌, if◌then◌else◌, not, true, false, List, [], ◌∷◌, filter, bytes_eq, codes, Option, Some, None}
+use Rattle.std.specs.Prelude.{ℕ, Bool, ◌+◌, ◌-◌, ◌*◌, ◌==◌, nat_le, ◌&&◌, if◌then◌else◌, not, true}
+use Rattle.std.specs.Prelude.{false, List, [], ◌∷◌, filter, bytes_eq, codes, Option, Some, None}
 use Rattle.cm_text.specs.FieldReading.{◌>>=◌}
 use Rattle.cm_text.specs.Words.{Words, split}
 use Rattle.cm_history.specs.declared.call.Call.{Call}
@@ -42,8 +43,8 @@ number_of (a ∷ b ∷ digits) = if a == 48 && b == 120 then hexadecimal_of digi
 number_of w = decimal_of w
 
 -- the node-ID that a word spells (CiA 301)
-abbrev pub node_of : List ℕ → Option ℕ
-node_of w = number_of w >>= (λ n. within 1 127 n)
+abbrev pub typed_node : List ℕ → Option ℕ
+typed_node w = number_of w >>= (λ n. within 1 127 n)
 
 -- the first word of a line that spells a call as a journal does
 abbrev pub call_verb_of : List ℕ → Option Verb
@@ -98,17 +99,17 @@ verb_of w = first_of (call_verb_of w) (first_of (order_verb_of w) (run_verb_of w
 
 -- the request to a node that a word spells, with this value
 abbrev pub request_to : ℕ → List ℕ → Option Command
-request_to value w = node_of w >>= (λ n. Some (Request n value))
+request_to value w = typed_node w >>= (λ n. Some (Request n value))
 
 -- what a line asks for whose first word is this, by the words behind it: a request to all nodes has target 128, and the
 -- values are those of object 1F82h, 4 stop, 5 start, 6 reset node, 127 enter pre-operational (CiA 302-2, request NMT)
 abbrev pub command_with : Verb → Words → Option Command
 command_with verb.Request (t ∷ v ∷ []) = number_of t >>= (λ m. number_of v >>= (λ n. Some (Request m n)))
 command_with verb.Read (t ∷ []) = number_of t >>= (λ m. Some (Make (call.Read m)))
-command_with verb.Hold (t ∷ []) = node_of t >>= (λ n. Some (Make (call.Hold n)))
-command_with verb.Release (t ∷ []) = node_of t >>= (λ n. Some (Make (call.Release n)))
-command_with verb.Lost (t ∷ []) = node_of t >>= (λ n. Some (Make (call.Lost n)))
-command_with verb.Boot (t ∷ []) = node_of t >>= (λ n. Some (Boot n))
+command_with verb.Hold (t ∷ []) = typed_node t >>= (λ n. Some (Make (call.Hold n)))
+command_with verb.Release (t ∷ []) = typed_node t >>= (λ n. Some (Make (call.Release n)))
+command_with verb.Lost (t ∷ []) = typed_node t >>= (λ n. Some (Make (call.Lost n)))
+command_with verb.Boot (t ∷ []) = typed_node t >>= (λ n. Some (Boot n))
 command_with verb.Start [] = Some Start
 command_with verb.Start (t ∷ []) = request_to 5 t
 command_with verb.Stop [] = Some (Request 128 4)

@@ -60,7 +60,8 @@ pub record LiveWireView : Type 0 where
   pub contents : Option (List ℕ)
 
 -- an outlet is there, to which, where no write of it has failed, just the lines of these messages were written
-pub record HasSent {W : Type 0} (contents : W → Option (List ℕ)) (format : Format) (frames : List Frame) (before : Option (List ℕ)) (now : Option (Outlet W)) : Type 0 where
+pub record HasSent {W : Type 0} (contents : W → Option (List ℕ)) (format : Format) (frames : List Frame)
+    (before : Option (List ℕ)) (now : Option (Outlet W)) : Type 0 where
   pub last : Outlet W
   pub there : now ≡ Some last
   pub written : last.failed ≡ false → WritesMessages format frames before (contents last.writer)

@@ -42,7 +42,8 @@ pub record IsGiven (format : Format) (text : Option (List ℕ)) (node : ℕ) (q 
 -- the answers to these questions were given so, each behind the one before
 abbrev pub AreGiven : Format → Option (List ℕ) → ℕ → List (Question × Answer) → ℕ → ℕ → Type 0
 AreGiven format text node [] from upto = from ≤ upto
-AreGiven format text node (qx ∷ rest) from upto = (mid : ℕ) × IsGiven format text node qx.0 qx.1 from mid × AreGiven format text node rest mid upto
+AreGiven format text node (qx ∷ rest) from upto =
+    (mid : ℕ) × IsGiven format text node qx.0 qx.1 from mid × AreGiven format text node rest mid upto
 
 -- the answers of a report were given so, each to its question; any other call says nothing
 abbrev pub IsReceivedCall : Format → Option (List ℕ) → Network → Call → ℕ → ℕ → Type 0
@@ -52,7 +53,8 @@ IsReceivedCall format text net _ from upto = from ≤ upto
 -- and so for the calls of a list, each behind the one before
 abbrev pub AreReceived : Format → Option (List ℕ) → Network → List Made → ℕ → ℕ → Type 0
 AreReceived format text net [] from upto = from ≤ upto
-AreReceived format text net (m ∷ ms) from upto = (mid : ℕ) × IsReceivedCall format text net m.call from mid × AreReceived format text net ms mid upto
+AreReceived format text net (m ∷ ms) from upto =
+    (mid : ℕ) × IsReceivedCall format text net m.call from mid × AreReceived format text net ms mid upto
 
 -- from the beginning of the text
 abbrev pub IsReceivedList : Format → Option (List ℕ) → Network → List Made → Type 0

@@ -37,15 +37,15 @@ ending_of None = Expired ∷ []
 -- behind that the client aborts an SDO transfer with this code: a read or a write whose time is over, with 0504 0000h (CiA 301,
 -- SDO protocol timed out); a read whose answer begins a segmented upload (41h), with 0504 0001h (own). It aborts no other
 abbrev pub IsAbortCode : ℕ → Question → Option CanFrame → ℕ → Type 0
-IsAbortCode node (Read index sub) None code = code ≡ 84148224
-IsAbortCode node (Write w) None code = code ≡ 84148224
-IsAbortCode node (Read index sub) (Some f) code = (word : ℕ) × IsFromServer node 65 index sub word f × (code ≡ 84148225)
+IsAbortCode node (Read index sub) None code = code ≡ 0x05040000
+IsAbortCode node (Write w) None code = code ≡ 0x05040000
+IsAbortCode node (Read index sub) (Some f) code = (word : ℕ) × IsFromServer node 0x41 index sub word f × (code ≡ 0x05040001)
 IsAbortCode node _ _ code = ⊥
 
 -- the client's abort of the SDO transfer of a question, with its code
 abbrev pub IsAbortOf : ℕ → Question → ℕ → CanFrame → Type 0
-IsAbortOf node (Read index sub) code f = IsFromClient node 128 index sub code f
-IsAbortOf node (Write w) code f = IsFromClient node 128 w.index w.sub code f
+IsAbortOf node (Read index sub) code f = IsFromClient node 0x80 index sub code f
+IsAbortOf node (Write w) code f = IsFromClient node 0x80 w.index w.sub code f
 IsAbortOf node _ code f = ⊥
 
 -- the frame is the abort that is sent where the waiting ended so

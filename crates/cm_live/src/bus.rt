@@ -9,7 +9,9 @@ use crate::bus_name::BusName;
 use crate::event::Event;
 use crate::port::Port;
 use cm_boot::{Answer, Bus, Question};
-use cm_can::{CanFrame, NO_SEGMENTS, TIMED_OUT, abort_frame, answer_of, is_segmented, request_of};
+use cm_can::{
+    CanFrame, NO_SEGMENTS, TIMED_OUT, abort_frame, answered_by, is_segmented, request_of,
+};
 use cm_netlist::Network;
 use cm_nmt::NodeId;
 use std::alloc::{AllocError, Global};
@@ -119,7 +121,7 @@ fn wait_for<B: BusName, P: Port<B>>(
         *last = place;
         let frame = received.frame();
         log.push_reserved(Event::Heard(frame));
-        if let Some(answer) = answer_of(id, question, &frame) {
+        if let Some(answer) = answered_by(id, question, &frame) {
             return Some(Reply { frame, answer });
         }
     }

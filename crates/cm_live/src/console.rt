@@ -4,7 +4,7 @@ ghost use Rattle.cm_text.specs.Left.{left};
 ghost use Rattle.cm_text.specs.Words.{split};
 ghost use Rattle.cm_live.specs.Console.{AsksPlainly, asked_by, command_with, request_to, some_words, usage_of};
 
-use crate::numbers::{node_of, number_of};
+use crate::numbers::{number_of, typed_node};
 use crate::verb::{Verb, verb_of};
 use cm_history::Call;
 use cm_nmt::NodeId;
@@ -80,7 +80,7 @@ fn request_to(value: u8, word: &[u8]) -> Option<Command>
     ensures value { result ≡ request_to value word.now }
     ensures plain { IfSome result AsksPlainly }
 {
-    let node = node_of(word)?;
+    let node = typed_node(word)?;
     Some(Command::Request(node.get(), value))
 }
 
@@ -106,10 +106,10 @@ fn command_with_one(verb: Verb, word: &[u8]) -> Option<Command>
 {
     match verb {
         Verb::Read => Some(Command::Make(Call::Read(number_of(word)?))),
-        Verb::Hold => Some(Command::Make(Call::Hold(node_of(word)?))),
-        Verb::Release => Some(Command::Make(Call::Release(node_of(word)?))),
-        Verb::Lost => Some(Command::Make(Call::Lost(node_of(word)?))),
-        Verb::Boot => Some(Command::Boot(node_of(word)?)),
+        Verb::Hold => Some(Command::Make(Call::Hold(typed_node(word)?))),
+        Verb::Release => Some(Command::Make(Call::Release(typed_node(word)?))),
+        Verb::Lost => Some(Command::Make(Call::Lost(typed_node(word)?))),
+        Verb::Boot => Some(Command::Boot(typed_node(word)?)),
         Verb::Start => request_to(5, word),
         Verb::Stop => request_to(4, word),
         Verb::Reset => request_to(6, word),

@@ -62,7 +62,7 @@ fn node_by(id: u16) -> Option<NodeId>
 
 /// The node of which a frame may answer a question of a boot: each frame that answers one is of the node that was asked.
 #[tactic(auto, using(crate::proofs::Nodes::node_is, crate::proofs::Nodes::answer_is_of))]
-pub(crate) fn node_of(frame: &CanFrame) -> Option<NodeId>
+pub(crate) fn sender_of(frame: &CanFrame) -> Option<NodeId>
     ensures value { result ≡ node_in frame.now.kind frame.now.id.number }
     ensures exact { (n : ℕ) → (result ≡ Some n) ↔ IsOfNode n frame.now }
     ensures each { (n : ℕ) (q : Asked) (a : Answer) → IsNodeId n → IsAnswer n q frame.now a → result ≡ Some n }

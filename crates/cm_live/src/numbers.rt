@@ -1,6 +1,6 @@
 //! Numbers that an operator types.
 ghost use Rattle.std.specs.Prelude.{◌≡◌, ◌≤◌, ◌<◌, IfSome};
-ghost use Rattle.cm_live.specs.Console.{decimal_of, digit_of, hex_digit_of, hexadecimal_of, node_of, number_of, within};
+ghost use Rattle.cm_live.specs.Console.{decimal_of, digit_of, hex_digit_of, hexadecimal_of, number_of, typed_node, within};
 
 use cm_nmt::NodeId;
 
@@ -92,8 +92,8 @@ pub(crate) fn number_of(word: &[u8]) -> Option<u8>
 }
 
 /// The node-ID that a word spells (CiA 301).
-pub(crate) fn node_of(word: &[u8]) -> Option<NodeId>
-    ensures { result ≡ node_of word.now }
+pub(crate) fn typed_node(word: &[u8]) -> Option<NodeId>
+    ensures { result ≡ typed_node word.now }
 {
     NodeId::new(number_of(word)?)
 }

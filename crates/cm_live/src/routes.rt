@@ -5,14 +5,16 @@ ghost use Rattle.cm_nmt.specs.NodeId.{IsNodeId};
 ghost use Rattle.cm_boot.specs.declared.question.Answer.{Answer};
 ghost use Rattle.cm_boot.specs.declared.question.Question.{Question};
 ghost use Rattle.cm_can.specs.Questions.{IsAnswer};
-ghost use Rattle.cm_live.specs.Routing.{IsNewsIn, place_of, worker_for, worker_of};
+ghost use Rattle.cm_live.specs.Routing.{IsNewsIn, worker_for};
+ghost use Rattle.cm_netlist.specs.Workers.{worker_of};
 
 use crate::bus_name::BusName;
 use crate::happening::Happening;
 use crate::heartbeats::Heartbeats;
-use crate::listening::{Listening, node_of};
+use crate::listening::{Listening, sender_of};
 use crate::received::Received;
 use cm_can::{CanFrame, error_control};
+use cm_netlist::{place_of, worker_of};
 use cm_nmt::NodeId;
 use crossbeam_channel::Sender;
 use std::sync::{Arc, Wait};
@@ -32,24 +34,6 @@ pub struct Routes<B: BusName> {
     pub happenings: Sender<Happening>,
 }
 
-/// The place of a node among the listed ones.
-fn place_of(listed: &[NodeId], node: NodeId) -> Option<usize>
-    ensures { result ≡ place_of node listed.now }
-{
-    listed.iter().position(|listed| *listed == node)
-}
-
-/// Of so many workers, the one that boots the node.
-fn worker_of(listed: &[NodeId], workers: usize, node: NodeId) -> Option<usize>
-    ensures { result ≡ worker_of listed.now workers node }
-{
-    if workers == 0 {
-        return None;
-    }
-    let place = place_of(listed, node)?;
-    Some(place % workers)
-}
-
 /// Of so many workers, the one that a frame may be given to: a frame that answers a question is for the one that boots
 /// the node that was asked.
 fn worker_for(listed: &[NodeId], workers: usize, frame: &CanFrame) -> Option<usize>
@@ -57,7 +41,7 @@ fn worker_for(listed: &[NodeId], workers: usize, frame: &CanFrame) -> Option<usi
     ensures each { (n : ℕ) (q : Question) (a : Answer) → IsNodeId n → IsAnswer n q frame.now a
         → result ≡ worker_of listed.now workers n }
 {
-    worker_of(listed, workers, node_of(frame)?)
+    worker_of(listed, workers, sender_of(frame)?)
 }
 
 /// How many ms this time has.

@@ -6,8 +6,7 @@ ghost use Rattle.cm_live.specs.Outlets.{WritesMessage, WritesMessageFront, Write
 use crate::bus_name::BusName;
 use crate::outlet::Outlet;
 use cm_can::{CanFrame, nmt_frame};
-use cm_nmt::{Frame, Wire};
-use cm_simulated::SimWire;
+use cm_nmt::{Frame, KeptFrames, Wire};
 use std::io::Write;
 use std::marker::{Model, PhantomData};
 use std::sync::Arc;
@@ -20,7 +19,7 @@ use std::sync::atomic::{AtomicBool, AtomicU64, Ordering};
 /// wire was made.
 #[derive(Drop)]
 pub struct LiveWire<W: Write + Drop, B: BusName> {
-    kept: SimWire,
+    kept: KeptFrames,
     outlet: Outlet<W>,
     broken: Arc<AtomicBool>,
     handed: Arc<AtomicU64>,
@@ -49,7 +48,7 @@ impl<W: Write + Drop, B: BusName> LiveWire<W, B> {
     /// and `handed` counts the frames that were written. The conditions say that `B` knows in what lines frames are written,
     /// and what the writer has.
     pub fn new(
-        kept: SimWire,
+        kept: KeptFrames,
         outlet: Outlet<W>,
         broken: Arc<AtomicBool>,
         handed: Arc<AtomicU64>,

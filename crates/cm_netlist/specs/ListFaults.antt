@@ -1,7 +1,8 @@
 -- The numbers and the words of the faults of a network list.
 use Rattle.std.specs.Prelude.{ℕ, List, codes}
 use Rattle.cm_netlist.specs.declared.fault.NetFault.{NetFault}
-use Rattle.cm_netlist.specs.declared.fault.NetFault.TheVariants.{NotToml, UnknownKey, MissingKey, WrongKind, OutOfRange, DoubleSlave, OwnListed, NotListedBit, TooManyWrites, ValueTooWide, OutOfMemory}
+use Rattle.cm_netlist.specs.declared.fault.NetFault.TheVariants.{NotToml, UnknownKey, MissingKey, WrongKind, OutOfRange, DoubleSlave}
+use Rattle.cm_netlist.specs.declared.fault.NetFault.TheVariants.{OwnListed, NotListedBit, TooManyWrites, ValueTooWide, OutOfMemory}
 
 -- the number of a fault (own)
 abbrev pub number_of : NetFault → ℕ

@@ -8,7 +8,6 @@ use Rattle.cm_nmt.specs.Conditions.{asks_identity, condition, device_agrees, ide
 use Rattle.cm_nmt.specs.Fields.{fields}
 use Rattle.cm_nmt.specs.Got.{has_value, is_answered, is_value}
 use Rattle.cm_nmt.specs.Judging.{are_settled, IsIdentified, is_settled}
-use Rattle.cm_nmt.specs.Verdict.{is_wrong}
 use Rattle.cm_nmt.specs.declared.answers.Answers.{Answers}
 use Rattle.cm_nmt.specs.declared.field.Field.{Field}
 use Rattle.cm_nmt.specs.declared.field.Field.TheVariants.{Vendor, Product, Revision, Serial}

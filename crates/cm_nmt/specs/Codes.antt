@@ -15,11 +15,11 @@ state_code PreOperational = 127
 
 -- a command's specifier: 01h, 02h, 80h, 81h, 82h (CiA 301, NMT node control)
 abbrev pub specifier_code : Command → ℕ
-specifier_code Start = 1
-specifier_code Stop = 2
-specifier_code EnterPre = 128
-specifier_code ResetNode = 129
-specifier_code ResetComm = 130
+specifier_code Start = 0x01
+specifier_code Stop = 0x02
+specifier_code EnterPre = 0x80
+specifier_code ResetNode = 0x81
+specifier_code ResetComm = 0x82
 
 -- the state that has this number
 abbrev pub state_of_code : ℕ → Option NmtState

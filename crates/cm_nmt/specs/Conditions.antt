@@ -61,7 +61,10 @@ date_agrees t a = is_dated t && is_value a.date t.date && is_value a.time t.time
 -- a configuration is needed: date or time isn't expected, or what was read isn't as expected
 -- (CiA 302-2, 1F26h and 1F27h)
 unfoldable pub date_differs : Terms → Answers → Bool
-date_differs t a = not (is_dated t) || (is_answered a.date && not (is_value a.date t.date)) || (is_answered a.time && not (is_value a.time t.time))
+date_differs t a =
+    not (is_dated t)
+    || (is_answered a.date && not (is_value a.date t.date))
+    || (is_answered a.time && not (is_value a.time t.time))
 
 -- the slave is configured: it may be, and needs to be (CiA 302-2, boot slave)
 unfoldable pub must_write : Terms → Answers → Bool

@@ -4,7 +4,8 @@ use Rattle.std.specs.Prelude.{◌≡◌, Bool, true, false, ◌==◌, ◌&&◌, 
 use Rattle.std.specs.List.{list_all}
 use Rattle.cm_nmt.specs.Bits.{has_bit}
 use Rattle.cm_nmt.specs.declared.terms.Terms.{Terms}
-use Rattle.cm_nmt.specs.Conditions.{asks_identity, comes_to_beat, condition, identity_agrees, is_complete, is_used, may_configure, must_write, product_agrees, revision_agrees, vendor_agrees}
+use Rattle.cm_nmt.specs.Conditions.{asks_identity, comes_to_beat, condition, identity_agrees, is_complete, is_used}
+use Rattle.cm_nmt.specs.Conditions.{may_configure, must_write, product_agrees, revision_agrees, vendor_agrees}
 use Rattle.cm_nmt.specs.Got.{has_value, is_value}
 use Rattle.cm_nmt.specs.Verdict.{is_wrong}
 use Rattle.cm_nmt.specs.declared.answers.Answers.{Answers}

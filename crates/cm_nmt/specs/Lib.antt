@@ -1,3 +1,4 @@
+pub mod Kept
 pub mod NodeId
 pub mod Codes
 pub mod Frames

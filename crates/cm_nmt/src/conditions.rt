@@ -1,5 +1,7 @@
 ghost use Rattle.std.specs.Prelude.{◌≡◌, ◌<◌};
-ghost use Rattle.cm_nmt.specs.Conditions.{asks_identity, comes_to_beat, condition, date_agrees, date_differs, device_agrees, has_no_answer, identity_agrees, is_complete, is_dated, is_used, matches, may_configure, must_write, writes_are_counted};
+ghost use Rattle.cm_nmt.specs.Conditions.{asks_identity, comes_to_beat, condition, date_agrees, date_differs};
+ghost use Rattle.cm_nmt.specs.Conditions.{device_agrees, has_no_answer, identity_agrees, is_complete, is_dated};
+ghost use Rattle.cm_nmt.specs.Conditions.{is_used, matches, may_configure, must_write, writes_are_counted};
 ghost use Rattle.cm_nmt.specs.Judging.{reaches};
 
 use crate::Answers;

@@ -1,8 +1,9 @@
-//! The tables that the NMT master goes by, as types (CiA 301, CiA 302-2). Nothing here takes memory.
+//! The tables that the NMT master goes by, as types (CiA 301, CiA 302-2). Nothing here takes memory but [`KeptFrames`].
 //!
 //! - Node-IDs, NMT states and commands, the two bytes of an NMT message and the byte of an error
 //!   control message. Each table is read both ways: `code` and `from_code`, `specifier` and
-//!   `from_specifier`, `bytes` and `Frame::read`. A [`Wire`] is what NMT messages are handed to.
+//!   `from_specifier`, `bytes` and `Frame::read`. A [`Wire`] is what NMT messages are handed to;
+//!   [`KeptFrames`] keeps them.
 //! - NMT startup (1F80h), slave assignment (1F81h), a write that configures a slave, and what is
 //!   listed of one slave.
 //! - The tables of a boot (boot slave): what a slave answered, question by question ([`Answers`]),
@@ -24,6 +25,7 @@ mod frame;
 mod got;
 mod heard;
 mod judging;
+mod kept;
 mod node_id;
 mod signal;
 mod startup;
@@ -42,6 +44,7 @@ pub use field::{Field, fields};
 pub use frame::{Frame, Target};
 pub use got::Got;
 pub use heard::Heard;
+pub use kept::KeptFrames;
 pub use node_id::NodeId;
 pub use signal::Signal;
 pub use startup::Startup;

@@ -39,4 +39,6 @@ module _ (net : Listing) (seats limit : ℕ) where
 
   -- the first of these calls that wasn't made met the fault's cause, the seat being so; memory may be refused before any of them
   abbrev pub StopsForCause : SeatView → List Call → OperateFault → Type 0
-  StopsForCause seat calls f = f.fault ≢ fault.OutOfMemory → (f.done < length calls) × ((d : Call) → IsCallCause net seats limit seat (slice_index_or calls f.done d) f.fault)
+  StopsForCause seat calls f =
+      f.fault ≢ fault.OutOfMemory
+      → (f.done < length calls) × ((d : Call) → IsCallCause net seats limit seat (slice_index_or calls f.done d) f.fault)

@@ -12,6 +12,7 @@ use crate::jobs::{Job, Plan};
 use crate::outcome::Outcome;
 use crate::rounds::round;
 use cm_boot::Bus;
+use cm_netlist::worker_at;
 use cm_seat::{RunName, Seat, SharedManager};
 use std::sync::Wait;
 
@@ -39,7 +40,7 @@ fn make_rounds<K: RunName, R: Wait, M: SharedManager<K, R>, B: Bus>(
     let ids = listed.as_slice();
     for place in 0..ids.len() {
         let id = ids[place];
-        if place % plan.workers == worker {
+        if worker_at(plan.workers, place) == worker {
             outcomes.push_reserved(round(rt, register, seat, bus, id, plan.attempts));
         }
     }

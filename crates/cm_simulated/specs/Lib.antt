@@ -1,3 +1,2 @@
 pub mod Slaves
 pub mod Buses
-pub mod Wires

@@ -1,6 +1,6 @@
 ghost use Rattle.std.specs.Prelude.{◌≡◌, [], IfOk};
 
-use cm_nmt::{Frame, Wire};
+use cm_nmt::{Frame, KeptFrames, Wire};
 use std::alloc::{AllocError, Global};
 use std::marker::Model;
 
@@ -8,19 +8,15 @@ use std::marker::Model;
 /// taken when it is made. Contracts see the frames sent and the room for more.
 #[derive(Drop)]
 pub struct SimWire {
-    sent: Vec<Frame>,
-    room: u32,
+    kept: KeptFrames,
 }
 
 impl Model for SimWire {
-    ghost use Rattle.std.specs.Prelude.{◌+◌, ◌≤◌, vec_capacity, vec_len};
-    ghost use Rattle.cm_simulated.specs.Wires.{WireView};
+    ghost use Rattle.cm_nmt.specs.Kept.{KeptView};
 
-    ghost Value = { WireView };
+    ghost Value = { KeptView };
 
-    ghost view = { λ w. record { sent = w.sent.items; room = w.room } };
-
-    ghost invariant = { λ w. vec_len w.sent + w.room ≤ vec_capacity w.sent };
+    ghost view = { λ w. w.kept };
 }
 
 impl SimWire {
@@ -29,15 +25,15 @@ impl SimWire {
         ensures unused { IfOk result (λ w. w.sent ≡ []) }
         ensures room { IfOk result (λ w. w.room ≡ room) }
     {
-        let sent = Vec::with_capacity(alloc, room as usize)?;
-        Ok(SimWire { sent, room })
+        let kept = KeptFrames::new(alloc, room)?;
+        Ok(SimWire { kept })
     }
 
     /// The frames sent, the first one first.
     pub fn sent(&self) -> &[Frame]
         ensures { result.now ≡ self.now.sent }
     {
-        self.sent.as_slice()
+        self.kept.sent()
     }
 }
 
@@ -47,17 +43,16 @@ impl Wire for SimWire {
     ghost room_of = { λ w. w.room };
 
     fn room(&self) -> u32 {
-        self.room
+        self.kept.room()
     }
 
     fn used(&self) -> bool {
-        !self.sent.is_empty()
+        self.kept.used()
     }
 
     fn send(&mut self, frame: Frame) {
-        self.room -= 1;
         // Taken apart and put together, since the check refuses the frame as it is.
         let Frame { command, target } = frame;
-        self.sent.push_reserved(Frame { command, target });
+        self.kept.send(Frame { command, target });
     }
 }

@@ -7,16 +7,16 @@ use Rattle.cm_live.proofs.Giving.{given_frame, given_silent}
 use Rattle.cm_live.proofs.Waiting.{passed_answered, passed_more}
 use Rattle.cm_live.proofs.bus.wait_for.Goals as goal
 
-pub returns-in-Some-answer_of-clause-waited : goal.returns-in-Some-answer_of-clause-waited
-returns-in-Some-answer_of-clause-waited g c =
+pub returns-in-Some-answered_by-clause-waited : goal.returns-in-Some-answered_by-clause-waited
+returns-in-Some-answered_by-clause-waited g c =
     passed_answered c.args.id c.args.question.now c.loop-passed.passed c.args.log.now.items c.loop-passed.log.items c.push_reserved.new.self.items
-    (record { frame = c.frame-frame.result; answer = c.in-Some-answer_of.answer }) c.loop-passed.invariant.0 (omega (arith, c.loop-passed.auto.passed-end, c.loop-passed-test.true)) c.push_reserved.ensures.items
-    ((c.answer_of.ensures c.in-Some-answer_of.answer).0 c.in-Some-answer_of.is)
+    (record { frame = c.frame-frame.result; answer = c.in-Some-answered_by.answer }) c.loop-passed.invariant.0 (omega (arith, c.loop-passed.auto.passed-end, c.loop-passed-test.true)) c.push_reserved.ensures.items
+    ((c.answered_by.ensures c.in-Some-answered_by.answer).0 c.in-Some-answered_by.is)
 
-pub returns-in-Some-answer_of-clause-given : goal.returns-in-Some-answer_of-clause-given
-returns-in-Some-answer_of-clause-given g c =
-    given_frame g.B.BusName.format g.B.BusName.text c.args.id c.args.question.now c.in-Some-answer_of.answer c.args.last.now c.loop-passed.last c.place-place.result
-    c.in-Some.received c.frame-frame.result c.loop-passed.invariant.2 (omega (arith, c.if-place-last.false, c.place-place.ensures), c.place-place.ensures) c.frame-frame.ensures.frame c.frame-frame.ensures.stands ((c.answer_of.ensures c.in-Some-answer_of.answer).0 c.in-Some-answer_of.is)
+pub returns-in-Some-answered_by-clause-given : goal.returns-in-Some-answered_by-clause-given
+returns-in-Some-answered_by-clause-given g c =
+    given_frame g.B.BusName.format g.B.BusName.text c.args.id c.args.question.now c.in-Some-answered_by.answer c.args.last.now c.loop-passed.last c.place-place.result
+    c.in-Some.received c.frame-frame.result c.loop-passed.invariant.2 (omega (arith, c.if-place-last.false, c.place-place.ensures), c.place-place.ensures) c.frame-frame.ensures.frame c.frame-frame.ensures.stands ((c.answered_by.ensures c.in-Some-answered_by.answer).0 c.in-Some-answered_by.is)
 
 pub returns-clause-given : goal.returns-clause-given
 returns-clause-given g c =
@@ -26,7 +26,7 @@ returns-clause-given g c =
 pub loop-passed-preserved : goal.loop-passed-preserved
 loop-passed-preserved g c = (
   passed_more c.args.id c.args.question.now c.loop-passed.passed c.args.log.now.items c.loop-passed.log.items c.push_reserved.new.self.items c.frame-frame.result c.loop-passed.invariant.0 c.push_reserved.ensures.items
-      (λ a h. let e = (c.answer_of.ensures a).1 h in let d = c.in_default-answer_of.is in cc),
+      (λ a h. let e = (c.answered_by.ensures a).1 h in let d = c.in_default-answered_by.is in cc),
   c.push_reserved.ensures.capacity ∙ c.loop-passed.invariant.1,
   omega (arith, c.loop-passed.invariant.2),
 )
