@@ -18,7 +18,8 @@ AreCounts counts entries = (k : ℕ) → k < 64 → slice_index_or counts k 0 �
 
 -- the history is legal, and the frames sent are its frames; it has at most as many entries as
 -- are allowed, and room for them; it has as many as the ledger's total, each of one of the seats, whose entries are counted
-pub record IsKept (net : Network) (seats limit : ℕ) (history : List Entry) (capacity : ℕ) (counts : List ℕ) (sent : List Frame) (total : ℕ) : Type 0 where
+pub record IsBookKept (net : Network) (seats limit : ℕ) (history : List Entry) (capacity : ℕ) (counts : List ℕ)
+    (sent : List Frame) (total : ℕ) : Type 0 where
   pub legal : IsLegal (listing net) (reverse history)
   pub frames : sent ≡ frames_in (listing net) history
   pub few : length history ≤ limit

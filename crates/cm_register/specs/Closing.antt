@@ -14,7 +14,8 @@ use Rattle.cm_register.specs.declared.closing.CloseKind.TheVariants as kind
 
 -- what closing with these seats leaves: a legal history within the limit, of just these seats' calls; all seats that were
 -- made; the seats' lists; the wire, on which the history's frames were sent; and the manager that stands for the history
-pub record IsClosed {W : Type 0} (sent : W → List Frame) (net : Network) (made limit : ℕ) (given : List SeatView) (closed : Closed W) : Type 0 where
+pub record IsClosed {W : Type 0} (sent : W → List Frame) (net : Network) (made limit : ℕ) (given : List SeatView)
+    (closed : Closed W) : Type 0 where
   pub legal : IsLegal (listing net) (reverse closed.history.items)
   pub few : length closed.history.items ≤ limit
   pub seated : AreOfSeats made closed.history.items

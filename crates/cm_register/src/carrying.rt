@@ -13,7 +13,7 @@ use cm_sequential::{Manager, replay};
 
 /// The node that a call names, the own one where it names none.
 #[inline(always)]
-fn node_of(call: &Call, own: NodeId) -> NodeId
+fn called_node(call: &Call, own: NodeId) -> NodeId
     ensures { (t : ℕ) → 1 ≤ t → t < 128 → (result == t) ≡ false
         → (node_named call.now == t) ≡ false }
 {
@@ -69,7 +69,7 @@ pub(crate) fn carry_out<K: HistoryName>(
 {
     manager.carry_out(&entry.call, entry.reply, &entry.orders);
     let own = net.own_id();
-    let node = node_of(&entry.call, own);
+    let node = called_node(&entry.call, own);
     let value = manager.shown(node);
     let own_value = manager.shown(own);
     if let Err(not_shown) = writer.show_entry(entry, node, value, own_value) {
