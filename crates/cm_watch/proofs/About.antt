@@ -62,9 +62,11 @@ module _ (net : Network) (s : Settings) (t i j : ℕ) (other : j ≢ i) (k : Sla
   kept_apart (moment.Happened (happening.Called e)) is = call_apart e.call e.reply e.orders e.seat is
   kept_apart (moment.Happened (happening.Ended n)) is = rw (apart n is) refl
   kept_apart (moment.Happened (happening.Asked n)) is = rw (apart n is) refl
+  kept_apart (moment.Happened (happening.Ends at)) is = absurd (none-some i is)
   kept_apart (moment.Gave (step.Lost n)) is = rw (apart n is) refl
   kept_apart (moment.Gave (step.Boot n)) is = rw (apart n is) refl
   kept_apart (moment.Gave (step.Signal n b)) is = rw (apart n is) refl
   kept_apart (moment.Gave (step.LeftOut n c)) is = refl
   kept_apart (moment.Gave (step.TimeOver ms)) is = absurd (none-some i is)
   kept_apart (moment.Gave (step.AllTried ms)) is = absurd (none-some i is)
+  kept_apart (moment.Gave step.End) is = absurd (none-some i is)

@@ -118,6 +118,7 @@ module _ (net : Network) (s : Settings) (i t : ℕ) where
         | true ↦ λ started. due_is (is_some b) busy held false
         | false ↦ before
       ]
+  moment_case (moment.Happened (happening.Ends ms)) at b busy held up k before = before
   moment_case (moment.Gave (step.Lost j)) at b busy held up k before = before
   moment_case (moment.Gave (step.Boot j)) at b busy held up k before =
       elim (j == i) as (λ g. is_some at ≡ true → Known b (unwrap_or (if g then Some true else None) busy) held
@@ -129,6 +130,7 @@ module _ (net : Network) (s : Settings) (i t : ℕ) where
   moment_case (moment.Gave (step.LeftOut j n)) at b busy held up k before = before
   moment_case (moment.Gave (step.TimeOver ms)) at b busy held up k before = before
   moment_case (moment.Gave (step.AllTried ms)) at b busy held up k before = before
+  moment_case (moment.Gave step.End) at b busy held up k before = before
 
 pub not_forgotten : IsNotForgotten
 not_forgotten net s [] i started = false_true started

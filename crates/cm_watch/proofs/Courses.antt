@@ -39,6 +39,7 @@ booted_step t (moment.Happened (happening.Called e)) es b i is = entry_step (boo
 booted_step t (moment.Happened (happening.Heard j k)) es b i is = is
 booted_step t (moment.Happened (happening.Ended j)) es b i is = is
 booted_step t (moment.Happened (happening.Asked j)) es b i is = is
+booted_step t (moment.Happened (happening.Ends at)) es b i is = is
 booted_step t (moment.Gave g) es b i is = is
 
 -- since some time i is booted exactly where the history says that it is
@@ -62,6 +63,7 @@ phase_step net (moment.Happened (happening.Called e)) es = sym (phase_more (list
 phase_step net (moment.Happened (happening.Heard j k)) es = refl
 phase_step net (moment.Happened (happening.Ended j)) es = refl
 phase_step net (moment.Happened (happening.Asked j)) es = refl
+phase_step net (moment.Happened (happening.Ends at)) es = refl
 phase_step net (moment.Gave g) es = refl
 
 -- what is kept of the network, after one moment more
@@ -89,6 +91,7 @@ same_behind net (moment.Happened (happening.Called e)) xs ys p other =
 same_behind net (moment.Happened (happening.Heard j k)) xs ys p other = refl
 same_behind net (moment.Happened (happening.Ended j)) xs ys p other = refl
 same_behind net (moment.Happened (happening.Asked j)) xs ys p other = refl
+same_behind net (moment.Happened (happening.Ends at)) xs ys p other = refl
 same_behind net (moment.Gave g) xs ys p other = refl
 
 -- what is kept of the network by the open slaves is known by those that are open while they are being booted

@@ -1,10 +1,13 @@
 -- Entries at places of a list, and in the order of their positions.
-use Rattle.std.proofs.Common.{◌≡◌, ◌≢◌, ◌∙◌, ℕ, zero, suc, ◌+◌, ◌<◌, ◌==◌, List, [], ◌∷◌, ◌++◌, ap, sym, refl, arith, length, length-append, take, drop, get_or, drop-cons, cond, true, false, Option, Some, None, eq-eqb, below_more}
+use Rattle.std.proofs.Common.{inl, inr, subst, ◌≡◌, ◌≢◌, ◌∙◌, ℕ, zero, suc, ◌+◌, ◌<◌, ◌==◌, List, [], ◌∷◌, ◌++◌, ap, sym, refl, arith, length, length-append, take, drop, get_or, drop-cons, cond, true, false, Option, Some, None, eq-eqb, below_more}
 use Rattle.std.proofs.lemmas.List.{take-append-drop, take_more}
+use Rattle.std.proofs.lemmas.Bool.Decides.{eqb_tells}
 use Rattle.std.proofs.lemmas.Grind.{common_steps}
+use Rattle.std.proofs.lemmas.Option.{none-some, same_Some}
 use Rattle.std.specs.Option.{option_or}
 use Rattle.std.specs.List.{slice_get, remove}
 use Rattle.cm_watch.specs.InOrder.{entry_at, Holds, IsFirstAt}
+use Rattle.cm_watch.specs.Waiting.{placed_at}
 use Rattle.cm_watch.specs.declared.in_order.Placed.{Placed}
 use Rattle.cm_watch.specs.declared.in_order.InOrder.{InOrder}
 
@@ -87,3 +90,20 @@ module _ {T : Type 0} where
       ∙ ap (λ (o : Option (Placed T)). option_or o (entry_at (get_or xs i e ∷ []) p)) none
       ∙ ap (λ (y : Placed T). entry_at (y ∷ []) p) (sym is)
       ∙ passes e [] e.position p refl (λ same. other (sym same))
+
+  -- what is found at a position has it
+  position_at : (xs : List (Placed T)) (p : ℕ) (e : Placed T) → entry_at xs p ≡ Some e → e.position ≡ p
+  position_at [] p e is = absurd (none-some e is)
+  position_at (x ∷ xs) p e is =
+      elim (eqb_tells x.position p) [
+        | inl same ↦ sym (ap (λ (y : Placed T). y.position) (same_Some x e (sym (meets x xs p same.1) ∙ is))) ∙ same.1
+        | inr other ↦ position_at xs p e (sym (passes x xs x.position p refl (λ same. other.1 (sym same))) ∙ is)
+      ]
+
+  -- what is told next has the place behind what was told
+  pub placed_next : (o : InOrder T) (arrived told : List (Placed T)) (e : Placed T) → Holds o arrived (told ++ e ∷ []) → Holds o arrived (told ++ placed_at (length told) e.value ∷ [])
+  placed_next o arrived told e holds =
+      let longer : length (told ++ e ∷ []) ≡ length told + 1 = length-append told (e ∷ []) in
+      let within : length told < length (told ++ e ∷ []) = omega (arith, longer) in
+      let at : e.position ≡ length told = position_at arrived (length told) e (holds.each (length told) within ∙ get_at told e) in
+      subst (λ (x : Placed T). Holds o arrived (told ++ x ∷ [])) (ap (λ (p : ℕ). placed_at p e.value) at) holds

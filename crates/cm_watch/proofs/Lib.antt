@@ -7,3 +7,5 @@ pub mod Losses
 pub mod Limits
 pub mod Causes
 pub mod Entries
+pub mod Waits
+pub mod Tries

@@ -7,6 +7,7 @@ use Rattle.std.specs.List.{filter, range_with_len}
 use Rattle.cm_netlist.specs.Network.{Network, is_listed}
 use Rattle.cm_nmt.proofs.Both.{and_left, and_right}
 use Rattle.cm_nmt.proofs.Ids.{unfold_ids}
+use Rattle.cm_watch.specs.Ends.{is_run_over}
 use Rattle.cm_watch.specs.Limits.{AreBetween, AreLimited, IsOneInTenSeconds, IsToldInTime, caused_in}
 use Rattle.cm_watch.specs.Pasts.{Past}
 use Rattle.cm_watch.specs.Schedules.{cause_by, is_due, is_own, is_quiet_for, schedule_after, schedule_in}
@@ -240,26 +241,33 @@ module _ (net : Network) (s : Settings) (now : ℕ) where
       let signals = map (signal_of past) (filter (is_to_be_told net s past now) ids) in
       let over = step_if (is_time_over net past now) (step.TimeOver (elapsed_at past now)) in
       let ended = step_if (is_end net past) (step.AllTried (elapsed_at past now)) in
+      let closed = step_if (is_run_over past now) step.End in
       let lost = given now losses past in
       let booted = given now boots lost in
       let counted = given now counts booted in
       let told = given now signals counted in
+      let timed = given now ended (given now over told) in
       let lost_is : (j : ℕ) → Same lost past j = λ j. quiet_same step.Lost (λ x i k. refl) (λ x i. refl) (is_late net past now) past j in
       let counted_is : (j : ℕ) → is_to_be_booted net s past now j ≡ false → Same counted past j = λ j idle.
       let here = quiet_same (left_out_of past) (λ x i k. refl) (λ x i. refl) (is_left_out net s past now) booted j in
       let same = untouched step.Boot (λ x k. x == k) eqb_same boot_spends boot_causes (is_to_be_booted net s past now) j (not_booted past j idle) 1 127 lost in
       (here.0 ∙ (same.0 ∙ (lost_is j).0), here.1 ∙ (same.1 ∙ (lost_is j).1)) in
-      let all = time_limited (is_end net past) (step.AllTried (elapsed_at past now)) (given now over told) i (λ k. refl)
+      let all = time_limited (is_run_over past now) step.End timed i (λ k. refl)
+      (time_limited (is_end net past) (step.AllTried (elapsed_at past now)) (given now over told) i (λ k. refl)
       (time_limited (is_time_over net past now) (step.TimeOver (elapsed_at past now)) told i (λ k. refl)
       (signals_limited past counted i counted_is
       (quiet_limited (left_out_of past) (λ x i k. refl) (λ x i. refl) (is_left_out net s past now) booted i
       (boots_limited past lost i lost_is
-      (quiet_limited step.Lost (λ x i k. refl) (λ x i. refl) (is_late net past now) past i limited))))) in
-      let path : given now (losses ++ boots ++ counts ++ signals ++ over ++ ended) past ≡ given now ended (given now over told) =
-      given-append now (losses ++ boots ++ counts ++ signals ++ over) ended past
+      (quiet_limited step.Lost (λ x i k. refl) (λ x i. refl) (is_late net past now) past i limited)))))) in
+      let path : given now (losses ++ boots ++ counts ++ signals ++ over ++ ended ++ closed) past ≡ given now closed timed =
+      given-append now (losses ++ boots ++ counts ++ signals ++ over ++ ended) closed past
+      ∙ ap (given now closed) (given-append now (losses ++ boots ++ counts ++ signals ++ over) ended past
       ∙ ap (given now ended) (given-append now (losses ++ boots ++ counts ++ signals) over past
       ∙ ap (given now over) (given-append now (losses ++ boots ++ counts) signals past
-      ∙ ap (given now signals) (given-append now (losses ++ boots) counts past ∙ ap (given now counts) (given-append now losses boots past)))) in
-      let here : AreLimited net s (given now (losses ++ boots ++ counts ++ signals ++ over ++ ended) past) i = subst (λ (ps : Past). AreLimited net s ps i) (sym path) all in
+      ∙ ap (given now signals) (given-append now (losses ++ boots) counts past
+      ∙ ap (given now counts) (given-append now losses boots past))))) in
+      let here : AreLimited net s (given now (losses ++ boots ++ counts ++ signals ++ over ++ ended ++ closed) past) i =
+      subst (λ (ps : Past). AreLimited net s ps i) (sym path) all in
       subst (λ (nodes : List ℕ). AreLimited net s (given now (map step.Lost (filter (is_late net past now) nodes) ++ map step.Boot (filter (is_to_be_booted net s past now) nodes)
-      ++ map (left_out_of past) (filter (is_left_out net s past now) nodes) ++ map (signal_of past) (filter (is_to_be_told net s past now) nodes) ++ over ++ ended) past) i) (sym unfold_ids) here
+      ++ map (left_out_of past) (filter (is_left_out net s past now) nodes)
+      ++ map (signal_of past) (filter (is_to_be_told net s past now) nodes) ++ over ++ ended ++ closed) past) i) (sym unfold_ids) here

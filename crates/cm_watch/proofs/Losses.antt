@@ -15,12 +15,14 @@ stays (moment.Happened (happening.Heard j b)) i rest none yet = yet
 stays (moment.Happened (happening.Called e)) i rest none yet = ap (λ b. unwrap_or (if b then Some false else None) rest) none ∙ yet
 stays (moment.Happened (happening.Ended j)) i rest none yet = yet
 stays (moment.Happened (happening.Asked j)) i rest none yet = yet
+stays (moment.Happened (happening.Ends at)) i rest none yet = yet
 stays (moment.Gave (step.Lost j)) i rest none yet = elim (j == i) as (λ b. unwrap_or (if b then Some true else None) rest ≡ true) [ true ↦ refl | false ↦ yet ]
 stays (moment.Gave (step.Boot j)) i rest none yet = yet
 stays (moment.Gave (step.Signal j b)) i rest none yet = yet
 stays (moment.Gave (step.LeftOut j n)) i rest none yet = yet
 stays (moment.Gave (step.TimeOver ms)) i rest none yet = yet
 stays (moment.Gave (step.AllTried ms)) i rest none yet = yet
+stays (moment.Gave step.End) i rest none yet = yet
 
 given_until : (newer past : Past) (t i : ℕ) → NoneBoots newer i → is_lost_given (newer ++ (t, moment.Gave (step.Lost i)) ∷ past) i ≡ true
 given_until [] past t i none = ap (λ b. unwrap_or (if b then Some true else None) (is_lost_given past i)) (eq-eqb i i refl)

@@ -5,12 +5,13 @@ use Rattle.std.specs.List.{filter}
 use Rattle.cm_history.specs.History.{is_empty}
 use Rattle.cm_netlist.specs.Network.{Network, is_listed}
 use Rattle.cm_nmt.specs.Listing.{node_ids}
+use Rattle.cm_watch.specs.Ends.{has_come, is_run_over}
 use Rattle.cm_watch.specs.Kept.{course_of, slave_of}
 use Rattle.cm_watch.specs.Pasts.{Past}
 use Rattle.cm_watch.specs.Signals.{is_allowed, news_of, pending_of}
 use Rattle.cm_watch.specs.Slaves.{is_tried_in}
 use Rattle.cm_watch.specs.Steps.{are_tried, elapsed_at, given, heartbeat_of, is_end, is_free, is_late, is_left_out, is_overdue, is_time_over, is_to_be_booted, is_to_be_told, left_out_of, signal_of, steps_at, takes_boots}
-use Rattle.cm_watch.specs.Watches.{Watches, are_tried_by, elapsed_by, is_end_by, is_late_by, is_left_out_by, is_pending_by, is_time_over_by, is_to_be_booted_by, is_to_be_told_by, kept_at, left_out_by, signal_by, steps_by, steps_of_kind}
+use Rattle.cm_watch.specs.Watches.{Watches, are_tried_by, elapsed_by, is_end_by, is_late_by, is_left_out_by, is_pending_by, is_run_over_by, is_time_over_by, is_to_be_booted_by, is_to_be_told_by, kept_at, left_out_by, signal_by, steps_by, steps_of_kind}
 use Rattle.cm_watch.specs.declared.watch.Kind.TheVariants as kind
 use Rattle.cm_watch.specs.declared.watch.Pending.TheVariants as pending
 use Rattle.cm_watch.specs.declared.course.Course.{Course}
@@ -63,6 +64,9 @@ module _ (w : Watch) (net : Network) (s : Settings) (past : Past) (has : Watches
       ap (λ (c : Course). takes_boots c.phase && (not c.is_end_given && (is_ready c.phase || are_tried_by w net))) has.course
       ∙ ap (λ (b : Bool). let c = course_of net past in takes_boots c.phase && (not c.is_end_given && (is_ready c.phase || b))) same_tried
 
+  same_run_over : (now : ℕ) → is_run_over_by w now ≡ is_run_over past now
+  same_run_over now = ap (has_come now) has.ends
+
   -- the steps are those that the past says
   pub same_steps : (now : ℕ) → steps_by w net now ≡ steps_at net s past now
   same_steps now =
@@ -79,7 +83,8 @@ module _ (w : Watch) (net : Network) (s : Settings) (past : Past) (has : Watches
       let over : is_time_over_by w net now ≡ is_time_over net past now = same_over now in
       let ended : is_end_by w net ≡ is_end net past = same_end in
       let elapsed : elapsed_by w now ≡ elapsed_at past now = same_elapsed now in
-      rw (losses, boots, left_out, signals, over, ended, elapsed) refl
+      let run_over : is_run_over_by w now ≡ is_run_over past now = same_run_over now in
+      rw (losses, boots, left_out, signals, over, ended, elapsed, run_over) refl
 
 -- one step more
 pub given_more : (now : ℕ) (xs : List Step) (x : Step) (past : Past) → given now (xs ++ x ∷ []) past ≡ (now, moment.Gave x) ∷ given now xs past

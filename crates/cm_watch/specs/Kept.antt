@@ -111,6 +111,7 @@ about_happening (happening.Heard j b) = Some j
 about_happening (happening.Called e) = about_call e.call e.orders
 about_happening (happening.Ended j) = Some j
 about_happening (happening.Asked j) = Some j
+about_happening (happening.Ends at) = None
 
 abbrev pub about_step : Step → Option ℕ
 about_step (step.Lost j) = Some j
@@ -119,8 +120,10 @@ about_step (step.Signal j b) = Some j
 about_step (step.LeftOut j n) = Some j
 about_step (step.TimeOver ms) = None
 about_step (step.AllTried ms) = None
+about_step step.End = None
 
--- which node a moment is about: what is kept of each other slave stays as it is; none where it may be about all
+-- which node a moment is about: what is kept of each other slave stays as it is; none where it may be about all, or is
+-- about none
 abbrev pub about : Moment → Option ℕ
 about (moment.Happened h) = about_happening h
 about (moment.Gave s) = about_step s

@@ -3,6 +3,7 @@ pub mod Slaves
 pub mod Schedules
 pub mod Signals
 pub mod Course
+pub mod Ends
 pub mod Steps
 pub mod Losses
 pub mod Limits
@@ -10,5 +11,7 @@ pub mod Causes
 pub mod Kept
 pub mod Watches
 pub mod InOrder
+pub mod Waiting
+pub mod Tried
 pub mod Telling
 pub mod Paces

@@ -82,7 +82,12 @@ news_of n = news_from n.boot_up n.heard n.told
 
 -- what was heard and told of i
 abbrev pub news_in : Past → ℕ → News
-news_in past i = record { boot_up = is_boot_up_left past i; heard = state_heard past i; told = state_told past i; changes = changes_in past i }
+news_in past i = record {
+  boot_up = is_boot_up_left past i;
+  heard = state_heard past i;
+  told = state_told past i;
+  changes = changes_in past i;
+}
 
 -- ---- how much a node may cause by itself
 

@@ -8,6 +8,7 @@ use Rattle.cm_netlist.specs.Network.{Network, entry, is_listed}
 use Rattle.cm_netlist.specs.declared.entry.SlaveEntry.{SlaveEntry}
 use Rattle.cm_nmt.specs.Listing.{node_ids}
 use Rattle.cm_watch.specs.Course.{is_end_given, is_over_given, is_stopped_in, phase_in, started_at}
+use Rattle.cm_watch.specs.Ends.{is_run_over}
 use Rattle.cm_watch.specs.Pasts.{Past}
 use Rattle.cm_watch.specs.Schedules.{is_due, is_own, schedule_in}
 use Rattle.cm_watch.specs.Signals.{budget_in, is_allowed, news_in, news_of, pending_of}
@@ -99,8 +100,8 @@ is_end net past =
 abbrev pub step_if : Bool → Step → List Step
 step_if b s = if b then s ∷ [] else []
 
--- the steps at a time: the slaves that are lost, those to be booted, what is left out, the signals, each in rising order, and
--- the time
+-- the steps at a time: the slaves that are lost, those to be booted, what is left out, the signals, each in rising order,
+-- the time, and behind all others the end of the run
 abbrev pub steps_at : Network → Settings → Past → ℕ → List Step
 steps_at net s past now =
     map step.Lost (filter (is_late net past now) node_ids)
@@ -109,6 +110,7 @@ steps_at net s past now =
     ++ map (signal_of past) (filter (is_to_be_told net s past now) node_ids)
     ++ step_if (is_time_over net past now) (step.TimeOver (elapsed_at past now))
     ++ step_if (is_end net past) (step.AllTried (elapsed_at past now))
+    ++ step_if (is_run_over past now) step.End
 
 -- the past once the steps were given
 abbrev pub given : ℕ → List Step → Past → Past

@@ -4,6 +4,7 @@ use Rattle.cm_history.specs.History.{is_empty}
 use Rattle.cm_history.specs.Phases.{is_booting, is_ready}
 use Rattle.cm_netlist.specs.Network.{Network, is_listed, listing}
 use Rattle.cm_nmt.specs.Listing.{is_mandatory, node_ids}
+use Rattle.cm_watch.specs.Ends.{ends_in, has_come}
 use Rattle.cm_watch.specs.Kept.{blank_slave, course_of, slave_of}
 use Rattle.cm_watch.specs.Pasts.{Past}
 use Rattle.cm_watch.specs.Signals.{is_allowed, news_of, pending_of}
@@ -31,6 +32,7 @@ pub record Watches (w : Watch) (net : Network) (s : Settings) (past : Past) : Ty
   pub settings : w.settings ≡ s
   pub slaves : AreSlaves w.slaves net s past
   pub course : w.course ≡ course_of net past
+  pub ends : w.ends ≡ ends_in past
 
 -- ---- working definitions: what the watch does by what it keeps
 
@@ -101,6 +103,9 @@ abbrev pub is_end_by : Watch → Network → Bool
 is_end_by w net =
     takes_boots w.course.phase && (not w.course.is_end_given && (is_ready w.course.phase || are_tried_by w net))
 
+abbrev pub is_run_over_by : Watch → ℕ → Bool
+is_run_over_by w now = has_come now w.ends
+
 abbrev pub steps_by : Watch → Network → ℕ → List Step
 steps_by w net now =
     steps_of_kind w net now kind.Lost
@@ -109,6 +114,7 @@ steps_by w net now =
     ++ steps_of_kind w net now kind.Signal
     ++ step_if (is_time_over_by w net now) (step.TimeOver (elapsed_by w now))
     ++ step_if (is_end_by w net) (step.AllTried (elapsed_by w now))
+    ++ step_if (is_run_over_by w now) step.End
 
 -- i isn't booted, isn't held, and is to be booted at no time
 abbrev pub is_given_up_by : Watch → ℕ → Bool

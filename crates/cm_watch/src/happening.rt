@@ -12,6 +12,9 @@ pub enum Happening {
     Ended(NodeId),
     /// The operator asks for a boot of the slave.
     Asked(NodeId),
+    /// The run is to end at this time, in ms since it began: its operator wants it, or types no more. Told again, the last one
+    /// told counts.
+    Ends(u64),
 }
 
 /// What is to be done.
@@ -30,6 +33,8 @@ pub enum Step {
     TimeOver(u32),
     /// The manager is to be told that so many ms went by: the network is ready, or all slaves were tried.
     AllTried(u32),
+    /// The run ends.
+    End,
 }
 
 /// What a past is made of: what has happened, and the steps that were given.

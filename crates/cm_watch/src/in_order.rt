@@ -69,6 +69,7 @@ impl<T: Drop> InOrder<T> {
             → IfSome result (λ e. Holds self.new arrived (told ++ e ∷ [])) }
         ensures all_told { (arrived told : List (At T)) → Holds self.old arrived told
             → IfNone result (IsTold arrived told) }
+        ensures kept { IfNone result (self.new ≡ self.old) }
     {
         let Some(place) = self.place_of_next() else {
             return None;

@@ -2,13 +2,15 @@
 //! in it (own).
 //!
 //! A [`Watch`] is told each happening with its time, and gives the steps that are to be made: that a slave is lost, is to be
-//! booted, has sent something, or that time has gone by. What it gives is told by specs/ of the list of what has happened and
-//! was given so far, its past. That each slave is given as lost once, that none is forgotten, and that one which babbles
-//! causes at most one step in 10 s, are laws of every past. What an operator is told behind a happening is [`Told`]; in the
-//! order of the history it comes by [`InOrder`]; and when the time may be looked at, [`Pace`] says.
+//! booted, has sent something, that time has gone by, or that the run ends. What it gives is told by specs/ of the list of what
+//! has happened and was given so far, its past. That each slave is given as lost once, that none is forgotten, and that one
+//! which babbles causes at most one step in 10 s, are laws of every past. What an operator is told behind a happening is
+//! [`Told`]; in the order of the history it comes by [`InOrder`]; and when the time may be looked at, [`Pace`] says. What waits
+//! until its frames were handed to the wire is [`Waiting`], and what came of the boots so far [`Tried`].
 #![tactic(auto)]
 
 mod course;
+mod ends;
 mod happening;
 mod in_order;
 mod laws;
@@ -20,6 +22,8 @@ mod signals;
 mod slave;
 mod taking;
 mod telling;
+mod tried;
+mod waiting;
 mod watch;
 
 pub use course::Course;
@@ -32,4 +36,6 @@ pub use settings::Settings;
 pub use signals::{Budget, News};
 pub use slave::Slave;
 pub use telling::Told;
+pub use tried::Tried;
+pub use waiting::{Untold, Waiting};
 pub use watch::Watch;

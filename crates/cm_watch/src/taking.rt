@@ -43,6 +43,7 @@ fn about_happening(happening: &Happening) -> Option<NodeId>
     match happening {
         Happening::Heard(id, _) | Happening::Ended(id) | Happening::Asked(id) => Some(*id),
         Happening::Called(entry) => about_call(&entry.call, &entry.orders),
+        Happening::Ends(_) => None,
     }
 }
 
@@ -52,11 +53,11 @@ fn about_step(step: &Step) -> Option<NodeId>
 {
     match step {
         Step::Lost(id) | Step::Boot(id) | Step::Signal(id, _) | Step::LeftOut(id, _) => Some(*id),
-        Step::TimeOver(_) | Step::AllTried(_) => None,
+        Step::TimeOver(_) | Step::AllTried(_) | Step::End => None,
     }
 }
 
-/// The node that the moment is about; `None` where it may be about all.
+/// The node that the moment is about; `None` where it may be about all, or is about none.
 fn about(moment: &Moment) -> Option<NodeId>
     ensures { result ≡ about moment.now }
 {

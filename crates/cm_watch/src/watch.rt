@@ -8,12 +8,13 @@ ghost use Rattle.cm_watch.specs.Limits.{AreLimited};
 ghost use Rattle.cm_watch.specs.Pasts.{Past};
 ghost use Rattle.cm_watch.specs.Steps.{given, heartbeat_of, steps_at};
 ghost use Rattle.cm_watch.specs.Telling.{given_up_of, told_of};
-ghost use Rattle.cm_watch.specs.Watches.{Watches, elapsed_by, is_end_by, is_given_by, is_given_up_by, is_late_by, is_left_out_by, is_pending_by, is_time_over_by, is_to_be_booted_by, is_to_be_told_by, kept_at, left_out_by, signal_by, step_by, steps_by};
+ghost use Rattle.cm_watch.specs.Watches.{Watches, elapsed_by, is_end_by, is_given_by, is_given_up_by, is_late_by, is_left_out_by, is_pending_by, is_run_over_by, is_time_over_by, is_to_be_booted_by, is_to_be_told_by, kept_at, left_out_by, signal_by, step_by, steps_by};
 ghost use Rattle.cm_watch.specs.declared.happening.Moment.TheVariants.{Gave, Happened};
 ghost use Rattle.cm_watch.specs.declared.happening.Step.TheVariants as step;
 ghost use Rattle.cm_watch.specs.declared.settings.Settings.{Settings as WatchSettings};
 
 use crate::course::{Course, is_mandatory};
+use crate::ends::{ends_by, has_come};
 use crate::happening::{Happening, Moment, Step};
 use crate::schedule::{Again, Schedule};
 use crate::settings::Settings;
@@ -31,6 +32,8 @@ use std::alloc::{AllocError, Global};
 pub struct Watch {
     settings: Settings,
     pub(crate) course: Course,
+    /// When the run is to end, in ms since it began.
+    ends: Option<u64>,
     /// Of each node, that of node i at place i.
     slaves: [Slave; 128],
 }
@@ -101,6 +104,7 @@ impl Watch {
                 is_over_given: false,
                 is_end_given: false,
             },
+            ends: None,
             slaves: [blank; 128],
         }
     }
@@ -114,6 +118,7 @@ impl Watch {
         take_all(&mut self.slaves, network, self.settings, now_ms, moment);
         let none_open = self.is_none_open(network);
         self.course = self.course.after(network, now_ms, moment, none_open);
+        self.ends = ends_by(moment, self.ends);
     }
 
     /// This happened then. The answer is what an operator is told behind it, beside what it is.
@@ -303,6 +308,13 @@ impl Watch {
             && (self.course.phase.is_ready() || self.none_pending(network, Pending::Untried))
     }
 
+    /// Whether the run ends now.
+    fn is_run_over(&self, now: u64) -> bool
+        ensures { result ≡ is_run_over_by self.now now }
+    {
+        has_come(now, self.ends)
+    }
+
     fn steps(&self, alloc: Global, network: &Network, now: u64) -> Result<Vec<Step>, AllocError>
         ensures { IfOk result (λ steps. steps.items ≡ steps_by self.now network.now now) }
     {
@@ -316,6 +328,9 @@ impl Watch {
         }
         if self.is_end(network) {
             steps.push(Step::AllTried(self.elapsed(now)))?;
+        }
+        if self.is_run_over(now) {
+            steps.push(Step::End)?;
         }
         Ok(steps)
     }

@@ -1,12 +1,10 @@
+use crate::ENDLESS;
 use crate::cases::scanner::Scanner;
 use std::alloc::{AllocError, Global};
 use std::io::{self, Read, Write};
 
 /// The byte in whose place each repetition of a part has its number.
 const NUMBER: u8 = b'~';
-
-/// A loop must be known to end, and these end with their bytes: so they count to this, which no case comes to.
-pub const ENDLESS: u64 = u64::MAX;
 
 /// Some bytes, as often as said. Where they have a `~`, each repetition has its number there, counted
 /// from 1.

@@ -41,7 +41,7 @@ fn split_story(bytes: &[u8]) -> Option<(&[u8], &str)> {
 }
 
 /// A node, in decimal.
-fn node_of(field: Option<&str>) -> Option<NodeId> {
+fn story_node(field: Option<&str>) -> Option<NodeId> {
     NodeId::new(field?.parse::<u8>().ok()?)
 }
 
@@ -58,11 +58,12 @@ impl<'a> Story<'a> {
         match word {
             "turn" => Some(Line::Turn),
             "entry" => Some(Line::Happened(Happening::Called(self.next_entry()?))),
-            "ended" => Some(Line::Happened(Happening::Ended(node_of(first)?))),
-            "asked" => Some(Line::Happened(Happening::Asked(node_of(first)?))),
+            "ended" => Some(Line::Happened(Happening::Ended(story_node(first)?))),
+            "asked" => Some(Line::Happened(Happening::Asked(story_node(first)?))),
+            "ends" => Some(Line::Happened(Happening::Ends(first?.parse::<u64>().ok()?))),
             "heard" => {
                 let byte = u8::from_str_radix(second?, 16).ok()?;
-                Some(Line::Happened(Happening::Heard(node_of(first)?, byte)))
+                Some(Line::Happened(Happening::Heard(story_node(first)?, byte)))
             }
             _ => None,
         }
@@ -103,6 +104,7 @@ fn put_step<W: Write>(now_ms: u64, step: Step, out: &mut W) -> io::Result<()> {
         Step::Signal(id, byte) => writeln!(out, "{now_ms} signal {} {byte:02X}", id.get()),
         Step::TimeOver(ms) => writeln!(out, "{now_ms} time-over {ms}"),
         Step::AllTried(ms) => writeln!(out, "{now_ms} all-tried {ms}"),
+        Step::End => writeln!(out, "{now_ms} end"),
     }
 }
 
@@ -136,8 +138,8 @@ fn put_told<W: Write>(now_ms: u64, told: Told, out: &mut W) -> io::Result<()> {
     put_node(now_ms, "given-up", told.given_up, out)
 }
 
-/// Tells the story of these bytes; what is told of it and the steps of its turns are written. The first line behind the journal is the settle
-/// time. `false` where something isn't as it has to be.
+/// Tells the story of these bytes; what is told of it and the steps of its turns are written. The first
+/// line behind the journal is the settle time. `false` where something isn't as it has to be.
 pub fn tell_story<W: Write>(alloc: Global, bytes: &[u8], out: &mut W) -> io::Result<bool> {
     let Some((journal, rest)) = split_story(bytes) else {
         return Ok(false);

@@ -10,8 +10,16 @@ use cm_nmt::{Assignment, NodeId, Startup, Terms};
 const LIST: &str =
     "own = 1\nstartup = 1\n[[slave]]\nid = 2\nassignment = 13\nwrites = [[0x6200, 1, 1, 255]]\n[[slave]]\nid = 3\nassignment = 5\n";
 
-const JOURNAL: &[u8] =
-    b"canboot journal 2\nnetwork own 1 startup 00000001 boottime 0 seats 1 limit 16\nslave 2 assign 0000000D type 00020192 vendor 00000000 product 00000000 revision 00000000 serial 00000000 heartbeat 0 date 00000000 time 00000000 writes 0\nentry 1 start = started / reset-unkept\nentry 1 begin 2 = begun 1 / none\nentry 1 read 2 = state 0 / none\nentry 1 read 2 = state 0 / none\nentry 1 read 2 = state 0 / none\nend 5\n";
+const JOURNAL: &[u8] = b"canboot journal 2\n\
+    network own 1 startup 00000001 boottime 0 seats 1 limit 16\n\
+    slave 2 assign 0000000D type 00020192 vendor 00000000 product 00000000 revision 00000000 serial 00000000 \
+    heartbeat 0 date 00000000 time 00000000 writes 0\n\
+    entry 1 start = started / reset-unkept\n\
+    entry 1 begin 2 = begun 1 / none\n\
+    entry 1 read 2 = state 0 / none\n\
+    entry 1 read 2 = state 0 / none\n\
+    entry 1 read 2 = state 0 / none\n\
+    end 5\n";
 
 /// A mandatory slave of which no value is expected.
 pub(crate) fn slave() -> SlaveEntry {

@@ -1,10 +1,7 @@
+use crate::ENDLESS;
 use crate::bench::network::SLAVES;
 use cm_register::{RunName, Seat};
 use std::sync::atomic::{AtomicBool, Ordering};
-
-// A loop must be known to end, and when the flag goes up isn't known: so it counts to this, which no
-// measurement comes to.
-const ENDLESS: u64 = u64::MAX;
 
 /// What a reader saw: of how many calls its last read told, and the sum of all states, so that no
 /// read can be left out of the program.

@@ -9,4 +9,5 @@ returns c = λ net. record {
   settings = refl;
   slaves = λ i low high. get_or-replicate {A = Slave} 128 i blank_slave blank_slave high;
   course = refl;
+  ends = refl;
 }

@@ -2,6 +2,7 @@ use Rattle.std.proofs.Common.{◌∙◌, ◌∷◌, ◌&&◌, ℕ, List, ap, sub
 use Rattle.cm_history.specs.History.{is_empty, open_of}
 use Rattle.cm_history.specs.Phases.{is_booting}
 use Rattle.cm_netlist.specs.Network.{listing}
+use Rattle.cm_watch.specs.Ends.{ends_by}
 use Rattle.cm_watch.specs.Kept.{course_after}
 use Rattle.cm_watch.specs.Pasts.{entries_in}
 use Rattle.cm_watch.specs.Watches.{AreSlaves}
@@ -26,4 +27,5 @@ returns c = λ s past w.
           (c.is_none_open-none_open.ensures ∙ ap (λ (xs : List ℕ). is_booting old.course.phase && is_empty xs) open_is) c.after-self.ensures
           ∙ ap (λ (x : Course). course_after net t m (open_of (listing net) (entries_in ((t, m) ∷ past))) x) w.course
           ∙ course_step net past t m;
+      ends = c.ends_by-self.ensures ∙ ap (ends_by m) w.ends;
     }
