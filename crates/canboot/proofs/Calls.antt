@@ -1,10 +1,9 @@
 -- What holds of each begin and each report of a slave holds of all calls of its rounds.
-use Rattle.std.proofs.Common.{◌≡◌, ℕ, List, [], ◌∷◌, ◌++◌}
+use Rattle.std.proofs.Common.{ℕ, List, [], ◌∷◌, ◌++◌}
 use Rattle.std.specs.Prelude.{All}
 use Rattle.std.proofs.lemmas.List.Elements.{All-append, All-cons, All-nil, All-same}
 use Rattle.cm_boot.specs.declared.question.Answer.{Answer}
 use Rattle.cm_boot.specs.declared.question.Question.{Question}
-use Rattle.cm_history.specs.declared.call.Call.{Call}
 use Rattle.cm_history.specs.declared.call.Call.TheVariants as call
 use Rattle.cm_history.specs.declared.call.Reply.{Reply}
 use Rattle.cm_netlist.specs.Network.{Network}

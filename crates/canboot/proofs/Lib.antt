@@ -10,3 +10,5 @@ pub mod Attempts
 pub mod Begins
 pub mod Calls
 pub mod Steps
+pub mod Going
+pub mod Filters

@@ -1,7 +1,9 @@
 -- In a history each report is made by the seat of its slave's worker.
-use Rattle.std.proofs.Common.{◌≡◌, ◌==◌, ◌+◌, ℕ, Bool, true, false, List, [], ◌∷◌, ◌++◌, refl, sym, subst}
-use Rattle.std.specs.Prelude.{Result, Ok, Err, IfOk, OnErr, if◌then◌else◌}
-use Rattle.std.proofs.lemmas.Bool.{eq-eqb}
+use Rattle.std.proofs.Common.{◌≡◌, ◌==◌, ◌+◌, ℕ, Bool, true, false, List, [], ◌∷◌, ◌++◌, refl, sym, subst, ap, not}
+use Rattle.std.specs.Prelude.{Result, Ok, Err, IfOk, OnErr, Option, Some, None, if◌then◌else◌}
+use Rattle.std.specs.Option.{option_eq}
+use Rattle.std.proofs.Math.Dec.{eqb}
+use Rattle.std.proofs.lemmas.Bool.{eq-eqb, eqb-true, not-false}
 use Rattle.std.proofs.lemmas.List.Elements.{All-cons, All-head, All-nil, All-push, All-same, All-tail}
 use Rattle.cm_history.specs.declared.call.Call.{Call}
 use Rattle.cm_history.specs.declared.call.Call.TheVariants as call
@@ -13,7 +15,12 @@ use Rattle.cm_seat.specs.declared.fault.CallFault.{CallFault}
 use Rattle.cm_seat.specs.declared.made.Made.{Made}
 use Rattle.cm_seat.specs.declared.made.Receipt.{Receipt}
 use Rattle.cm_live.specs.Receiving.{IsNoReport}
-use Rattle.canboot.specs.Workers.{AreOfItsSeat, AreOfTheirSeats, IsOfItsSeat, seat_of}
+use Rattle.canboot.specs.Workers.{AreOfItsSeat, AreOfTheirSeats, IsOfItsSeat}
+
+-- an option that is found equal to some number has it
+pub equal_some : (o : Option ℕ) (n : ℕ) → not (option_eq eqb o (Some n)) ≡ false → o ≡ Some n
+equal_some None n is = absurd (let p : true ≡ false = is in cc)
+equal_some (Some m) n is = ap Some (eqb-true m n (not-false (eqb m n) is))
 
 module _ (net : Network) (seats : ℕ) where
   module _ (seat : ℕ) where

@@ -1,4 +1,7 @@
+pub mod Again
+pub mod Ending
 pub mod Faults
+pub mod Going
 pub mod Steps
 pub mod Asking
 pub mod Run
@@ -8,3 +11,5 @@ pub mod Workers
 pub mod Heard
 pub mod Operated
 pub use Rattle.canboot_check.specs.Check
+pub mod Words
+pub mod ToldLines

@@ -1,5 +1,5 @@
 -- What the live run of a network list does.
-use Rattle.std.specs.Prelude.{◌≡◌, ◌⊎◌, ◌+◌, ℕ, Bool, List, [], Option}
+use Rattle.std.specs.Prelude.{◌≡◌, ◌⊎◌, ℕ, Bool, List, [], Option}
 use Rattle.std.specs.Io.KnownBytes.{Appends}
 use Rattle.cm_nmt.specs.declared.frame.Frame.{Frame}
 use Rattle.cm_netlist.specs.Network.{Network, listing}
@@ -20,18 +20,21 @@ use Rattle.cm_live.specs.declared.outlet.Format.{Format}
 
 -- of the text of the journal of this history the beginning was written, and all of it where no write has failed
 abbrev pub WritesJournal : Network → ℕ → ℕ → List Entry → Option (Option (List ℕ)) → Option (Option (List ℕ)) → Bool → Type 0
-WritesJournal net seats limit entries journal journal' failed = IsWritten journal journal' failed (text (journal_of Two net seats limit entries))
+WritesJournal net seats limit entries journal journal' failed =
+    IsWritten journal journal' failed (text (journal_of Two net seats limit entries))
 
 -- of the text of a journal of this network the beginning was written, and all of it, but for its last line, where no write has
 -- failed: its entries are a legal history; and of this history just the frames were sent
-pub record Begins (net : Network) (seats limit : ℕ) (journal journal' : Option (Option (List ℕ))) (failed : Bool) (Sends : List Frame → Type 0) : Type 0 where
+pub record Begins (net : Network) (seats limit : ℕ) (journal journal' : Option (Option (List ℕ)))
+    (failed : Bool) (Sends : List Frame → Type 0) : Type 0 where
   pub entries : List Entry
   pub legal : IsJournal (journal_of Two net seats limit entries)
   pub recorded : IsWritten journal journal' failed (unended_text (journal_of Two net seats limit entries))
   pub sent : Sends (frames_in (listing net) entries)
 
 -- nothing was written and no frame was sent, or the journal of such a history was begun
-abbrev pub KeptOrBegins : {A : Type 0} → Network → ℕ → ℕ → (A → Option (Option (List ℕ))) → A → A → (A → Bool) → (List Frame → Type 0) → Type 0
+abbrev pub KeptOrBegins : {A : Type 0} → Network → ℕ → ℕ → (A → Option (Option (List ℕ))) → A → A
+    → (A → Bool) → (List Frame → Type 0) → Type 0
 KeptOrBegins net seats limit contents journal journal' failed Sends =
     ((journal' ≡ journal) × Sends []) ⊎ Begins net seats limit (contents journal) (contents journal') (failed journal') Sends
 
@@ -59,7 +62,8 @@ module _ {W : Type 0} (contents : W → Option (List ℕ)) (format : Format) (re
       (messages messages' : Option (Outlet W)) : Type 0 where
     pub of : JournalView
     pub run : IsRun workers limit input input' of
-    pub recorded : (IsWritten journal journal' failed (text of) × IsAllHeard format received of.network of.seats of.entries × IsOperatedLive typed of.entries)
+    pub recorded : (IsWritten journal journal' failed (text of) × IsAllHeard format received of.network of.seats of.entries
+        × IsOperatedLive typed of.entries)
         ⊎ IsWritten journal journal' failed (unended_text of)
     pub sent : SendsMessages contents (frames_in (listing of.network) of.entries) messages messages'
 
@@ -68,7 +72,8 @@ module _ {W : Type 0} (contents : W → Option (List ℕ)) (format : Format) (re
   SendsNothing messages messages' = (messages' ≡ messages) ⊎ SendsMessages contents [] messages messages'
 
   -- nothing was written or sent; or the beginning of the journal of a live run, just whose frames were sent
-  abbrev pub FailsToLive : ℕ → ℕ → Option (List ℕ) → Option (List ℕ) → Option (List ℕ) → Option (List ℕ) → Option (Option (List ℕ)) → Option (Option (List ℕ)) → Bool
+  abbrev pub FailsToLive : ℕ → ℕ → Option (List ℕ) → Option (List ℕ) → Option (List ℕ) → Option (List ℕ)
+      → Option (Option (List ℕ)) → Option (Option (List ℕ)) → Bool
       → Option (Outlet W) → Option (Outlet W) → Type 0
   FailsToLive workers limit input input' output output' journal journal' failed messages messages' =
       ((output' ≡ output) × (journal' ≡ journal) × SendsNothing messages messages')

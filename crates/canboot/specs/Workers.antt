@@ -1,24 +1,19 @@
 -- Which worker boots which slave (own).
-use Rattle.std.specs.Prelude.{◌≡◌, ◌==◌, ◌+◌, ◌-◌, ◌%◌, ℕ, List, [], ◌∷◌, All, if◌then◌else◌}
+use Rattle.std.specs.Prelude.{◌≡◌, ◌+◌, ◌-◌, ℕ, List, All, Option, Some, option_map}
 use Rattle.cm_history.specs.declared.call.Call.{Call}
 use Rattle.cm_history.specs.declared.call.Call.TheVariants as call
 use Rattle.cm_history.specs.declared.call.Entry.{Entry}
 use Rattle.cm_netlist.specs.Network.{Network, listed_ids}
+use Rattle.cm_netlist.specs.Workers.{worker_of}
 use Rattle.cm_seat.specs.declared.made.Made.{Made}
 
--- the place of a node among these, counted from 0
-abbrev pub place_of : ℕ → List ℕ → ℕ
-place_of i [] = 0
-place_of i (x ∷ xs) = if x == i then 0 else place_of i xs + 1
-
--- of so many seats, the one of the worker that boots slave i: the operator has seat 1, the workers have the others, and the k-th
--- listed slave, counted from 0, is that of worker k modulo their number
-abbrev pub seat_of : Network → ℕ → ℕ → ℕ
-seat_of net seats i = place_of i (listed_ids net) % (seats - 1) + 2
+-- of so many seats, the one of the worker that boots slave i: the operator has seat 1, the workers have the others in their order
+abbrev pub seat_of : Network → ℕ → ℕ → Option ℕ
+seat_of net seats i = option_map (λ worker. worker + 2) (worker_of (listed_ids net) (seats - 1) i)
 
 -- a report on a slave is made by the seat of the slave's worker; any other call says nothing
 abbrev pub IsOfItsSeat : Network → ℕ → ℕ → Call → Type 0
-IsOfItsSeat net seats seat (call.Report i n a) = seat_of net seats i ≡ seat
+IsOfItsSeat net seats seat (call.Report i n a) = seat_of net seats i ≡ Some seat
 IsOfItsSeat net seats seat _ = Unit {0}
 
 -- and so for each call of a seat's list

@@ -1,4 +1,5 @@
-ghost use Rattle.std.specs.Prelude.{◌≡◌, ◌≤◌, ◌⊎◌};
+ghost use Rattle.std.specs.Prelude.{◌≡◌, ◌≤◌, ◌⊎◌, IfOk, None, false, is_some, true};
+ghost use Rattle.std.specs.Io.KnownBytes.{Appends};
 ghost use Rattle.canboot.specs.Program.{EndsWithout};
 
 use crate::live::LiveOptions;
@@ -55,7 +56,9 @@ fn run_here<
         + Drop
         + 'static,
     E: Write + IsTerminal,
->(rt: &R, err: &mut E) -> u8 {
+>(rt: &R, err: &mut E) -> u8
+    ensures statuses { result ≤ 3 }
+{
     let args = match env::args(rt) {
         Ok(args) => args,
         Err(error) => return read_fault(err, error.kind()),
@@ -96,7 +99,9 @@ pub fn run_words<
     I: Read,
     W: Write,
     E: Write,
->(rt: &R, words: &[String], input: &mut I, out: &mut W, err: &mut E, is_terminal: bool) -> u8 {
+>(rt: &R, words: &[String], input: &mut I, out: &mut W, err: &mut E, is_terminal: bool) -> u8
+    ensures statuses { result ≤ 3 }
+{
     match read_words(rt.alloc(), words) {
         Ok(Action::Check { network }) => check_file(rt, network, out, err),
         Ok(
@@ -163,7 +168,9 @@ fn say<W: Write, E: Write>(none: &NoAction, out: &mut W, err: &mut E) -> u8
 }
 
 /// Writes a text, and all of it.
-fn show<W: Write>(text: &str, out: &mut W) -> io::Result<()> {
+fn show<W: Write>(text: &str, out: &mut W) -> io::Result<()>
+    ensures { IfOk result (λ _. Appends (W.contents out.old) (W.contents out.new) text.now) }
+{
     out.write_all(text.as_bytes())?;
     out.flush()
 }
@@ -180,6 +187,7 @@ fn run_file<R: Files + AllocGlobal + Wait + Threads + Send + Sync, W: Write, E: 
 ) -> u8
     requires workers { (1 ≤ options.workers) × (options.workers ≤ 16) }
     requires attempts { (1 ≤ options.attempts) × (options.attempts ≤ 10) }
+    ensures statuses { result ≤ 3 }
 {
     let mut list = match fs::open(rt, path) {
         Ok(file) => file,
@@ -207,7 +215,10 @@ fn is_same_file<R: Files>(rt: &R, path: &str, other: &str) -> bool {
 fn make<R: Files + AllocGlobal>(
     rt: &R,
     path: Option<&str>,
-) -> io::Result<Option<BufWriter<R::File>>> {
+) -> io::Result<Option<BufWriter<R::File>>>
+    ensures none { path.entry ≡ None → IfOk result (λ made. is_some made ≡ false) }
+    ensures some { is_some path.entry ≡ true → IfOk result (λ made. is_some made ≡ true) }
+{
     match path {
         Some(path) => {
             let file = fs::create(rt, path)?;

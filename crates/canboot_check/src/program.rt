@@ -1,4 +1,4 @@
-ghost use Rattle.std.specs.Prelude.{◌≡◌};
+ghost use Rattle.std.specs.Prelude.{◌≡◌, ◌⊎◌};
 
 use crate::check::check_text;
 use crate::mend::mend_text;
@@ -55,7 +55,9 @@ pub fn check_file<R: Files + AllocGlobal, W: Write, E: Write>(
     path: &str,
     out: &mut W,
     err: &mut E,
-) -> u8 {
+) -> u8
+    ensures statuses { (result ≡ 0) ⊎ ((result ≡ 1) ⊎ (result ≡ 3)) }
+{
     match fs::open(rt, path) {
         Ok(mut file) => check_text(rt.alloc(), &mut file, out, err),
         Err(error) => read_fault(err, error.kind()),

@@ -1,9 +1,12 @@
-ghost use Rattle.std.specs.Prelude.{◌≡◌, ◌+◌, ◌%◌, ◌<◌, ◌≤◌, [], length};
-ghost use Rattle.canboot.specs.Workers.{place_of};
+ghost use Rattle.std.specs.Prelude.{◌≡◌, ◌≢◌, ◌+◌, ◌<◌, ◌≤◌, [], IfSome, None, Some, option_map};
+ghost use Rattle.cm_netlist.specs.Workers.{worker_of};
+ghost use Rattle.cm_seat.specs.Reads.{HasMadeCalls};
+ghost use Rattle.canboot.specs.Workers.{seat_of as seat_in};
 
 use crate::live::heard_seat::HeardSeat;
 use crate::live::rounds::live_round;
 use cm_live::{BusName, LiveBus, Port};
+use cm_netlist::worker_of;
 use cm_nmt::NodeId;
 use cm_register::{RunName, Seat, SharedManager};
 use cm_run::Outcome;
@@ -36,31 +39,14 @@ impl<'n, K: RunName, B: BusName, P: Port<B>> Model for Booth<'n, K, B, P> {
         × (1 ≤ w.workers) × (w.workers + 1 ≡ K.seats) };
 }
 
-/// The place of a node among these, counted from 0.
-fn place_of(listed: &[NodeId], id: NodeId) -> u16
-    requires { length listed.now ≤ 127 }
-    ensures place { result ≡ place_of id listed.now }
-    ensures range { result ≤ length listed.now }
+/// The seat of the worker that boots a slave: the operator has seat 1, the workers have the others.
+fn seat_of(listed: &[NodeId], workers: u16, id: NodeId) -> Option<usize>
+    ensures { result ≡ option_map (λ worker. worker + 2) (worker_of listed.now workers id) }
 {
-    match listed {
-        [] => 0,
-        [first, rest @ ..] => {
-            if *first == id {
-                0
-            } else {
-                place_of(rest, id) + 1
-            }
-        }
+    match worker_of(listed, usize::from(workers), id) {
+        Some(worker) => Some(worker + 2),
+        None => None,
     }
-}
-
-/// The seat of the worker that boots a slave.
-fn seat_of(listed: &[NodeId], workers: u16, id: NodeId) -> u16
-    requires few { length listed.now ≤ 127 }
-    requires workers { 1 ≤ workers }
-    ensures { result ≡ place_of id listed.now % workers + 2 }
-{
-    place_of(listed, id) % workers + 2
 }
 
 impl<'n, K: RunName, B: BusName, P: Port<B>> Booth<'n, K, B, P> {
@@ -68,6 +54,7 @@ impl<'n, K: RunName, B: BusName, P: Port<B>> Booth<'n, K, B, P> {
     pub fn new(seat: Seat<K>, bus: LiveBus<'n, B, P>, workers: u16) -> Booth<'n, K, B, P>
         requires list { seat.list ≡ [] }
         requires workers { (1 ≤ workers) × (workers + 1 ≡ K.seats) }
+        ensures { result ≡ seat }
     {
         Booth { seat, bus, workers }
     }
@@ -81,16 +68,22 @@ impl<'n, K: RunName, B: BusName, P: Port<B>> Booth<'n, K, B, P> {
         most: u8,
     ) -> Option<Outcome>
         requires { (0 < most) × (most ≤ 10) }
+        ensures own { IfSome result (λ o. (o.id ≡ id) × (seat_in K.net K.seats id ≡ Some self.old.number)) }
+        ensures other { result ≡ None → (seat_in K.net K.seats id ≢ Some self.old.number)
+            × (self.new ≡ self.old) }
+        ensures calls { HasMadeCalls self.old self.new }
     {
         let listed = register.network().listed_ids();
-        if seat_of(listed.as_slice(), self.workers, id) != self.seat.number() {
+        if seat_of(listed.as_slice(), self.workers, id) != Some(usize::from(self.seat.number())) {
             return None;
         }
         Some(live_round(rt, register, &mut self.seat, &mut self.bus, id, most))
     }
 
     /// The seat.
-    pub fn into_seat(self) -> HeardSeat<K, B> {
+    pub fn into_seat(self) -> HeardSeat<K, B>
+        ensures { result ≡ self.entry }
+    {
         HeardSeat::around(self.seat)
     }
 }

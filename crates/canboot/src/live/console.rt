@@ -9,11 +9,14 @@ ghost use Rattle.cm_watch.specs.Pasts.{Past};
 ghost use Rattle.cm_watch.specs.Watches.{Watches};
 ghost use Rattle.cm_watch.specs.declared.settings.Settings.{Settings as WatchSettings};
 ghost use Rattle.canboot.specs.Steps.{HasMadeOrNot, HasObeyed, calls_made};
+ghost use Rattle.canboot.specs.Going.{GoesOn};
 ghost use Rattle.canboot.specs.Asking.{is_start_of_all, no_boot_of};
 ghost use Rattle.cm_live.specs.declared.console.Command.TheVariants.{Start};
 
 use crate::live::ending::Ending;
+use crate::live::lines::{Bad, NoBootOf};
 use crate::live::register::LiveRegister;
+use crate::live::telling::say;
 use crate::live::watching::Watcher;
 use cm_history::Call;
 use cm_journal::report_of;
@@ -79,26 +82,6 @@ fn is_start_of_all(watch: &Watch) -> bool
     watch.is_stopped() && !watch.phase().is_halted()
 }
 
-/// Tells why a slave isn't booted.
-fn tell_no_boot<E: Write>(err: &mut E, id: NodeId, none: NoBoot) {
-    let number = id.get();
-    let _ = match none {
-        NoBoot::NotListed => writeln!(err, "boot {number}: the node isn't listed"),
-        NoBoot::Halted => writeln!(err, "boot {number}: the network is halted; type start"),
-        NoBoot::Held => writeln!(err, "boot {number}: the slave is held; release {number}"),
-        NoBoot::Booted => writeln!(err, "boot {number}: the slave is booted already"),
-    };
-}
-
-/// Tells what is wrong with a line of the operator; of one without words nothing.
-fn tell_bad<E: Write>(err: &mut E, bad: BadLine) {
-    let _ = match bad {
-        BadLine::Empty => Ok(()),
-        BadLine::NoSuchWord => writeln!(err, "bad line: no such word; 'help' has them"),
-        BadLine::Wants(usage) => writeln!(err, "bad line: it is {usage}"),
-    };
-}
-
 impl<'w, 'a, 'n, R: Wait + Clock + Drop, K: RunName, B: BusName, M: LiveRegister<K, R>> Watcher<
     'w,
     'a,
@@ -112,6 +95,8 @@ impl<'w, 'a, 'n, R: Wait + Clock + Drop, K: RunName, B: BusName, M: LiveRegister
     fn request(&mut self, line: &TypedLine<B>, target: u8, value: u8) -> Result<(), Ending>
         ensures made { IfOk result
             (λ _. HasMadeOrNot (RequestCall target value) self.old.operator self.new.operator) }
+        ensures watch { self.new.progress.watch ≡ self.old.progress.watch }
+        ensures network { self.new.network ≡ self.old.network }
     {
         let rt = self.setting.rt;
         self.operator
@@ -122,6 +107,8 @@ impl<'w, 'a, 'n, R: Wait + Clock + Drop, K: RunName, B: BusName, M: LiveRegister
     /// Starts the network: where all nodes are stopped, by a request to all.
     fn start(&mut self, line: &TypedLine<B>) -> Result<(), Ending>
         ensures made { IfOk result (λ _. HasObeyed Start self.old.operator self.new.operator) }
+        ensures watch { self.new.progress.watch ≡ self.old.progress.watch }
+        ensures network { self.new.network ≡ self.old.network }
     {
         if is_start_of_all(&self.progress.watch) {
             self.request(line, 128, 5)
@@ -134,9 +121,12 @@ impl<'w, 'a, 'n, R: Wait + Clock + Drop, K: RunName, B: BusName, M: LiveRegister
     fn boot_now<E: Write>(&mut self, err: &mut E, id: NodeId, now: u64)
         requires { now < 2 ^ 63 }
         ensures calls { self.new.operator ≡ self.old.operator }
+        ensures goes_on { GoesOn self.old.network.now self.old.progress.watch self.new.network.now self.new.progress.watch }
     {
         match no_boot(self.network, &self.progress.watch, id) {
-            Some(none) => tell_no_boot(err, id, none),
+            Some(none) => {
+                let _ = say(err, &NoBootOf(id, none));
+            }
             None => self.note(err, &Watched::Asked(id), now),
         }
     }
@@ -159,6 +149,8 @@ impl<'w, 'a, 'n, R: Wait + Clock + Drop, K: RunName, B: BusName, M: LiveRegister
     /// Does what the operator has typed next.
     pub(crate) fn obey_next<E: Write>(&mut self, err: &mut E, now: u64) -> Result<(), Ending>
         requires { now < 2 ^ 63 }
+        ensures goes_on { IfOk result
+            (λ _. GoesOn self.old.network.now self.old.progress.watch self.new.network.now self.new.progress.watch) }
     {
         match self.typed.try_recv(self.setting.rt) {
             Ok(line) => self.obey(err, &line, now),
@@ -177,6 +169,8 @@ impl<'w, 'a, 'n, R: Wait + Clock + Drop, K: RunName, B: BusName, M: LiveRegister
         requires time { now < 2 ^ 63 }
         requires plain { AsksPlainly command.now }
         ensures made { IfOk result (λ _. HasObeyed command.now self.old.operator self.new.operator) }
+        ensures goes_on { IfOk result
+            (λ _. GoesOn self.old.network.now self.old.progress.watch self.new.network.now self.new.progress.watch) }
     {
         match command {
             Command::Make(call) => self.call(*call)?,
@@ -188,9 +182,9 @@ impl<'w, 'a, 'n, R: Wait + Clock + Drop, K: RunName, B: BusName, M: LiveRegister
             Command::Start => self.start(line)?,
             Command::Status => self.report(err),
             Command::Help => {
-                let _ = writeln!(err, "{TYPING}");
+                let _ = say(err, &TYPING);
             }
-            Command::Quit => self.ends_at = Some(now),
+            Command::Quit => self.note(err, &Watched::Ends(now), now),
         }
         Ok(())
     }
@@ -201,11 +195,14 @@ impl<'w, 'a, 'n, R: Wait + Clock + Drop, K: RunName, B: BusName, M: LiveRegister
         ensures made { IfOk result (λ _. (c : Asked) → asked_by line.now.line ≡ Some c
             → HasObeyed c self.old.operator self.new.operator) }
         ensures none { asked_by line.now.line ≡ None → self.new.operator ≡ self.old.operator }
+        ensures goes_on { IfOk result
+            (λ _. GoesOn self.old.network.now self.old.progress.watch self.new.network.now self.new.progress.watch) }
     {
         match read_command(line.line()) {
             Ok(command) => self.carry_out(err, line, &command, now),
+            Err(BadLine::Empty) => Ok(()),
             Err(bad) => {
-                tell_bad(err, bad);
+                let _ = say(err, &Bad(bad));
                 Ok(())
             }
         }

@@ -1,6 +1,7 @@
 //! The files of a live run.
 
-ghost use Rattle.std.specs.Prelude.{◌≤◌};
+ghost use Rattle.std.specs.Prelude.{◌≡◌, ◌≤◌, ◌⊎◌, IfOk, vec_len};
+ghost use Rattle.canboot.specs.Program.{channel_closing, channel_opening, format_of};
 
 use crate::live::journal_file::make_journal;
 use crate::live::timed::Timed;
@@ -19,7 +20,9 @@ use std::thread::Threads;
 use std::time::Clock;
 
 /// In what lines the frames of a bus come and go.
-pub(crate) fn format_of(bus: &BusPaths<'_>) -> Format {
+pub(crate) fn format_of(bus: &BusPaths<'_>) -> Format
+    ensures { result ≡ format_of bus.now }
+{
     match bus {
         BusPaths::CanUtils { .. } => Format::CanUtils,
         BusPaths::Adapter { .. } => Format::Adapter,
@@ -42,22 +45,30 @@ fn open_bus<R: Files<File = File>>(rt: &R, bus: &BusPaths<'_>) -> io::Result<(Fi
     }
 }
 
-/// Opens the channel of a serial adapter, whose bit rate was set before. What it answers is no frame.
-fn open_channel(sent: &mut File, format: Format) {
-    if format == Format::Adapter {
-        let _ = sent.write_all(b"O\r");
+/// What opens the channel of a serial adapter, whose bit rate was set before; nothing else has one. What it answers is no frame.
+fn channel_opening(format: Format) -> &'static [u8]
+    ensures { result.now ≡ channel_opening format }
+{
+    match format {
+        Format::CanUtils => b"",
+        Format::Adapter => b"O\r",
     }
 }
 
-/// Closes the channel of a serial adapter.
-fn close_channel(sent: &mut File, format: Format) {
-    if format == Format::Adapter {
-        let _ = sent.write_all(b"C\r");
+/// What closes it.
+fn channel_closing(format: Format) -> &'static [u8]
+    ensures { result.now ≡ channel_closing format }
+{
+    match format {
+        Format::CanUtils => b"",
+        Format::Adapter => b"C\r",
     }
 }
 
 /// Writers to one file, this many.
-fn writers_to(alloc: Global, file: &File, count: u8) -> io::Result<Vec<BufWriter<File>>> {
+fn writers_to(alloc: Global, file: &File, count: u8) -> io::Result<Vec<BufWriter<File>>>
+    ensures { IfOk result (λ writers. vec_len writers ≡ count) }
+{
     let mut writers = Vec::new(alloc);
     for _writer in 0..count {
         writers.push(BufWriter::new(alloc, file.try_clone()?)?)?;
@@ -116,6 +127,7 @@ pub(crate) fn live_file<
     is_terminal: bool,
 ) -> u8
     requires workers { (1 ≤ options.workers) × (options.workers ≤ 16) }
+    ensures statuses { (result ≡ 0) ⊎ ((result ≡ 1) ⊎ (result ≡ 3)) }
 {
     let text = match read_file(rt, path) {
         Ok(text) => text,
@@ -149,7 +161,7 @@ pub(crate) fn live_file<
         typed: rt.reader(),
         written,
     };
-    open_channel(&mut sent, options.format);
+    let _ = sent.write_all(channel_opening(options.format));
     let mut timed = Timed::new(rt, err, is_terminal);
     let status = live_text(
         rt,
@@ -162,6 +174,6 @@ pub(crate) fn live_file<
         &mut messages,
         &mut journal,
     );
-    close_channel(&mut sent, options.format);
+    let _ = sent.write_all(channel_closing(options.format));
     status
 }

@@ -1,5 +1,6 @@
 //! What a live run reads: frames, and what its operator types, each in a thread of its own.
-ghost use Rattle.std.specs.Prelude.{◌≡◌, Err};
+ghost use Rattle.std.specs.Prelude.{◌≡◌, Err, IfOk};
+ghost use Rattle.cm_netlist.specs.Network.{listed_ids};
 
 use crate::live::setting::Setting;
 use canboot_run::NoHistory;
@@ -15,7 +16,10 @@ use std::time::Clock;
 pub(crate) fn make_routes<'a, 'n, R, B: BusName>(
     setting: &Setting<'a, 'n, R>,
     workers: Vec<Sender<Received<B>>>,
-) -> Result<Routes<B>, AllocError> {
+) -> Result<Routes<B>, AllocError>
+    ensures listed { IfOk result (λ r. r.listed.items ≡ listed_ids setting.now.network.now) }
+    ensures workers { IfOk result (λ r. r.workers ≡ workers) }
+{
     let mut listed = Vec::new(setting.alloc);
     for id in setting.network.listed_ids().as_slice() {
         listed.push(*id)?;

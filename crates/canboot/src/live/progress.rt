@@ -1,20 +1,23 @@
 //! How far a live run has come.
 
-ghost use Rattle.std.specs.Prelude.{◌≡◌, ◌<◌, ◌^◌, [], ◌∷◌, IfOk};
+ghost use Rattle.std.specs.Prelude.{◌≡◌, ◌<◌, ◌^◌, [], ◌∷◌, IfOk, IfSome, Some};
 ghost use Rattle.cm_netlist.specs.Network.{Network as NetworkList};
+ghost use Rattle.canboot.specs.Going.{GoesOn};
 ghost use Rattle.cm_watch.specs.Pasts.{Past};
+ghost use Rattle.cm_watch.specs.Signals.{state_heard};
 ghost use Rattle.cm_watch.specs.Watches.{Watches};
+ghost use Rattle.canboot.specs.Again.{state_again};
 ghost use Rattle.cm_watch.specs.declared.happening.Happening.TheVariants.{Called};
 ghost use Rattle.cm_watch.specs.declared.happening.Moment.TheVariants.{Happened};
 ghost use Rattle.cm_watch.specs.declared.settings.Settings.{Settings as WatchSettings};
 
-use crate::live::telling::{Tried, Waiting};
+use crate::live::telling::{given_up, say};
 use cm_history::Entry;
 use cm_live::Heartbeats;
 use cm_netlist::Network;
 use cm_nmt::NodeId;
 use cm_sequential::frames;
-use cm_watch::{Happening, Settings, Watch};
+use cm_watch::{Happening, Settings, Tried, Waiting, Watch};
 use std::alloc::{AllocError, Global};
 use std::io::Write;
 
@@ -55,7 +58,7 @@ pub(crate) fn note<E: Write>(
     let told = watch.take(network, now, happening);
     if let Some(id) = told.given_up {
         if !watch.phase().is_halted() {
-            tried.tell_given_up(err, network, id);
+            let _ = say(err, &given_up(tried, network, id));
         }
     }
 }
@@ -82,14 +85,24 @@ impl Progress<Entry> {
 
 /// The state in the error control message of a node that came last, where it came since the watch noted one and has the state
 /// that it noted last: another state, and a boot-up message, comes as a happening of its own.
-fn heard_again(watch: &Watch, heartbeats: &Heartbeats, id: NodeId) -> Option<u8> {
-    let (at, state) = heartbeats.last(id)?;
-    let noted = watch.heard(id)?;
-    if state != 0 && watch.state_heard(id) == Some(state) && noted <= at {
+fn state_again(last: Option<(u64, u8)>, noted: Option<u64>, state_noted: Option<u8>) -> Option<u8>
+    ensures { result ≡ state_again last noted state_noted }
+{
+    let (at, state) = last?;
+    let noted = noted?;
+    if state != 0 && state_noted == Some(state) && noted <= at {
         Some(state)
     } else {
         None
     }
+}
+
+/// The state of a node that was heard again.
+fn heard_again(watch: &Watch, heartbeats: &Heartbeats, id: NodeId) -> Option<u8>
+    ensures { (net : NetworkList) (s : WatchSettings) (past : Past) → Watches watch.now net s past
+        → IfSome result (λ state. state_heard past id ≡ Some state) }
+{
+    state_again(heartbeats.last(id), watch.heard(id), watch.state_heard(id))
 }
 
 /// The slaves that were heard again are noted.
@@ -100,6 +113,7 @@ pub(crate) fn note_heartbeats(
     now: u64,
 )
     requires { now < 2 ^ 63 }
+    ensures { GoesOn network.now watch.old network.now watch.new }
 {
     for id in network.listed_ids().as_slice() {
         if let Some(state) = heard_again(watch, heartbeats, *id) {

@@ -1,6 +1,9 @@
 //! The register of a live run, as its threads see it.
 
-ghost use Rattle.std.specs.Prelude.{IfOk, reverse};
+ghost use Rattle.std.specs.Prelude.{IfOk, IfSome, reverse};
+ghost use Rattle.cm_history.specs.Legal.{IsLegal};
+ghost use Rattle.cm_netlist.specs.Network.{listing};
+ghost use Rattle.cm_seat.specs.Reads.{IsKnown};
 ghost use Rattle.cm_sequential.specs.Standing.{Stands};
 
 use cm_nmt::Wire;
@@ -12,7 +15,9 @@ use std::sync::Wait;
 /// A manager that the threads of a live run share, and of which the one that watches reads more.
 pub(crate) trait LiveRegister<K: RunName, R: Wait>: SharedManager<K, R> {
     /// The manager now, as a copy, as the register gives it to this seat. It waits for the lock.
-    fn manager(&self, rt: &R, seat: &Seat<K>) -> Option<Manager>;
+    fn manager(&self, rt: &R, seat: &Seat<K>) -> Option<Manager>
+        ensures { IfSome result (λ m. (h : _) × IsLegal (listing K.net) (reverse h)
+            × IsKnown h seat.now × Stands m K.net (reverse h)) };
 
     /// The history up to now, and the manager that stands for it, as copies, as the register gives them to this
     /// seat. It waits for the lock.

@@ -1,5 +1,7 @@
 //! Lines with the time since a live run began, for a terminal.
 
+ghost use Rattle.std.specs.Prelude.{◌≡◌, None, false};
+
 use std::io::{self, Write};
 use std::time::{Clock, Instant};
 
@@ -14,7 +16,9 @@ pub(crate) struct Timed<'e, R: Clock, E: Write> {
 
 impl<'e, R: Clock, E: Write> Timed<'e, R, E> {
     /// A writer to another one, which puts times before its lines where it is a terminal.
-    pub(crate) fn new(rt: &'e R, inner: &'e mut E, is_terminal: bool) -> Timed<'e, R, E> {
+    pub(crate) fn new(rt: &'e R, inner: &'e mut E, is_terminal: bool) -> Timed<'e, R, E>
+        ensures { is_terminal ≡ false → result.start ≡ None }
+    {
         let start = if is_terminal {
             Instant::now(rt).ok()
         } else {

@@ -1,6 +1,8 @@
 //! How a live run goes on: what happens is told to the watch, and the steps that it gives are made.
 
-ghost use Rattle.std.specs.Prelude.{◌≡◌, ◌<◌, ◌^◌, ◌++◌, ◌∷◌, [], IfOk};
+ghost use Rattle.std.specs.Prelude.{◌≡◌, ◌<◌, ◌^◌, ◌++◌, ◌∷◌, [], IfErr, IfNone, IfOk, IfSome, None, Some, length, slice_index_or};
+ghost use Rattle.cm_netlist.specs.Network.{Network as NetworkList};
+ghost use Rattle.cm_netlist.specs.Workers.{worker_of};
 ghost use Rattle.cm_live.specs.Console.{IsOfWatch};
 ghost use Rattle.cm_watch.specs.Pasts.{Past};
 ghost use Rattle.cm_watch.specs.Steps.{given, steps_at};
@@ -8,18 +10,22 @@ ghost use Rattle.cm_watch.specs.Watches.{Watches};
 ghost use Rattle.cm_watch.specs.declared.happening.Happening.TheVariants.{Ended, Heard};
 ghost use Rattle.cm_watch.specs.declared.happening.Moment.TheVariants.{Happened};
 ghost use Rattle.cm_watch.specs.declared.settings.Settings.{Settings as WatchSettings};
+ghost use Rattle.canboot.specs.Ending.{is_ended_by};
+ghost use Rattle.canboot.specs.Going.{GoesOn, HasTaken, HasToldEntries};
 ghost use Rattle.canboot.specs.Steps.{HasMade, calls_made};
 
-use crate::live::ending::Ending;
+use crate::live::ending::{Ending, can_go_on, is_ended_by};
+use crate::live::lines::{LeftOut, NoFrames, TimeOver};
+use crate::live::nodes::open_nodes;
 use crate::live::operator_seat::OperatorSeat;
 use crate::live::progress::{Progress, note, note_heartbeats};
 use crate::live::register::LiveRegister;
 use crate::live::setting::Setting;
 use crate::live::steps::call_of;
-use crate::live::telling::{tell_left_out, tell_no_frames, tell_time_over};
+use crate::live::telling::say;
 use cm_history::{Call, Entry};
 use cm_live::{BusName, Happening, TypedLine};
-use cm_netlist::Network;
+use cm_netlist::{Network, worker_of};
 use cm_nmt::NodeId;
 use cm_register::{CallFault, RunName};
 use cm_watch::{Happening as Watched, Pace, Settings, Step};
@@ -56,7 +62,6 @@ pub(crate) struct Watcher<
     jobs: Vec<Sender<NodeId>>,
     pub(crate) progress: Progress<Entry>,
     pace: Pace,
-    pub(crate) ends_at: Option<u64>,
     /// It was told that a line of the journal couldn't be written.
     pub(crate) is_unrecorded_told: bool,
 }
@@ -76,36 +81,18 @@ pub(crate) fn since<R: Clock>(rt: &R, start: Instant) -> u64
     }
 }
 
-/// Hands the slave to its worker.
-fn hand_out<R: Wait>(rt: &R, network: &Network, jobs: &[Sender<NodeId>], id: NodeId) {
-    let listed = network.listed_ids();
-    let Some(place) = listed.as_slice().iter().position(|listed| *listed == id) else {
-        return;
-    };
-    if jobs.is_empty() {
-        return;
-    }
-    if let Some(jobs) = jobs.get(place % jobs.len()) {
-        let _ = jobs.send(rt, id);
-    }
-}
-
-/// Why the run has to end now, if it has.
-fn end_at<'a, 'n, R>(
-    setting: &Setting<'a, 'n, R>,
-    ends_at: Option<u64>,
-    now: u64,
-) -> Result<(), Ending> {
-    if is_set(&setting.broken) {
-        return Err(Ending::NotWritten);
-    }
-    if is_set(&setting.untold) {
-        return Err(Ending::OutOfMemory);
-    }
-    match ends_at {
-        Some(at) if at <= now => Err(Ending::Asked),
-        _ => Ok(()),
-    }
+/// What the worker that boots the slave is told its slaves by.
+fn jobs_of<'j>(
+    listed: &[NodeId],
+    jobs: &'j [Sender<NodeId>],
+    id: NodeId,
+) -> Option<&'j Sender<NodeId>>
+    ensures some { IfSome result (λ j. (d : _) → IfSome (worker_of listed.now (length jobs.now) id)
+        (λ worker. j.now ≡ slice_index_or jobs.now worker d)) }
+    ensures none { IfNone result (worker_of listed.now (length jobs.now) id ≡ None) }
+{
+    let worker = worker_of(listed, jobs.len(), id)?;
+    Some(&jobs[worker])
 }
 
 impl<'w, 'a, 'n, R: Wait + Clock + Drop, K: RunName, B: BusName, M: LiveRegister<K, R>> Watcher<
@@ -124,7 +111,12 @@ impl<'w, 'a, 'n, R: Wait + Clock + Drop, K: RunName, B: BusName, M: LiveRegister
         operator: OperatorSeat<K, B>,
         typed: Receiver<TypedLine<B>>,
         jobs: Vec<Sender<NodeId>>,
-    ) -> Watcher<'w, 'a, 'n, R, K, B, M> {
+    ) -> Watcher<'w, 'a, 'n, R, K, B, M>
+        ensures operator { result.operator ≡ operator }
+        ensures network { result.network ≡ setting.now.network }
+        ensures watch { (net : NetworkList) → Watches result.progress.watch net
+            (record { settle_ms = setting.now.options.settle_ms }) [] }
+    {
         let settings = Settings {
             settle_ms: setting.options.settle_ms,
         };
@@ -137,7 +129,6 @@ impl<'w, 'a, 'n, R: Wait + Clock + Drop, K: RunName, B: BusName, M: LiveRegister
             jobs,
             progress: Progress::new(setting.alloc, settings),
             pace: Pace::new(),
-            ends_at: None,
             is_unrecorded_told: false,
         }
     }
@@ -162,6 +153,7 @@ impl<'w, 'a, 'n, R: Wait + Clock + Drop, K: RunName, B: BusName, M: LiveRegister
         requires { IsOfWatch call }
         ensures made { IfOk result (λ _. calls_made self.new.operator ≡ calls_made self.old.operator ++ call ∷ []) }
         ensures watch { self.new.progress.watch ≡ self.old.progress.watch }
+        ensures network { self.new.network ≡ self.old.network }
     {
         self.operator.call(self.setting.rt, self.register, call)?;
         Ok(())
@@ -173,6 +165,7 @@ impl<'w, 'a, 'n, R: Wait + Clock + Drop, K: RunName, B: BusName, M: LiveRegister
         ensures told { (s : WatchSettings) (past : Past) → Watches self.old.progress.watch self.old.network.now s past
             → Watches self.new.progress.watch self.old.network.now s ((now, Happened happening.now) ∷ past) }
         ensures calls { self.new.operator ≡ self.old.operator }
+        ensures network { self.new.network ≡ self.old.network }
     {
         let progress = &mut self.progress;
         note(
@@ -188,6 +181,10 @@ impl<'w, 'a, 'n, R: Wait + Clock + Drop, K: RunName, B: BusName, M: LiveRegister
     /// The entries that come next in the history are told to the watch, and wait to be told in words.
     fn take_entries(&mut self, now: u64) -> Result<(), Ending>
         requires { now < 2 ^ 63 }
+        ensures told { (s : WatchSettings) (past : Past) → Watches self.old.progress.watch self.old.network.now s past
+            → IfOk result (λ _. HasToldEntries self.new.progress.watch self.old.network.now s past now) }
+        ensures network { self.new.network ≡ self.old.network }
+        ensures calls { self.new.operator ≡ self.old.operator }
     {
         for _ in self.setting.rt.forever() {
             let Some(entry) = self.progress.waiting.next() else {
@@ -201,6 +198,10 @@ impl<'w, 'a, 'n, R: Wait + Clock + Drop, K: RunName, B: BusName, M: LiveRegister
     /// An entry of the history was recorded, before which so many stand.
     pub(crate) fn enter(&mut self, position: u64, entry: Entry, now: u64) -> Result<(), Ending>
         requires { now < 2 ^ 63 }
+        ensures told { (s : WatchSettings) (past : Past) → Watches self.old.progress.watch self.old.network.now s past
+            → IfOk result (λ _. HasToldEntries self.new.progress.watch self.old.network.now s past now) }
+        ensures network { self.new.network ≡ self.old.network }
+        ensures calls { self.new.operator ≡ self.old.operator }
     {
         self.progress.waiting.take(position, entry)?;
         self.take_entries(now)
@@ -217,6 +218,7 @@ impl<'w, 'a, 'n, R: Wait + Clock + Drop, K: RunName, B: BusName, M: LiveRegister
         requires { now < 2 ^ 63 }
         ensures told { (s : WatchSettings) (past : Past) → Watches self.old.progress.watch self.old.network.now s past
             → IfOk result (λ _. Watches self.new.progress.watch self.old.network.now s ((now, Happened (Ended id)) ∷ past)) }
+        ensures network { self.new.network ≡ self.old.network }
     {
         if let Some(fault) = fault {
             return Err(Ending::NotCalled(fault));
@@ -230,6 +232,7 @@ impl<'w, 'a, 'n, R: Wait + Clock + Drop, K: RunName, B: BusName, M: LiveRegister
         requires { now < 2 ^ 63 }
         ensures told { (s : WatchSettings) (past : Past) → Watches self.old.progress.watch self.old.network.now s past
             → Watches self.new.progress.watch self.old.network.now s ((now, Happened (Heard id byte)) ∷ past) }
+        ensures network { self.new.network ≡ self.old.network }
     {
         self.note(err, &Watched::Heard(id, byte), now);
     }
@@ -237,6 +240,9 @@ impl<'w, 'a, 'n, R: Wait + Clock + Drop, K: RunName, B: BusName, M: LiveRegister
     /// Takes one thing that has happened.
     fn take<E: Write>(&mut self, err: &mut E, happening: Happening, now: u64) -> Result<(), Ending>
         requires { now < 2 ^ 63 }
+        ensures told { (s : WatchSettings) (past : Past) → Watches self.old.progress.watch self.old.network.now s past
+            → IfOk result (λ _. HasTaken happening self.new.progress.watch self.old.network.now s past now) }
+        ensures network { IfOk result (λ _. self.new.network.now ≡ self.old.network.now) }
     {
         match happening {
             Happening::Entered(position, entry) => self.enter(position, entry, now)?,
@@ -245,9 +251,11 @@ impl<'w, 'a, 'n, R: Wait + Clock + Drop, K: RunName, B: BusName, M: LiveRegister
             Happening::Typed => self.obey_next(err, now)?,
             Happening::NoMoreTyped => {
                 let rest_ms = u64::from(self.setting.options.seconds) * 1000;
-                self.ends_at = Some(now.saturating_add(rest_ms));
+                self.note(err, &Watched::Ends(now.saturating_add(rest_ms)), now);
             }
-            Happening::NoFrames => tell_no_frames(err, self.setting.options.format),
+            Happening::NoFrames => {
+                let _ = say(err, &NoFrames(self.setting.options.format));
+            }
             Happening::NoMoreHeard => return Err(Ending::NotHeard),
         }
         Ok(())
@@ -258,7 +266,10 @@ impl<'w, 'a, 'n, R: Wait + Clock + Drop, K: RunName, B: BusName, M: LiveRegister
         &mut self,
         err: &mut E,
         happenings: &Receiver<Happening>,
-    ) -> Result<(), Ending> {
+    ) -> Result<(), Ending>
+        ensures goes_on { IfOk result
+            (λ _. GoesOn self.old.network.now self.old.progress.watch self.new.network.now self.new.progress.watch) }
+    {
         let wait = Duration::from_millis(TURN_MS);
         let mut next = happenings.recv_timeout(self.setting.rt, wait).ok();
         for _ in 0..MOST_TAKEN {
@@ -276,14 +287,23 @@ impl<'w, 'a, 'n, R: Wait + Clock + Drop, K: RunName, B: BusName, M: LiveRegister
     fn make<E: Write>(&mut self, err: &mut E, step: &Step) -> Result<(), Ending>
         ensures made { IfOk result (λ _. HasMade (step.now ∷ []) self.old.operator self.new.operator) }
         ensures watch { self.new.progress.watch ≡ self.old.progress.watch }
+        ensures network { self.new.network ≡ self.old.network }
     {
         match step {
             Step::Boot(id) => {
                 self.progress.tried.hand_out(*id);
-                hand_out(self.setting.rt, self.network, self.jobs.as_slice(), *id);
+                let listed = self.network.listed_ids();
+                if let Some(jobs) = jobs_of(listed.as_slice(), self.jobs.as_slice(), *id) {
+                    let _ = jobs.send(self.setting.rt, *id);
+                }
             }
-            Step::LeftOut(id, count) => tell_left_out(err, *id, *count),
-            Step::TimeOver(_) => tell_time_over(err, self.network, &self.progress.watch),
+            Step::LeftOut(id, count) => {
+                let _ = say(err, &LeftOut::new(*id, *count));
+            }
+            Step::TimeOver(_) => {
+                let slaves = open_nodes(self.network, &self.progress.watch);
+                let _ = say(err, &TimeOver(slaves));
+            }
             _ => {}
         }
         match call_of(step) {
@@ -292,21 +312,24 @@ impl<'w, 'a, 'n, R: Wait + Clock + Drop, K: RunName, B: BusName, M: LiveRegister
         }
     }
 
-    /// Makes the steps that the watch gives now.
-    fn make_steps<E: Write>(&mut self, err: &mut E, now: u64) -> Result<(), Ending>
+    /// Makes the steps that the watch gives now. Whether the run ends with them.
+    fn make_steps<E: Write>(&mut self, err: &mut E, now: u64) -> Result<bool, Ending>
         requires { now < 2 ^ 63 }
         ensures made { (s : WatchSettings) (past : Past) → Watches self.old.progress.watch self.old.network.now s past
             → IfOk result (λ _. HasMade (steps_at self.old.network.now s past now) self.old.operator self.new.operator) }
         ensures given { (s : WatchSettings) (past : Past) → Watches self.old.progress.watch self.old.network.now s past
             → IfOk result (λ _. Watches self.new.progress.watch self.old.network.now s
             (given now (steps_at self.old.network.now s past now) past)) }
+        ensures ended { (s : WatchSettings) (past : Past) → Watches self.old.progress.watch self.old.network.now s past
+            → IfOk result (λ ended. ended ≡ is_ended_by (steps_at self.old.network.now s past now)) }
+        ensures network { self.new.network ≡ self.old.network }
     {
         let alloc = self.setting.alloc;
         let steps = self.progress.watch.turn(alloc, self.network, now)?;
         for step in steps.as_slice() {
             self.make(err, step)?;
         }
-        Ok(())
+        Ok(is_ended_by(steps.as_slice()))
     }
 
     /// One turn: takes what has happened, and looks at the time once that was all that was received.
@@ -314,15 +337,23 @@ impl<'w, 'a, 'n, R: Wait + Clock + Drop, K: RunName, B: BusName, M: LiveRegister
         &mut self,
         err: &mut E,
         happenings: &Receiver<Happening>,
-    ) -> Result<(), Ending> {
+    ) -> Result<(), Ending>
+        ensures goes_on { IfOk result
+            (λ _. GoesOn self.old.network.now self.old.progress.watch self.new.network.now self.new.progress.watch) }
+    {
         self.take_all(err, happenings)?;
         let now = self.now();
         let heartbeats = &self.setting.heartbeats;
         note_heartbeats(&mut self.progress.watch, self.network, heartbeats, now);
         self.tell(err, false);
-        end_at(self.setting, self.ends_at, now)?;
-        if self.pace.look(now, self.setting.listening.received()) {
-            self.make_steps(err, now)?;
+        let is_broken = is_set(&self.setting.broken);
+        let is_untold = is_set(&self.setting.untold);
+        can_go_on(is_broken, is_untold)?;
+        if !self.pace.look(now, self.setting.listening.received()) {
+            return Ok(());
+        }
+        if self.make_steps(err, now)? {
+            return Err(Ending::Asked);
         }
         Ok(())
     }

@@ -1,5 +1,6 @@
 //! The workers of a live run: who they are, their threads, and what each does.
-ghost use Rattle.std.specs.Prelude.{◌≡◌, ◌+◌, ◌≤◌, [], All};
+ghost use Rattle.std.specs.Prelude.{◌≡◌, ◌+◌, ◌≤◌, [], All, IfOk, min, vec_len};
+ghost use Rattle.cm_seat.specs.Reads.{HasMadeCalls};
 ghost use Rattle.canboot.specs.Faults.{fault_of};
 
 use crate::live::booth::Booth;
@@ -54,6 +55,7 @@ fn boot_handed<
     over: &AtomicBool,
 )
     requires { (1 ≤ attempts) × (attempts ≤ 10) }
+    ensures { HasMadeCalls booth.old booth.new }
 {
     for _ in rt.forever() {
         let Ok(id) = jobs.recv(rt) else {
@@ -79,7 +81,9 @@ fn work<
     B: BusName,
     M: SharedManager<K, R>,
     W: Write + Drop,
->(rt: &R, register: &M, worker: Worker<'n, R, K, B, W>, over: &AtomicBool) -> HeardSeat<K, B> {
+>(rt: &R, register: &M, worker: Worker<'n, R, K, B, W>, over: &AtomicBool) -> HeardSeat<K, B>
+    ensures { HasMadeCalls worker.entry.booth result }
+{
     let Worker {
         mut booth,
         jobs,
@@ -106,7 +110,9 @@ fn make_bus<'a, 'n, R: Wait + Clock + Clone + Drop, B: BusName, W: Write + Drop>
     setting: &Setting<'a, 'n, R>,
     worker: usize,
     writer: W,
-) -> Result<(LiveBus<'n, B, LivePort<R, B, W>>, Sender<Received<B>>), AllocError> {
+) -> Result<(LiveBus<'n, B, LivePort<R, B, W>>, Sender<Received<B>>), AllocError>
+    ensures { IfOk result (λ r. (r.0.log ≡ []) × (r.0.heard ≡ 0)) }
+{
     let (hears, heard) = crossbeam_channel::unbounded(setting.alloc)?;
     let port = LivePort {
         rt: setting.rt.clone()?,
@@ -131,6 +137,8 @@ fn make_worker<'a, 'n, R: Wait + Clock + Clone + Drop, K: RunName, B: BusName, W
 ) -> Result<(Worker<'n, R, K, B, W>, Sender<Received<B>>, Sender<NodeId>), AllocError>
     requires list { seat.list ≡ [] }
     requires workers { (1 ≤ setting.now.options.workers) × (setting.now.options.workers + 1 ≡ K.seats) }
+    ensures seat { IfOk result (λ r. r.0.booth ≡ seat) }
+    ensures attempts { IfOk result (λ r. r.0.attempts ≡ setting.now.options.attempts) }
 {
     let happenings = setting.happenings.clone()?;
     let (tells, jobs) = crossbeam_channel::unbounded(setting.alloc)?;
@@ -146,7 +154,10 @@ fn make_worker<'a, 'n, R: Wait + Clock + Clone + Drop, K: RunName, B: BusName, W
 
 impl<'n, R: Wait + Clock + Drop, K: RunName, B: BusName, W: Write + Drop> Workers<'n, R, K, B, W> {
     /// Nobody.
-    fn new(alloc: Global) -> Workers<'n, R, K, B, W> {
+    fn new(alloc: Global) -> Workers<'n, R, K, B, W>
+        ensures workers { vec_len result.workers ≡ 0 }
+        ensures channels { (vec_len result.hears ≡ 0) × (vec_len result.jobs ≡ 0) }
+    {
         Workers {
             workers: Vec::new(alloc),
             hears: Vec::new(alloc),
@@ -160,7 +171,11 @@ impl<'n, R: Wait + Clock + Drop, K: RunName, B: BusName, W: Write + Drop> Worker
         worker: Worker<'n, R, K, B, W>,
         hears: Sender<Received<B>>,
         jobs: Sender<NodeId>,
-    ) -> Result<(), AllocError> {
+    ) -> Result<(), AllocError>
+        ensures workers { IfOk result (λ _. vec_len self.new.workers ≡ vec_len self.old.workers + 1) }
+        ensures channels { IfOk result (λ _. (vec_len self.new.hears ≡ vec_len self.old.hears + 1)
+            × (vec_len self.new.jobs ≡ vec_len self.old.jobs + 1)) }
+    {
         self.workers.push(worker)?;
         self.hears.push(hears)?;
         self.jobs.push(jobs)?;
@@ -183,6 +198,9 @@ pub(crate) fn make_workers<
 ) -> Result<Workers<'n, R, K, B, W>, AllocError>
     requires seats { All (λ s. s.list ≡ []) seats.items }
     requires workers { (1 ≤ setting.now.options.workers) × (setting.now.options.workers + 1 ≡ K.seats) }
+    ensures workers { IfOk result (λ m. vec_len m.workers ≡ min (vec_len seats) (vec_len written)) }
+    ensures channels { IfOk result (λ m. (vec_len m.hears ≡ vec_len m.workers)
+        × (vec_len m.jobs ≡ vec_len m.workers)) }
 {
     let mut made = Workers::new(setting.alloc);
     for writer in written {
@@ -252,7 +270,9 @@ pub(crate) fn join_workers<R: Threads, K: RunName, B: BusName>(
     rt: &R,
     handles: Vec<JoinHandle<HeardSeat<K, B>>>,
     seats: &mut Vec<HeardSeat<K, B>>,
-) -> Result<(), AllocError> {
+) -> Result<(), AllocError>
+    ensures { IfOk result (λ _. vec_len seats.new ≡ vec_len seats.old + vec_len handles) }
+{
     for handle in handles {
         seats.push(handle.join(rt))?;
     }

@@ -1,10 +1,14 @@
-use Rattle.std.proofs.Common.{◌≡◌, ◌-◌, ◌%◌, ◌+◌, ◌∙◌, ℕ, List, [], ap, sym, subst, arith}
+use Rattle.std.proofs.Common.{◌≡◌, ◌-◌, ◌+◌, ◌∙◌, ℕ, List, [], ap, sym, subst, arith}
+use Rattle.std.specs.Prelude.{Some, option_map}
 use Rattle.cm_netlist.specs.Network.{listed_ids}
+use Rattle.cm_netlist.specs.Workers.{worker_of}
 use Rattle.cm_seat.specs.declared.made.Made.{Made}
 use Rattle.canboot.specs.Typing.{MakesNoRequest}
-use Rattle.canboot.specs.Workers.{AreOfItsSeat, IsOfItsSeat, place_of, seat_of}
+use Rattle.canboot.specs.Workers.{AreOfItsSeat, IsOfItsSeat, seat_of}
 use Rattle.canboot.proofs.Calls.{round_each}
+use Rattle.cm_seat.proofs.MadeCalls.{none_made}
 use Rattle.canboot.proofs.ReceivedRounds.{round_received}
+use Rattle.canboot.proofs.Workers.{equal_some}
 use Rattle.canboot.proofs.live.booth.Booth.boot.Goals as goal
 
 pub invariant_of-self : goal.invariant_of-self
@@ -16,9 +20,9 @@ invariant_of-self g c =
     let round = c.live_round.ensures.round in
     let listed : c.as_slice.result.now ≡ listed_ids net = c.as_slice.ensures.value ∙ (c.listed_ids-listed.ensures ∙ ap listed_ids c.network.ensures) in
     let workers : s.workers ≡ seats - 1 = omega (arith, i.4) in
-    let own : seat_of net seats c.args.id ≡ s.seat.number =
-    ap (λ (w : ℕ). place_of c.args.id (listed_ids net) % w + 2) (sym workers)
-    ∙ (ap (λ (ids : List ℕ). place_of c.args.id ids % s.workers + 2) (sym listed) ∙ (sym c.seat_of.ensures ∙ (c.if-seat_of-number.false ∙ c.number.ensures.value))) in (
+    let own : seat_of net seats c.args.id ≡ Some s.seat.number =
+    ap (λ (w : ℕ). option_map (λ k. k + 2) (worker_of (listed_ids net) w c.args.id)) (sym workers)
+    ∙ (ap (λ (ids : List ℕ). option_map (λ k. k + 2) (worker_of ids s.workers c.args.id)) (sym listed) ∙ (sym c.seat_of.ensures ∙ (equal_some c.seat_of.result c.from.result (sym c.ne.ensures ∙ c.if-ne.false) ∙ ap Some (c.from.ensures ∙ c.number.ensures.value)))) in (
       round_received g.B.BusName.format g.B.BusName.text net c.args.id c.args.most c.live_round.result s.seat.list c.live_round.new.seat.list (record { log = []; heard = s.bus.heard }) c.live_round.new.bus round i.0,
       round_each MakesNoRequest c.args.id (λ p r. tt) (λ p n a r. tt) _ net c.args.most c.live_round.result s.seat.list c.live_round.new.seat.list _ c.live_round.new.bus round i.1,
       subst (λ (n : ℕ). AreOfItsSeat net seats n c.live_round.new.seat.list) (sym c.live_round.ensures.number)
@@ -26,3 +30,6 @@ invariant_of-self g c =
       i.3,
       i.4,
     )
+
+pub returns-then-ne-clause-calls : goal.returns-then-ne-clause-calls
+returns-then-ne-clause-calls g c = none_made c.args.self.now

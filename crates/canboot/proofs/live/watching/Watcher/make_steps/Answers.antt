@@ -18,6 +18,7 @@ loop-step-preserved g c =
       subst (λ (xs : List Step). HasMade xs c.args.self.now.operator c.make.new.self.operator) (sym grown)
           (steps_more (take i steps) c.step-item.result c.args.self.now.operator c.loop-step.self.operator c.make.new.self.operator c.loop-step.invariant.0 c.in_ok-make.ensures.made),
       c.make.ensures.watch ∙ c.loop-step.invariant.1,
+      c.make.ensures.network ∙ c.loop-step.invariant.2,
     )
 
 pub returns-clause-given : goal.returns-clause-given
@@ -26,3 +27,9 @@ returns-clause-given g c = λ s past w.
     let turned : Watches c.turn.new.self net s (given c.args.now c.in_ok-steps.steps.items past) = c.in_ok-steps.ensures.given s past w in
     subst (λ (v : Watch). Watches v net s (given c.args.now (steps_at net s past c.args.now) past)) (sym c.loop-step.invariant.1)
     (subst (λ (xs : List Step). Watches c.turn.new.self net s (given c.args.now xs past)) (c.in_ok-steps.ensures.steps s past w) turned)
+
+pub returns-in_err-make-clause-network : goal.returns-in_err-make-clause-network
+returns-in_err-make-clause-network g c = c.make.ensures.network ∙ c.loop-step.invariant.2
+
+pub returns-clause-network : goal.returns-clause-network
+returns-clause-network g c = c.loop-step.invariant.2

@@ -6,3 +6,4 @@ use Rattle.canboot.proofs.live.watching.Watcher.make_steps.Given as goal
 abbrev pub invariant-loop-step : goal.invariant-loop-step
 invariant-loop-step g l =
     HasMade (take l.step-index l.step-items) l.fn.self.operator l.self.operator × (l.self.progress.watch ≡ l.initial.self.progress.watch)
+    × (l.self.network ≡ l.initial.self.network)
