@@ -22,7 +22,8 @@ pub record IsRun (workers limit : ℕ) (input input' : Option (List ℕ)) (j : J
 
 -- the input was read to its end and is a network list; of the legal history of a journal of it, which is that of a run with
 -- simulated slaves, just the report was written, and to the journal's output, if there is one, just the text of that journal
-pub record Runs (workers attempts : ℕ) (silent : Option ℕ) (limit : ℕ) (input input' output output' : Option (List ℕ)) (journal journal' : Option (Option (List ℕ))) : Type 0 where
+pub record Runs (workers attempts : ℕ) (silent : Option ℕ) (limit : ℕ) (input input' output output' : Option (List ℕ))
+    (journal journal' : Option (Option (List ℕ))) : Type 0 where
   pub of : JournalView
   pub run : IsRun workers limit input input' of
   pub simulated : IsSimulated of.network workers attempts silent of.entries
@@ -42,7 +43,8 @@ pub record RefusesRun (input input' output output' : Option (List ℕ)) (journal
   pub unwritten : journal' ≡ journal
 
 -- nothing was written, or the report of such a history was to be written
-abbrev pub FailsToRun : ℕ → ℕ → Option ℕ → ℕ → Option (List ℕ) → Option (List ℕ) → Option (List ℕ) → Option (List ℕ) → Option (Option (List ℕ)) → Option (Option (List ℕ)) → Type 0
+abbrev pub FailsToRun : ℕ → ℕ → Option ℕ → ℕ → Option (List ℕ) → Option (List ℕ) → Option (List ℕ) → Option (List ℕ)
+    → Option (Option (List ℕ)) → Option (Option (List ℕ)) → Type 0
 FailsToRun workers attempts silent limit input input' output output' journal journal' =
     ((output' ≡ output) × (journal' ≡ journal))
     ⊎ ((j : JournalView) × IsRun workers limit input input' j × IsSimulated j.network workers attempts silent j.entries)

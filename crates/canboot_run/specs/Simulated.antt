@@ -1,5 +1,6 @@
 -- What a run with simulated slaves does, over its history (own).
-use Rattle.std.specs.Prelude.{◌≡◌, ◌+◌, ◌<◌, ◌==◌, ◌||◌, ◌++◌, ℕ, Bool, false, List, [], ◌∷◌, length, map, All, Option, Some, None, Result, Ok, Err, if◌then◌else◌, option_map, slice_index_or}
+use Rattle.std.specs.Prelude.{◌≡◌, ◌+◌, ◌<◌, ◌==◌, ◌||◌, ◌++◌, ℕ, Bool, false, List, [], ◌∷◌, length, map, All}
+use Rattle.std.specs.Prelude.{Option, Some, None, Result, Ok, Err, if◌then◌else◌, option_map, slice_index_or}
 use Rattle.cm_netlist.specs.Network.{Network, listed_ids, terms}
 use Rattle.cm_history.specs.declared.call.Call.TheVariants as call
 use Rattle.cm_history.specs.declared.call.Entry.{Entry}
@@ -44,7 +45,8 @@ slave_given net silent i = if is_silent silent i then None else agreeing_with (t
 
 -- on the bus are just the slaves of these nodes, in the state in which they are put on it
 abbrev pub IsBusOf : Network → Option ℕ → List ℕ → SimBus → Type 0
-IsBusOf net silent ids bus = (i : ℕ) → i < 128 → slave_at bus i ≡ (if is_one_of ids i then option_map put_on (slave_given net silent i) else None)
+IsBusOf net silent ids bus =
+    (i : ℕ) → i < 128 → slave_at bus i ≡ (if is_one_of ids i then option_map put_on (slave_given net silent i) else None)
 
 -- each call of the attempt was made
 abbrev pub WasMade : Last → Type 0
@@ -105,8 +107,11 @@ pub record HasBootedBy (net : Network) (w attempts k : ℕ) (old new : SeatView)
 pub record HaveBooted (net : Network) (attempts : ℕ) (given : List SeatView) (buses : List SimBus) (after : List SeatView) : Type 0 where
   pub seats : length given ≡ length buses
   pub back : length after ≡ length buses
-  pub each : (k : ℕ) (s : SeatView) (b : SimBus) → k < length buses → HasBootedBy net (length buses) attempts k (slice_index_or given k s) (slice_index_or after k s) (slice_index_or buses k b)
+  pub each : (k : ℕ) (s : SeatView) (b : SimBus) → k < length buses
+      → HasBootedBy net (length buses) attempts k (slice_index_or given k s) (slice_index_or after k s) (slice_index_or buses k b)
 
 -- each worker has booted its slaves over its bus
 abbrev pub HaveWorkedOver : Network → ℕ → List SimBus → List Entry → Type 0
-HaveWorkedOver net attempts buses entries = (k : ℕ) (b : SimBus) → k < length buses → BootsSlaves net (length buses) attempts k (slice_index_or buses k b) (calls_of entries (k + 2))
+HaveWorkedOver net attempts buses entries =
+    (k : ℕ) (b : SimBus) → k < length buses
+    → BootsSlaves net (length buses) attempts k (slice_index_or buses k b) (calls_of entries (k + 2))

@@ -21,8 +21,15 @@ const REPORT: &[u8] =
     b"phase booting\nown preoperational\nentries 4\nopen 1\nframe 82 00\nslave 2 state 1 booted no session 0 last B\n";
 
 /// Its journal.
-const JOURNAL: &[u8] =
-    b"canboot journal 2\nnetwork own 1 startup 00000001 boottime 0 seats 2 limit 4096\nslave 2 assign 0000000D type 00020192 vendor 00000000 product 00000000 revision 00000000 serial 00000000 heartbeat 0 date 00000000 time 00000000 writes 0\nentry 1 start = started / reset-unkept\nentry 2 begin 2 = begun 1 / none\nentry 2 report 2 1 silent - - - - - - - 0 - - = status B / none\nentry 1 elapsed 0 = in-time / none\nend 4\n";
+const JOURNAL: &[u8] = b"canboot journal 2\n\
+    network own 1 startup 00000001 boottime 0 seats 2 limit 4096\n\
+    slave 2 assign 0000000D type 00020192 vendor 00000000 product 00000000 revision 00000000 serial 00000000 \
+    heartbeat 0 date 00000000 time 00000000 writes 0\n\
+    entry 1 start = started / reset-unkept\n\
+    entry 2 begin 2 = begun 1 / none\n\
+    entry 2 report 2 1 silent - - - - - - - 0 - - = status B / none\n\
+    entry 1 elapsed 0 = in-time / none\n\
+    end 4\n";
 
 /// How a report begins where all 126 slaves were booted.
 const ALL_BOOTED: &[u8] = b"phase ready\nown operational\nentries 254\nopen 0\nframe 82 00\n";

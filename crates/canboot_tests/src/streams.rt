@@ -11,8 +11,14 @@ use std::test::Fail;
 use std::thread::Threads;
 use std::time::Clock;
 
-pub(crate) const JOURNAL: &[u8] =
-    b"canboot journal 1\nnetwork own 1 startup 00000001 boottime 0 seats 1 limit 16\nslave 2 assign 0000000D type 00020192 vendor 00000000 product 00000000 revision 00000000 serial 00000000 heartbeat 0 date 00000000 time 00000000 writes 0\nentry 1 start = started / reset-unkept\nentry 1 begin 2 = begun 1 / none\nentry 1 report 2 1 00020192 - - - - - - - 0 - - = status Ok / one 01 02\nend 3\n";
+pub(crate) const JOURNAL: &[u8] = b"canboot journal 1\n\
+    network own 1 startup 00000001 boottime 0 seats 1 limit 16\n\
+    slave 2 assign 0000000D type 00020192 vendor 00000000 product 00000000 revision 00000000 serial 00000000 \
+    heartbeat 0 date 00000000 time 00000000 writes 0\n\
+    entry 1 start = started / reset-unkept\n\
+    entry 1 begin 2 = begun 1 / none\n\
+    entry 1 report 2 1 00020192 - - - - - - - 0 - - = status Ok / one 01 02\n\
+    end 3\n";
 
 pub(crate) const REPORT: &[u8] =
     b"phase ready\nown operational\nentries 3\nopen 0\nframe 82 00\nframe 01 02\nslave 2 state 5 booted yes session 0 last Ok\n";

@@ -5,15 +5,32 @@ use std::alloc::{AllocError, Global};
 use std::process::Abort;
 use std::test::Fail;
 
-const JOURNAL: &[u8] =
-    b"canboot journal 2\nnetwork own 1 startup 00000001 boottime 0 seats 2 limit 16\nslave 2 assign 0000000D type 00020192 vendor 00000123 product 00000000 revision 00000000 serial 00000000 heartbeat 100 date 00000000 time 00000000 writes 2\nwrite 1017 00 2 0064\nwrite 6060 00 1 08\nentry 1 start = started / reset-unkept\nentry 2 begin 2 = begun 1 / none\nentry 2 report 2 1 00020192 00000123 - - - - - - 2 - preoperational = status Ok / one 01 02\nentry 1 read 2 = state 5 / none\nend 4\n";
+const JOURNAL: &[u8] = b"canboot journal 2\n\
+    network own 1 startup 00000001 boottime 0 seats 2 limit 16\n\
+    slave 2 assign 0000000D type 00020192 vendor 00000123 product 00000000 revision 00000000 serial 00000000 \
+    heartbeat 100 date 00000000 time 00000000 writes 2\n\
+    write 1017 00 2 0064\n\
+    write 6060 00 1 08\n\
+    entry 1 start = started / reset-unkept\n\
+    entry 2 begin 2 = begun 1 / none\n\
+    entry 2 report 2 1 00020192 00000123 - - - - - - 2 - preoperational = status Ok / one 01 02\n\
+    entry 1 read 2 = state 5 / none\n\
+    end 4\n";
 
 /// The first line of each version.
 const FIRST_LINES: [&[u8]; 2] = [b"canboot journal 1\n", b"canboot journal 2\n"];
 
 /// A history of version 2 alone.
-const HELD: &[u8] =
-    b"canboot journal 2\nnetwork own 1 startup 00000001 boottime 0 seats 2 limit 1048576\nslave 2 assign 0000000D type 00020192 vendor 00000000 product 00000000 revision 00000000 serial 00000000 heartbeat 0 date 00000000 time 00000000 writes 0\nentry 1 start = started / reset-unkept\nentry 2 hold 2 = done / one 02 02\nentry 1 begin 2 = refused 14 / none\nentry 2 release 2 = done / none\nentry 2 release 2 = refused 15 / none\nend 5\n";
+const HELD: &[u8] = b"canboot journal 2\n\
+    network own 1 startup 00000001 boottime 0 seats 2 limit 1048576\n\
+    slave 2 assign 0000000D type 00020192 vendor 00000000 product 00000000 revision 00000000 serial 00000000 \
+    heartbeat 0 date 00000000 time 00000000 writes 0\n\
+    entry 1 start = started / reset-unkept\n\
+    entry 2 hold 2 = done / one 02 02\n\
+    entry 1 begin 2 = refused 14 / none\n\
+    entry 2 release 2 = done / none\n\
+    entry 2 release 2 = refused 15 / none\n\
+    end 5\n";
 
 const REPORT: &[u8] =
     b"phase ready\nown operational\nentries 4\nopen 0\nframe 82 00\nframe 01 02\nslave 2 state 5 booted yes session 0 last Ok\n";

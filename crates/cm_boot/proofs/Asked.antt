@@ -29,11 +29,11 @@ use Rattle.cm_boot.specs.declared.question.Answer.{Answer}
 use Rattle.cm_boot.specs.declared.question.Answer.TheVariants as answer
 use Rattle.cm_nmt.proofs.Both.{and_left, and_right}
 use Rattle.cm_boot.proofs.Order.{place}
-use Rattle.cm_boot.proofs.Stays.{IsKept, by_field, of_four, uses_stay}
+use Rattle.cm_boot.proofs.Stays.{IsFieldKept, by_field, of_four, uses_stay}
 use Rattle.cm_boot.proofs.Proper.{none_later, due_field}
 
 -- ---- one field
-asks : (e : SlaveEntry) (a : Answers) (v p r s : Got) (f g : Field) → (place g == place f) ≡ false → IsKept (λ b. asked_of e b g ≡ asked_of e (record a { ids = v ∷ p ∷ r ∷ s ∷ [] }) g) (record a { ids = v ∷ p ∷ r ∷ s ∷ [] }) f
+asks : (e : SlaveEntry) (a : Answers) (v p r s : Got) (f g : Field) → (place g == place f) ≡ false → IsFieldKept (λ b. asked_of e b g ≡ asked_of e (record a { ids = v ∷ p ∷ r ∷ s ∷ [] }) g) (record a { ids = v ∷ p ∷ r ∷ s ∷ [] }) f
 unfolding asked_of question id_of
 asks e a v p r s Device Device ne = λ x. cc
 asks e a v p r s Vendor Device ne = λ x. cc
@@ -50,7 +50,7 @@ asks e a v p r s _ _ ne = λ x. cc
 
 -- an answer to a field adds nothing to what was asked for another
 asks_stay : (e : SlaveEntry) (a b : Answers) (f g : Field) (x : Answer) → length a.ids ≡ 4 → (place g == place f) ≡ false → with_answer a f x ≡ Some b → asked_of e b g ≡ asked_of e a g
-asks_stay e a b f g x four ne h = by_field (λ c. asked_of e c g ≡ asked_of e a g) a b f x (of_four (λ d. IsKept (λ c. asked_of e c g ≡ asked_of e d g) d f) (λ d v p r s. asks e d v p r s f g ne) a four) h
+asks_stay e a b f g x four ne h = by_field (λ c. asked_of e c g ≡ asked_of e a g) a b f x (of_four (λ d. IsFieldKept (λ c. asked_of e c g ≡ asked_of e d g) d f) (λ d v p r s. asks e d v p r s f g ne) a four) h
 
 pub none_of : (o : Option Question) (xs : List Answer) → xs ≡ [] → each_of o xs ≡ []
 none_of None xs h = refl

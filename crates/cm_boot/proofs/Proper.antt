@@ -15,7 +15,7 @@ use Rattle.cm_boot.specs.declared.question.Answer.{Answer}
 use Rattle.cm_nmt.proofs.Both.{and_left, and_right, both, all_at}
 use Rattle.cm_boot.proofs.Due.{find_passes}
 use Rattle.cm_boot.proofs.Order.{place, stands}
-use Rattle.cm_boot.proofs.Stays.{IsKept, by_field, conditions_stay, uses_stay, same_place}
+use Rattle.cm_boot.proofs.Stays.{IsFieldKept, by_field, conditions_stay, uses_stay, same_place}
 
 all_from : (p : Field → Bool) → ((f : Field) → p f ≡ true) → list_all p fields ≡ true
 unfolding fields
@@ -51,7 +51,7 @@ one_more_fits m n false g fits open_ = grind (arith, nat_tests)
 one_failed_fits : (m n : ℕ) (r g r2 g2 : Bool) → (nat_le m n && (not r || (nat_lt m n && g))) ≡ true → (m == n || r) ≡ false → g2 ≡ true → (nat_le m n && (not r2 || (nat_lt m n && g2))) ≡ true
 one_failed_fits m n r g r2 g2 fits open_ e = grind (arith, nat_tests)
 
-counts : (t : Terms) (a : Answers) (f : Field) → writes_are_counted t a ≡ true → is_complete t a f ≡ false → IsKept (λ b. writes_are_counted t b ≡ true) a f
+counts : (t : Terms) (a : Answers) (f : Field) → writes_are_counted t a ≡ true → is_complete t a f ≡ false → IsFieldKept (λ b. writes_are_counted t b ≡ true) a f
 unfolding writes_are_counted is_complete
 counts t a Device w open_ = λ x. w
 counts t a Writes w open_ = (one_more_fits a.acked t.writes (is_answered a.refused) _ w open_, λ g r. one_failed_fits a.acked t.writes (is_answered a.refused) _ (is_answered g) _ w open_ r)

@@ -16,23 +16,23 @@ use Rattle.cm_boot.specs.declared.question.Answer.TheVariants as answer
 use Rattle.cm_boot.proofs.Order.{place}
 
 -- P of the answers with any answer to the field
-abbrev pub IsKept : (Answers → Type 0) → Answers → Field → Type 0
-IsKept P a Device = (g : Got) → P (record a { device = g })
-IsKept P a Vendor = (g : Got) → P (record a { ids = slice_set a.ids 0 g })
-IsKept P a Product = (g : Got) → P (record a { ids = slice_set a.ids 1 g })
-IsKept P a Revision = (g : Got) → P (record a { ids = slice_set a.ids 2 g })
-IsKept P a Serial = (g : Got) → P (record a { ids = slice_set a.ids 3 g })
-IsKept P a State = (h : Heard) → P (record a { heard = h })
-IsKept P a Date = (g : Got) → P (record a { date = g })
-IsKept P a Time = (g : Got) → P (record a { time = g })
-IsKept P a Writes = P (record a { acked = a.acked + 1 }) × ((g : Got) → is_refusal g ≡ true → P (record a { refused = g }))
-IsKept P a Beat = (h : Heard) → P (record a { beat = h })
+abbrev pub IsFieldKept : (Answers → Type 0) → Answers → Field → Type 0
+IsFieldKept P a Device = (g : Got) → P (record a { device = g })
+IsFieldKept P a Vendor = (g : Got) → P (record a { ids = slice_set a.ids 0 g })
+IsFieldKept P a Product = (g : Got) → P (record a { ids = slice_set a.ids 1 g })
+IsFieldKept P a Revision = (g : Got) → P (record a { ids = slice_set a.ids 2 g })
+IsFieldKept P a Serial = (g : Got) → P (record a { ids = slice_set a.ids 3 g })
+IsFieldKept P a State = (h : Heard) → P (record a { heard = h })
+IsFieldKept P a Date = (g : Got) → P (record a { date = g })
+IsFieldKept P a Time = (g : Got) → P (record a { time = g })
+IsFieldKept P a Writes = P (record a { acked = a.acked + 1 }) × ((g : Got) → is_refusal g ≡ true → P (record a { refused = g }))
+IsFieldKept P a Beat = (h : Heard) → P (record a { beat = h })
 
 mapped : {X : Type 0} (P : Answers → Type 0) (f : X → Answers) (o : Option X) (b : Answers) → ((x : X) → P (f x)) → option_map f o ≡ Some b → P b
 mapped P f None b h e = cc
 mapped P f (Some x) b h e = let same : f x ≡ b = cc in subst P same (h x)
 
-pub by_field : (P : Answers → Type 0) (a b : Answers) (f : Field) (x : Answer) → IsKept P a f → with_answer a f x ≡ Some b → P b
+pub by_field : (P : Answers → Type 0) (a b : Answers) (f : Field) (x : Answer) → IsFieldKept P a f → with_answer a f x ≡ Some b → P b
 unfolding with_answer
 by_field P a b Device x h e = mapped P (λ g. record a { device = g }) (got_of x) b h e
 by_field P a b Vendor x h e = mapped P (λ g. record a { ids = slice_set a.ids 0 g }) (got_of x) b h e
@@ -58,7 +58,7 @@ of_four P h a four = go a.ids four
     go _ e = absurd (omega arith)
 
 -- an answer to a field leaves the conditions of the earlier fields, and its own
-conditions : (t : Terms) (a : Answers) (v p r s : Got) (f g : Field) → nat_le (place g) (place f) ≡ true → IsKept (λ b. condition t b g ≡ condition t (record a { ids = v ∷ p ∷ r ∷ s ∷ [] }) g) (record a { ids = v ∷ p ∷ r ∷ s ∷ [] }) f
+conditions : (t : Terms) (a : Answers) (v p r s : Got) (f g : Field) → nat_le (place g) (place f) ≡ true → IsFieldKept (λ b. condition t b g ≡ condition t (record a { ids = v ∷ p ∷ r ∷ s ∷ [] }) g) (record a { ids = v ∷ p ∷ r ∷ s ∷ [] }) f
 unfolding condition id_of matches device_agrees asks_identity vendor_agrees product_agrees revision_agrees identity_agrees may_configure must_write comes_to_beat is_dated date_agrees date_differs
 conditions t a v p r s Device Device le = λ x. cc
 conditions t a v p r s Vendor Device le = λ x. cc
@@ -74,9 +74,9 @@ conditions t a v p r s Writes _ le = (cc, λ x y. cc)
 conditions t a v p r s _ _ le = λ x. cc
 
 pub conditions_stay : (t : Terms) (a b : Answers) (f g : Field) (x : Answer) → length a.ids ≡ 4 → nat_le (place g) (place f) ≡ true → with_answer a f x ≡ Some b → condition t b g ≡ condition t a g
-conditions_stay t a b f g x four le e = by_field (λ c. condition t c g ≡ condition t a g) a b f x (of_four (λ d. IsKept (λ c. condition t c g ≡ condition t d g) d f) (λ d v p r s. conditions t d v p r s f g le) a four) e
+conditions_stay t a b f g x four le e = by_field (λ c. condition t c g ≡ condition t a g) a b f x (of_four (λ d. IsFieldKept (λ c. condition t c g ≡ condition t d g) d f) (λ d v p r s. conditions t d v p r s f g le) a four) e
 
-uses : (a : Answers) (v p r s : Got) (f g : Field) → (place g == place f) ≡ false → IsKept (λ b. is_used b g ≡ is_used (record a { ids = v ∷ p ∷ r ∷ s ∷ [] }) g) (record a { ids = v ∷ p ∷ r ∷ s ∷ [] }) f
+uses : (a : Answers) (v p r s : Got) (f g : Field) → (place g == place f) ≡ false → IsFieldKept (λ b. is_used b g ≡ is_used (record a { ids = v ∷ p ∷ r ∷ s ∷ [] }) g) (record a { ids = v ∷ p ∷ r ∷ s ∷ [] }) f
 unfolding is_used id_of
 uses a v p r s Device Device ne = λ x. cc
 uses a v p r s Vendor Device ne = λ x. cc
@@ -92,15 +92,15 @@ uses a v p r s Writes _ ne = (cc, λ x y. cc)
 uses a v p r s _ _ ne = λ x. cc
 
 pub uses_stay : (a b : Answers) (f g : Field) (x : Answer) → length a.ids ≡ 4 → (place g == place f) ≡ false → with_answer a f x ≡ Some b → is_used b g ≡ is_used a g
-uses_stay a b f g x four ne e = by_field (λ c. is_used c g ≡ is_used a g) a b f x (of_four (λ d. IsKept (λ c. is_used c g ≡ is_used d g) d f) (λ d v p r s. uses d v p r s f g ne) a four) e
+uses_stay a b f g x four ne e = by_field (λ c. is_used c g ≡ is_used a g) a b f x (of_four (λ d. IsFieldKept (λ c. is_used c g ≡ is_used d g) d f) (λ d v p r s. uses d v p r s f g ne) a four) e
 
-fours : (a : Answers) (v p r s : Got) (f : Field) → IsKept (λ b. length b.ids ≡ 4) (record a { ids = v ∷ p ∷ r ∷ s ∷ [] }) f
+fours : (a : Answers) (v p r s : Got) (f : Field) → IsFieldKept (λ b. length b.ids ≡ 4) (record a { ids = v ∷ p ∷ r ∷ s ∷ [] }) f
 fours a v p r s Device = λ x. refl
 fours a v p r s Writes = (refl, λ x y. refl)
 fours a v p r s _ = λ x. refl
 
 pub four_stay : (a b : Answers) (f : Field) (x : Answer) → length a.ids ≡ 4 → with_answer a f x ≡ Some b → length b.ids ≡ 4
-four_stay a b f x four e = by_field (λ c. length c.ids ≡ 4) a b f x (of_four (λ d. IsKept (λ c. length c.ids ≡ 4) d f) (λ d v p r s. fours d v p r s f) a four) e
+four_stay a b f x four e = by_field (λ c. length c.ids ≡ 4) a b f x (of_four (λ d. IsFieldKept (λ c. length c.ids ≡ 4) d f) (λ d v p r s. fours d v p r s f) a four) e
 
 pub same_place : (f g : Field) → (place g == place f) ≡ true → g ≡ f
 same_place Device Device e = cc

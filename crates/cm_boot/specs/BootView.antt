@@ -8,5 +8,5 @@ abbrev pub view_of : Inside → Booting
 view_of b = record { entry = option_copied b.entry; answers = b.answers }
 
 -- what the type keeps
-abbrev pub IsKept : Inside → Type 0
-IsKept b = IsBooting (view_of b)
+abbrev pub IsSoundInside : Inside → Type 0
+IsSoundInside b = IsBooting (view_of b)

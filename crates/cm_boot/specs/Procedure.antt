@@ -96,7 +96,8 @@ move (Some t) a = move_in t a fields
 -- asked, or the machine asked one more and got an answer that fits
 pub data Reached (t : Option Terms) : Answers → Type 0 where
   start : Reached t none
-  more : {a : Answers} → Reached t a → (f : Field) → (x : Answer) → (b : Answers) → move t a ≡ Asks f → with_answer a f x ≡ Some b → Reached t b
+  more : {a : Answers} → Reached t a → (f : Field) → (x : Answer) → (b : Answers) → move t a ≡ Asks f
+      → with_answer a f x ≡ Some b → Reached t b
 
 -- the machine can reach these answers, and ends there with this status
 pub record IsEnd (t : Option Terms) (a : Answers) (s : Status) : Type 0 where

@@ -46,7 +46,9 @@ asked_of e a Serial = each_of (question e a Serial) (given (id_of a 3))
 asked_of e a State = each_of (question e a State) (given_state a.heard)
 asked_of e a Date = each_of (question e a Date) (given a.date)
 asked_of e a Time = each_of (question e a Time) (given a.time)
-asked_of e a Writes = map (λ w. (ask.Write w, answer.Acked)) (take a.acked e.writes.items) ++ each_of (question e a Writes) (given a.refused)
+asked_of e a Writes =
+    map (λ w. (ask.Write w, answer.Acked)) (take a.acked e.writes.items)
+    ++ each_of (question e a Writes) (given a.refused)
 asked_of e a Beat = each_of (question e a Beat) (given_state a.beat)
 
 -- the questions of a boot with their answers, in the order of the fields; none of a slave that isn't
@@ -59,4 +61,5 @@ asked (Some e) a = flat_map (asked_of e a) fields
 -- question; the answer in the list is the step's, or silence where that doesn't fit the question
 abbrev pub Talks : {B : Type 0} → (B → Question → Answer → B → Type 0) → B → List (Question × Answer) → B → Type 0
 Talks step b [] after = b ≡ after
-Talks {B = B} step b (qx ∷ rest) after = (mid : B) × (y : Answer) × (step b qx.0 y mid) × (qx.1 ≡ counted qx.0 y) × (Talks step mid rest after)
+Talks {B = B} step b (qx ∷ rest) after =
+    (mid : B) × (y : Answer) × (step b qx.0 y mid) × (qx.1 ≡ counted qx.0 y) × (Talks step mid rest after)

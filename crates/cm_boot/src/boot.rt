@@ -2,7 +2,8 @@ ghost use Rattle.std.specs.Prelude.{◌≡◌, ◌<◌, ◌≤◌, length, IsErr
 ghost use Rattle.cm_netlist.specs.Network.{entry as entry_of};
 ghost use Rattle.cm_nmt.specs.Answers.{none};
 ghost use Rattle.cm_nmt.specs.Conditions.{is_proper};
-ghost use Rattle.cm_boot.specs.Progress.{IsBooting, answers_after, due, got_of, heard_of, next_step, terms as terms_of_boot, with_answer, with_write};
+ghost use Rattle.cm_boot.specs.Progress.{IsBooting, answers_after, due, got_of, heard_of, next_step};
+ghost use Rattle.cm_boot.specs.Progress.{terms as terms_of_boot, with_answer, with_write};
 ghost use Rattle.cm_boot.specs.Procedure.{Reached};
 ghost use Rattle.cm_boot.specs.Questions.{question};
 ghost use Rattle.cm_boot.specs.Talk.{asked};
@@ -33,13 +34,13 @@ pub struct Boot<'n> {
 
 impl<'n> Model for Boot<'n> {
     ghost use Rattle.cm_boot.specs.Progress.{Booting};
-    ghost use Rattle.cm_boot.specs.BootView.{IsKept, view_of};
+    ghost use Rattle.cm_boot.specs.BootView.{IsSoundInside, view_of};
 
     ghost Value = { Booting };
 
     ghost view = { view_of };
 
-    ghost invariant = { IsKept };
+    ghost invariant = { IsSoundInside };
 }
 
 /// The field whose question is due; `None` where there is none left.

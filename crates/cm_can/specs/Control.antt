@@ -6,4 +6,4 @@ use Rattle.cm_can.specs.Frames.{IsData}
 
 -- an error control message of the node with this byte: its heartbeat, its boot-up message, or its answer to a guard request
 abbrev pub IsErrorControl : ℕ → ℕ → CanFrame → Type 0
-IsErrorControl node byte f = IsNodeId node × IsData f (1792 + node) (byte ∷ [])
+IsErrorControl node byte f = IsNodeId node × IsData f (0x0700 + node) (byte ∷ [])

@@ -15,9 +15,9 @@ use Rattle.cm_can.specs.Sdo.{IsFromClient, IsFromServer, download_command, uploa
 -- the frame asks the node this question: an upload, a download, a guard request; nothing is sent for a heartbeat, which comes by
 -- itself
 abbrev pub IsRequest : ℕ → Question → CanFrame → Type 0
-IsRequest node (Read index sub) f = IsFromClient node 64 index sub 0 f
+IsRequest node (Read index sub) f = IsFromClient node 0x40 index sub 0 f
 IsRequest node (Write w) f = IsFromClient node (download_command w.size) w.index w.sub w.value f
-IsRequest node StateByGuard f = IsRemote f (1792 + node)
+IsRequest node StateByGuard f = IsRemote f (0x0700 + node)
 IsRequest node StateByBeat f = ⊥
 IsRequest node Beat f = ⊥
 
@@ -33,15 +33,15 @@ IsAwaited Beat = Unit {0}
 -- transfer (41h), which counts as an abort, 0504 0001h (own); a value
 abbrev pub upload_answer : ℕ → ℕ → Option Answer
 upload_answer command word =
-    if command == 128 then Some (answer.Abort word)
-    else if command == 65 then Some (answer.Abort 84148225)
+    if command == 0x80 then Some (answer.Abort word)
+    else if command == 0x41 then Some (answer.Abort 0x05040001)
     else option_map (λ v. answer.Value v) (uploaded command word)
 
 -- what it says of a download: an abort (80h), or an acknowledgement (60h)
 abbrev pub download_answer : ℕ → ℕ → Option Answer
 download_answer command word =
-    if command == 128 then Some (answer.Abort word)
-    else if command == 96 then Some answer.Acked
+    if command == 0x80 then Some (answer.Abort word)
+    else if command == 0x60 then Some answer.Acked
     else None
 
 -- the answer that tells a signal: its state; boot-up tells none (CiA 301)
@@ -56,6 +56,8 @@ state_answer byte = answer_of_signal (signal_of byte)
 
 -- the frame answers the question, with this answer
 abbrev pub IsAnswer : ℕ → Question → CanFrame → Answer → Type 0
-IsAnswer node (Read index sub) f a = (command : ℕ) × (word : ℕ) × IsFromServer node command index sub word f × (upload_answer command word ≡ Some a)
-IsAnswer node (Write w) f a = (command : ℕ) × (word : ℕ) × IsFromServer node command w.index w.sub word f × (download_answer command word ≡ Some a)
+IsAnswer node (Read index sub) f a =
+    (command : ℕ) × (word : ℕ) × IsFromServer node command index sub word f × (upload_answer command word ≡ Some a)
+IsAnswer node (Write w) f a =
+    (command : ℕ) × (word : ℕ) × IsFromServer node command w.index w.sub word f × (download_answer command word ≡ Some a)
 IsAnswer node _ f a = (byte : ℕ) × IsErrorControl node byte f × (state_answer byte ≡ Some a)

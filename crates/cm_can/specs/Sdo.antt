@@ -12,12 +12,12 @@ sdo_bytes command index sub word = command ∷ to_le_bytes w16 index ++ sub ∷ 
 
 -- what a client sends to a node: identifier 600h + node-ID
 abbrev pub IsFromClient : ℕ → ℕ → ℕ → ℕ → ℕ → CanFrame → Type 0
-IsFromClient node command index sub word f = IsData f (1536 + node) (sdo_bytes command index sub word)
+IsFromClient node command index sub word f = IsData f (0x0600 + node) (sdo_bytes command index sub word)
 
 -- what the node's server sends: identifier 580h + node-ID; its four bytes of data are this number
 pub record IsFromServer (node command index sub word : ℕ) (f : CanFrame) : Type 0 where
   pub carries : f.kind ≡ Data
-  pub id : f.id.number ≡ 1408 + node
+  pub id : f.id.number ≡ 0x0580 + node
   pub eight : length (data_of f) ≡ 8
   pub head : take 4 (data_of f) ≡ command ∷ to_le_bytes w16 index ++ sub ∷ []
   pub word_is : word ≡ from_le_bytes w32 (drop 4 (data_of f))
@@ -26,13 +26,13 @@ pub record IsFromServer (node command index sub word : ℕ) (f : CanFrame) : Typ
 -- of which all four are taken (own)
 abbrev pub uploaded : ℕ → ℕ → Option ℕ
 uploaded command word =
-    if command == 67 then Some word
-    else if command == 66 then Some word
-    else if command == 71 then Some (word % 2 ^ 24)
-    else if command == 75 then Some (word % 2 ^ 16)
-    else if command == 79 then Some (word % 2 ^ 8)
+    if command == 0x43 then Some word
+    else if command == 0x42 then Some word
+    else if command == 0x47 then Some (word % 2 ^ 24)
+    else if command == 0x4B then Some (word % 2 ^ 16)
+    else if command == 0x4F then Some (word % 2 ^ 8)
     else None
 
 -- the command of a download, by the size of the value: 2Fh, 2Bh, 23h with 1, 2, 4 bytes
 abbrev pub download_command : ℕ → ℕ
-download_command size = if size == 1 then 47 else if size == 2 then 43 else 35
+download_command size = if size == 1 then 0x2F else if size == 2 then 0x2B else 0x23

@@ -18,7 +18,7 @@ pub use adapter::{adapter_text, read_adapter_line};
 pub use control::{ErrorControl, error_control, guard_request, nmt_frame};
 pub use frame::{CanFrame, CanId, Kind};
 pub use lines::{frame_text, one_frame, read_frame, read_log_line};
-pub use node::{answer_of, request_of};
+pub use node::{answered_by, request_of};
 pub use sdo::{
     NO_SEGMENTS, TIMED_OUT, abort_frame, downloaded_by, is_segmented, sdo_request, uploaded_by,
 };

@@ -63,7 +63,7 @@ fn stated_by(node: NodeId, frame: &CanFrame) -> Option<Answer>
 
 /// What a frame answers to a question that the node was asked, if it answers it. An answer about another
 /// object, or of another node, is none.
-pub fn answer_of(node: NodeId, question: &Question, frame: &CanFrame) -> Option<Answer>
+pub fn answered_by(node: NodeId, question: &Question, frame: &CanFrame) -> Option<Answer>
     ensures { (a : Answer) → (result ≡ Some a) ↔ IsAnswer node question.now frame.now a }
 {
     match question {

@@ -5,18 +5,7 @@ ghost use Rattle.cm_can.specs.Lines.{byte_digits, id_digits};
 
 use crate::frame::CanId;
 use arrayvec::ArrayVec;
-
-/// The digit that is worth this much.
-fn digit(worth: u8) -> u8
-    requires { worth < 16 }
-    ensures { result ≡ glyph worth }
-{
-    if worth < 10 {
-        b'0' + worth
-    } else {
-        b'A' + (worth - 10)
-    }
-}
+use cm_text::digit;
 
 /// The three digits of an identifier.
 pub(crate) fn id_text(id: CanId) -> [u8; 3]

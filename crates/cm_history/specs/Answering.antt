@@ -1,5 +1,6 @@
 -- The answer to a call, as a table over what the history says (own, but where a standard is named).
-use Rattle.std.specs.Prelude.{ℕ, Bool, true, false, ◌==◌, ◌&&◌, ◌||◌, not, if◌then◌else◌, ◌+◌, nat_lt, List, [], ◌∷◌, filter, Option, Some, None, unwrap_or}
+use Rattle.std.specs.Prelude.{ℕ, Bool, true, false, ◌==◌, ◌&&◌, ◌||◌, not, if◌then◌else◌, ◌+◌}
+use Rattle.std.specs.Prelude.{nat_lt, List, [], ◌∷◌, filter, Option, Some, None, unwrap_or}
 use Rattle.std.specs.Option.{is_some, is_none}
 use Rattle.cm_nmt.specs.Codes.{command_of_request, signal_of, state_code}
 use Rattle.cm_nmt.specs.declared.signal.Signal.{Signal}
@@ -12,10 +13,13 @@ use Rattle.cm_nmt.specs.Status.{is_good, is_ok}
 use Rattle.cm_nmt.specs.Verdict.{judged}
 use Rattle.cm_nmt.specs.declared.status.Status.{Status}
 use Rattle.cm_nmt.specs.declared.status.Status.TheVariants as status
-use Rattle.cm_nmt.specs.Listing.{Listing, is_listed, is_to_be_booted, is_mandatory, is_master, starts_all_at_once, leaves_operational_to_application, starts_no_slave, resets_all_on_error, stops_all_on_error}
+use Rattle.cm_nmt.specs.Listing.{Listing, is_listed, is_to_be_booted, is_mandatory, is_master}
+use Rattle.cm_nmt.specs.Listing.{starts_all_at_once, leaves_operational_to_application}
+use Rattle.cm_nmt.specs.Listing.{starts_no_slave, resets_all_on_error, stops_all_on_error}
 use Rattle.cm_history.specs.Orders.{to_every, to_node}
 use Rattle.cm_history.specs.Phases.{is_idle, is_booting, is_ready, is_halted}
-use Rattle.cm_history.specs.History.{is_fatal, is_empty, is_reset_value, phase_of, own_of, begun_in, open_of, state_of, is_booted, is_held, session_of}
+use Rattle.cm_history.specs.History.{is_fatal, is_empty, is_reset_value, phase_of, own_of, begun_in}
+use Rattle.cm_history.specs.History.{open_of, state_of, is_booted, is_held, session_of}
 use Rattle.cm_history.specs.declared.call.Call.{Call}
 use Rattle.cm_history.specs.declared.call.Call.TheVariants as call
 use Rattle.cm_history.specs.declared.call.Reply.{Reply}
@@ -171,7 +175,8 @@ open_less open_slaves i s = if is_good s then filter (λ j. not (i == j)) open_s
 -- all slaves are started at once, as the last open one is booted and the manager may start slaves and itself
 abbrev pub starts_every : Listing → Phase → List ℕ → Bool
 starts_every net p open_slaves =
-    is_booting p && (is_empty open_slaves && (starts_all_at_once net && (not (leaves_operational_to_application net) && not (starts_no_slave net))))
+    is_booting p && (is_empty open_slaves
+    && (starts_all_at_once net && (not (leaves_operational_to_application net) && not (starts_no_slave net))))
 
 -- slave i is started alone: its boot is Ok and bit 2 set, the manager may start slaves, and it starts them one by one
 -- or is operational already

@@ -1,7 +1,8 @@
 -- What a history says of each slave and of the manager (own, but where a standard is named).
 -- A history is given with its newest entry first: `e ∷ past` is the history `past`, and then the entry `e`.
 -- Each definition looks back for the newest entry that decides.
-use Rattle.std.specs.Prelude.{ℕ, Bool, true, false, ◌==◌, ◌&&◌, ◌||◌, not, if◌then◌else◌, ◌+◌, ◌%◌, List, [], ◌∷◌, ◌++◌, filter, Option, Some, None, option_map, option_to_list, unwrap_or}
+use Rattle.std.specs.Prelude.{ℕ, Bool, true, false, ◌==◌, ◌&&◌, ◌||◌, not, if◌then◌else◌, ◌+◌, ◌%◌, List, []}
+use Rattle.std.specs.Prelude.{◌∷◌, ◌++◌, filter, Option, Some, None, option_map, option_to_list, unwrap_or}
 use Rattle.std.specs.Option.{option_or, is_some}
 use Rattle.std.specs.List.{list_any}
 use Rattle.cm_nmt.specs.Codes.{state_code, state_left, state_of_code}

@@ -66,7 +66,8 @@ pub record IsRightlyStarted (net : Listing) (i number : ℕ) (a : Answers) (e : 
 -- a report whose orders start slave i starts it rightly; a start of all is not a boot's start of one slave
 abbrev pub StartsRightly : Listing → Entry → List Entry → Type 0
 StartsRightly net e past =
-    (i number : ℕ) (a : Answers) → e.call ≡ call.Report i number a → IsTrue (is_start_of e.orders i) → IsRightlyStarted net i number a e past
+    (i number : ℕ) (a : Answers) → e.call ≡ call.Report i number a → IsTrue (is_start_of e.orders i)
+    → IsRightlyStarted net i number a e past
 
 -- ---- the network becomes operational with every mandatory slave booted
 

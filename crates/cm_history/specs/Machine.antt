@@ -2,7 +2,8 @@
 -- is what a history says, and that is what counts: see the law `machine_shows_its_history`.
 -- The rules are those of the tables: `answer_from` answers; what an answered call boots, clears, sets, begins and decides
 -- makes the next state.
-use Rattle.std.specs.Prelude.{◌≡◌, ◌≤◌, ◌<◌, ℕ, Bool, false, ◌==◌, ◌&&◌, ◌||◌, not, nat_lt, if◌then◌else◌, ◌+◌, List, [], ◌∷◌, filter, Option, Some, None, unwrap_or}
+use Rattle.std.specs.Prelude.{◌≡◌, ◌≤◌, ◌<◌, ℕ, Bool, false, ◌==◌, ◌&&◌, ◌||◌, not, nat_lt, if◌then◌else◌}
+use Rattle.std.specs.Prelude.{◌+◌, List, [], ◌∷◌, filter, Option, Some, None, unwrap_or}
 use Rattle.std.specs.Option.{option_or, is_some}
 use Rattle.cm_nmt.specs.Codes.{state_left}
 use Rattle.cm_nmt.specs.declared.state.NmtState.{NmtState}
@@ -10,7 +11,8 @@ use Rattle.cm_nmt.specs.declared.state.NmtState.TheVariants as state
 use Rattle.cm_nmt.specs.declared.command.Command.{Command}
 use Rattle.cm_nmt.specs.Listing.{node_ids, Listing, is_listed, is_mandatory}
 use Rattle.cm_history.specs.Orders.{to_all}
-use Rattle.cm_history.specs.History.{phase_of, own_of, begun_in, open_of, boots_by, clears_by, sets_by, reports_by, begins_by, begun_number, is_start_by, decides_by, own_by, becomes_operational, holds_by, is_held}
+use Rattle.cm_history.specs.History.{phase_of, own_of, begun_in, open_of, boots_by, clears_by, sets_by, reports_by, begins_by}
+use Rattle.cm_history.specs.History.{begun_number, is_start_by, decides_by, own_by, becomes_operational, holds_by, is_held}
 use Rattle.cm_history.specs.Answering.{Lookup, blank_slave, slave_of, node_named, answer_from, answer_of}
 use Rattle.cm_history.specs.declared.call.Call.{Call}
 use Rattle.cm_history.specs.declared.call.Reply.{Reply}
@@ -122,7 +124,13 @@ run net (e ∷ past) = step net (run net past) e.call
 -- ---- what a history says, as a machine
 
 abbrev pub said : Listing → List Entry → Machine
-said net past = record { phase = phase_of net past; own = own_of net past; begun = begun_in past; slaves = of_nodes (slave_of net past); held = is_held past }
+said net past = record {
+  phase = phase_of net past;
+  own = own_of net past;
+  begun = begun_in past;
+  slaves = of_nodes (slave_of net past);
+  held = is_held past;
+}
 
 -- no number above 127 is listed
 abbrev pub ListsNodes : Listing → Type 0

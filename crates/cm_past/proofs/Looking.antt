@@ -9,7 +9,7 @@ use Rattle.cm_past.specs.declared.log_item.LogItem.{LogItem}
 use Rattle.cm_past.specs.declared.log_item.LogItem.TheVariants as item
 use Rattle.cm_past.specs.Items.{IsOf, IsSame, current_in, done_in, entries_in, shown_at, since_in}
 use Rattle.cm_past.specs.Row.{Found, IsLooked, IsRight, IsRow}
-use Rattle.cm_past.specs.Words.{gone_word, status_done, status_node, status_state, status_word}
+use Rattle.cm_past.specs.Words.{gone_word, status_done, status_node, status_state, packed_status}
 use Rattle.cm_past.proofs.Items.{entries_count, same_later, same_net}
 
 -- what the first word says
@@ -21,9 +21,9 @@ record IsRead (net : Network) (log : List LogItem) (n : ℕ) : Type 0 where
 read_status : (net : Network) (cs : List Cell) (log : List LogItem) (n : ℕ) → IsRow net cs log → (cell cs 0).0 ≡ n → (n ≡ gone_word → ⊥) → IsRead net log n
 read_status net cs log n row found here = by row.status
   where
-    by : (cell cs 0 ≡ (status_word (length (entries_in log)) (done_in log) (current_in log) row.state, true)) ⊎ (cell cs 0 ≡ (gone_word, true)) → IsRead net log n
+    by : (cell cs 0 ≡ (packed_status (length (entries_in log)) (done_in log) (current_in log) row.state, true)) ⊎ (cell cs 0 ≡ (gone_word, true)) → IsRead net log n
     by (inl p) =
-        let word : n ≡ status_word (length (entries_in log)) (done_in log) (current_in log) row.state = sym found ∙ ap (λ (w : Cell). w.0) p in
+        let word : n ≡ packed_status (length (entries_in log)) (done_in log) (current_in log) row.state = sym found ∙ ap (λ (w : Cell). w.0) p in
         let state : status_state n ≡ row.state = omega (arith, word, row.first.byte) in
         record {
           done = omega (arith, word, row.right.few, row.right.done, row.first.node, row.first.byte);

@@ -9,7 +9,7 @@ use Rattle.logbook.specs.Pages.{Cell, Goes, Moves, View, cell, keeps, no_nib, st
 use Rattle.cm_netlist.specs.Network.{Network}
 use Rattle.cm_past.specs.declared.log_item.LogItem.{LogItem}
 use Rattle.cm_past.specs.Row.{Ends, Found, HasRow, IsRow, Looks, Puts}
-use Rattle.cm_past.specs.Words.{gone_word, status_word}
+use Rattle.cm_past.specs.Words.{gone_word, packed_status}
 use Rattle.cm_past.proofs.RowSteps.{gone}
 use Rattle.cm_past.specs.Items.{current_in, done_in, entries_in}
 
@@ -28,7 +28,7 @@ status_home cs n (inl p) = ap (λ (w : Cell). w.1) p
 status_home cs n (inr p) = ap (λ (w : Cell). w.1) p
 
 at_home : (net : Network) (cs : List Cell) (log : List LogItem) (k : ℕ) → IsRow net cs log → k < 128 → (cell cs k).1 ≡ true
-at_home net cs log zero row small = status_home cs (status_word (length (entries_in log)) (done_in log) (current_in log) row.state) row.status
+at_home net cs log zero row small = status_home cs (packed_status (length (entries_in log)) (done_in log) (current_in log) row.state) row.status
 at_home net cs log (suc k) row small = row.home (suc k) (omega arith) small
 
 -- a word that is written with what is in it stays

@@ -16,7 +16,7 @@ use Rattle.cm_past.specs.declared.log_item.LogItem.TheVariants as item
 use Rattle.cm_past.specs.declared.current.Current.{Current}
 use Rattle.cm_past.specs.Items.{IsOf, IsSame, current_from, current_in, done_in, entries_in, number_of, shown_at, since_in}
 use Rattle.cm_past.specs.Row.{Found, HasRow, IsAdded, IsCurrent, IsPending, IsReady, IsRow, IsWordOf}
-use Rattle.cm_past.specs.Words.{IsByte, gone_word, node_word, status_word, word_since}
+use Rattle.cm_past.specs.Words.{IsByte, gone_word, node_word, packed_status, word_since}
 use Rattle.cm_past.proofs.Items.{current_more, done_more, entries_count, entries_more, same_later, same_net, shown_same, since_more, take_same}
 use Rattle.cm_past.proofs.LegalEnds.{legal_longer}
 use Rattle.cm_past.proofs.CurrentNode.{current_next}
@@ -32,13 +32,13 @@ pub record IsStatus (net : Network) (log : List LogItem) (c d k v : ℕ) : Type 
   pub node : current_in log ≡ k
   pub shown : 1 ≤ k → v ≡ shown_at (listing net) (entries_in log) d k
 
-pub status_is : (net : Network) (cs : List Cell) (log : List LogItem) (c d k v : ℕ) → IsRow net cs log → (cell cs 0).0 ≡ status_word c d k v → c ≤ most_entries → d ≤ most_entries
+pub status_is : (net : Network) (cs : List Cell) (log : List LogItem) (c d k v : ℕ) → IsRow net cs log → (cell cs 0).0 ≡ packed_status c d k v → c ≤ most_entries → d ≤ most_entries
     → k < 128 → IsByte v → IsStatus net log c d k v
 status_is net cs log c d k v is_row found small less node byte = by is_row.status
   where
-    by : (cell cs 0 ≡ (status_word (length (entries_in log)) (done_in log) (current_in log) is_row.state, true)) ⊎ (cell cs 0 ≡ (gone_word, true)) → IsStatus net log c d k v
+    by : (cell cs 0 ≡ (packed_status (length (entries_in log)) (done_in log) (current_in log) is_row.state, true)) ⊎ (cell cs 0 ≡ (gone_word, true)) → IsStatus net log c d k v
     by (inl p) =
-        let word : status_word (length (entries_in log)) (done_in log) (current_in log) is_row.state ≡ status_word c d k v = sym (ap (λ (w : Cell). w.0) p) ∙ found in
+        let word : packed_status (length (entries_in log)) (done_in log) (current_in log) is_row.state ≡ packed_status c d k v = sym (ap (λ (w : Cell). w.0) p) ∙ found in
         let count : length (entries_in log) ≡ c = omega (arith, word, small, less, node, byte, is_row.right.few, is_row.right.done, is_row.first.node, is_row.first.byte) in
         let done : done_in log ≡ d = omega (arith, word, small, less, node, byte, is_row.right.few, is_row.right.done, is_row.first.node, is_row.first.byte) in
         let current : current_in log ≡ k = omega (arith, word, small, less, node, byte, is_row.right.few, is_row.right.done, is_row.first.node, is_row.first.byte) in
@@ -60,14 +60,14 @@ added_from net log now e c count entries = record {
 }
 
 -- an entry that was found right to add is added
-pub added_now : (log now : List LogItem) (i : LogItem) (e : Entry) (c k v : ℕ) → c < most_entries → k < 128 → IsByte v → Found 0 (status_word c c k v) log
+pub added_now : (log now : List LogItem) (i : LogItem) (e : Entry) (c k v : ℕ) → c < most_entries → k < 128 → IsByte v → Found 0 (packed_status c c k v) log
     → now ≡ log ++ i ∷ [] → entries_in (i ∷ []) ≡ e ∷ [] → IsAdded now c e
 added_now log now i e c k v few node byte (cs, (n, is_row), found) is entry =
     added_from n log now e c (status_is n cs log c c k v is_row found (omega (arith, few)) (omega (arith, few)) node byte).count
     (ap entries_in is ∙ entries_more log (i ∷ []) ∙ ap (λ (es : List Entry). entries_in log ++ es) entry)
 
 pub pending_now : (net : Network) (seen log now : List LogItem) (e : Entry) (c k v : ℕ) → c < most_entries → c ≤ length (entries_in seen) → k < 128 → IsByte v
-    → ((t : ℕ) → 1 ≤ t → t < 128 → IsSame (listing net) seen c t) → IsPrefix seen log → Found 0 (status_word c c k v) log
+    → ((t : ℕ) → 1 ≤ t → t < 128 → IsSame (listing net) seen c t) → IsPrefix seen log → Found 0 (packed_status c c k v) log
     → now ≡ log ++ item.Entry e ∷ [] → IsPending (listing net) now c e
 pending_now net seen log now e c k v few fits node byte same pre there is =
     let added = added_now log now (item.Entry e) e c k v few node byte there is refl in
@@ -103,26 +103,26 @@ module _ (net : Network) (cs : List Cell) (log : List LogItem) (is_row : IsRow n
 -- an entry is added, with which the words of all nodes but one are right up to so many
 adds : (net : Network) (seen : List LogItem) (i : LogItem) (e : Entry) (c d p s k v : ℕ) (cs : List Cell) (log : List LogItem)
     → IsOf net seen → c ≤ length (entries_in seen) → c < most_entries → IsAnswered (listing net) e (reverse (take c (entries_in seen)))
-    → p < 128 → IsByte s → HasRow cs log → IsPrefix seen log → (cell cs 0).0 ≡ status_word c c p s
+    → p < 128 → IsByte s → HasRow cs log → IsPrefix seen log → (cell cs 0).0 ≡ packed_status c c p s
     → entries_in (i ∷ []) ≡ e ∷ [] → max c (done_in (i ∷ [])) ≡ d → d ≤ c + 1 → current_from (current_in log) (i ∷ []) ≡ k → k < 128 → IsByte v
     → ((t : ℕ) → since_in (i ∷ []) t ≡ 0)
     → (1 ≤ k → v ≡ shown_at (listing net) (entries_in (log ++ i ∷ [])) d k)
     → ((t : ℕ) → 1 ≤ t → t < 128 → (t ≡ k → ⊥) → IsSame (listing net) (log ++ i ∷ []) d t)
-    → HasRow (slice_set cs 0 (status_word (c + 1) d k v, true)) (log ++ i ∷ [])
+    → HasRow (slice_set cs 0 (packed_status (c + 1) d k v, true)) (log ++ i ∷ [])
 adds net seen i e c d p s k v cs log of there few next old byte (n, is_row) pre found entry dones most node small less none shows same = (
   n,
   record {
     of = of_later n log (log ++ i ∷ []) is_row.of (i ∷ [], refl);
-    long = long_set n cs log is_row 0 (status_word (c + 1) d k v, true);
+    long = long_set n cs log is_row 0 (packed_status (c + 1) d k v, true);
     state = v;
     first = record {
       node = omega (arith, current, small);
       byte = less;
       shown = λ some. shows (omega (arith, some, current)) ∙ rw (current, done, net_is) refl;
     };
-    status = inl (at_set n cs log is_row 0 (status_word (c + 1) d k v) (omega arith) ∙ ap (λ (w : ℕ). (w, true)) (omega (arith, count, done, current)));
-    home = λ t low high. home_later n cs log is_row 0 (status_word (c + 1) d k v) t (omega arith) low high;
-    words = λ t low high. word_later n cs log is_row (log ++ i ∷ []) t (status_word (c + 1) d k v, true) 0 low high (λ z. absurd (omega (arith, z, low))) (i ∷ [], refl) (since t);
+    status = inl (at_set n cs log is_row 0 (packed_status (c + 1) d k v) (omega arith) ∙ ap (λ (w : ℕ). (w, true)) (omega (arith, count, done, current)));
+    home = λ t low high. home_later n cs log is_row 0 (packed_status (c + 1) d k v) t (omega arith) low high;
+    words = λ t low high. word_later n cs log is_row (log ++ i ∷ []) t (packed_status (c + 1) d k v, true) 0 low high (λ z. absurd (omega (arith, z, low))) (i ∷ [], refl) (since t);
     right = record {
       legal = rw entries (legal_longer (listing n) (entries_in log) e is_row.right.legal answered);
       few = omega (arith, count, few);
@@ -164,8 +164,8 @@ adds net seen i e c d p s k v cs log of there few next old byte (n, is_row) pre 
 pub adds_entry : (net : Network) (seen : List LogItem) (e : Entry) (c p s : ℕ) (cs : List Cell) (log : List LogItem)
     → IsOf net seen → c ≤ length (entries_in seen) → c < most_entries → IsAnswered (listing net) e (reverse (take c (entries_in seen)))
     → ((t : ℕ) → 1 ≤ t → t < 128 → IsSame (listing net) seen c t)
-    → p < 128 → IsByte s → HasRow cs log → IsPrefix seen log → (cell cs 0).0 ≡ status_word c c p s
-    → HasRow (slice_set cs 0 (status_word (c + 1) c 0 0, true)) (log ++ item.Entry e ∷ [])
+    → p < 128 → IsByte s → HasRow cs log → IsPrefix seen log → (cell cs 0).0 ≡ packed_status c c p s
+    → HasRow (slice_set cs 0 (packed_status (c + 1) c 0 0, true)) (log ++ item.Entry e ∷ [])
 adds_entry net seen e c p s cs log of there few next same old byte row pre found =
     adds net seen (item.Entry e) e c c p s 0 0 cs log of there few next old byte row pre found refl (omega arith) (omega arith) refl (omega arith) (omega arith) (λ t. refl)
     (λ some. absurd (omega (arith, some)))
@@ -175,8 +175,8 @@ adds_entry net seen e c p s cs log of there few next same old byte row pre found
 pub adds_moved : (net : Network) (seen : List LogItem) (e : Entry) (c p s : ℕ) (to : Current) (cs : List Cell) (log : List LogItem)
     → IsOf net seen → c ≤ length (entries_in seen) → c < most_entries → IsAnswered (listing net) e (reverse (take c (entries_in seen)))
     → IsReady (listing net) seen c e to → IsByte to.state
-    → p < 128 → IsByte s → HasRow cs log → IsPrefix seen log → (cell cs 0).0 ≡ status_word c c p s
-    → HasRow (slice_set cs 0 (status_word (c + 1) (c + 1) (number_of to.node) to.state, true)) (log ++ item.Moved e (c + 1) to.node ∷ [])
+    → p < 128 → IsByte s → HasRow cs log → IsPrefix seen log → (cell cs 0).0 ≡ packed_status c c p s
+    → HasRow (slice_set cs 0 (packed_status (c + 1) (c + 1) (number_of to.node) to.state, true)) (log ++ item.Moved e (c + 1) to.node ∷ [])
 adds_moved net seen e c p s to cs log of there few next ready less old byte row pre found =
     adds net seen (item.Moved e (c + 1) to.node) e c (c + 1) p s (number_of to.node) to.state cs log of there few next old byte row pre found refl (omega arith) (omega arith) refl
     ready.node less (λ t. refl) (λ some. sym (is.now some (c + 1) ready.since (omega arith))) is.same
@@ -273,22 +273,22 @@ stores net seen k old c v b cs log of low small there few older byte less_byte s
 pub shows_all : (net : Network) (seen : List LogItem) (c : ℕ) (cs : List Cell) (log : List LogItem)
     → IsOf net seen → 0 < c → c ≤ most_entries → c ≤ length (entries_in seen)
     → ((t : ℕ) → 1 ≤ t → t < 128 → IsSame (listing net) seen c t)
-    → HasRow cs log → IsPrefix seen log → (cell cs 0).0 ≡ status_word c (c - 1) 0 0
-    → HasRow (slice_set cs 0 (status_word c c 0 0, true)) (log ++ item.Shown c ∷ [])
+    → HasRow cs log → IsPrefix seen log → (cell cs 0).0 ≡ packed_status c (c - 1) 0 0
+    → HasRow (slice_set cs 0 (packed_status c c 0 0, true)) (log ++ item.Shown c ∷ [])
 shows_all net seen c cs log of some few there same (n, is_row) pre found = (
   n,
   record {
     of = of_later n log (log ++ item.Shown c ∷ []) is_row.of (item.Shown c ∷ [], refl);
-    long = long_set n cs log is_row 0 (status_word c c 0 0, true);
+    long = long_set n cs log is_row 0 (packed_status c c 0 0, true);
     state = 0;
     first = record {
       node = omega (arith, current);
       byte = omega arith;
       shown = λ node. absurd (omega (arith, node, current));
     };
-    status = inl (at_set n cs log is_row 0 (status_word c c 0 0) (omega arith) ∙ ap (λ (k : ℕ). (k, true)) (omega (arith, ap length entries, is.count, dones, current)));
-    home = λ t low small. home_later n cs log is_row 0 (status_word c c 0 0) t (omega arith) low small;
-    words = λ t low small. word_later n cs log is_row (log ++ item.Shown c ∷ []) t (status_word c c 0 0, true) 0 low small (λ z. absurd (omega (arith, z, low))) (item.Shown c ∷ [], refl) (since t);
+    status = inl (at_set n cs log is_row 0 (packed_status c c 0 0) (omega arith) ∙ ap (λ (k : ℕ). (k, true)) (omega (arith, ap length entries, is.count, dones, current)));
+    home = λ t low small. home_later n cs log is_row 0 (packed_status c c 0 0) t (omega arith) low small;
+    words = λ t low small. word_later n cs log is_row (log ++ item.Shown c ∷ []) t (packed_status c c 0 0, true) 0 low small (λ z. absurd (omega (arith, z, low))) (item.Shown c ∷ [], refl) (since t);
     right = record {
       legal = rw entries is_row.right.legal;
       few = rw entries is_row.right.few;

@@ -13,7 +13,7 @@ use Rattle.cm_past.specs.declared.log_item.LogItem.{LogItem}
 use Rattle.cm_past.specs.declared.status.Status.{Status}
 use Rattle.cm_past.specs.Changes.{OthersStay}
 use Rattle.cm_past.specs.Items.{IsOf, IsSame, current_in, done_in, entries_in, number_of, shown_at, since_in}
-use Rattle.cm_past.specs.Words.{IsByte, IsWord, gone_word, status_word}
+use Rattle.cm_past.specs.Words.{IsByte, IsWord, gone_word, packed_status}
 
 -- what the first word says where there are so many entries, with which the words of all nodes but this one are right
 abbrev pub status_at : ℕ → Current → Status
@@ -48,7 +48,7 @@ pub record IsRow (net : Network) (cells : List Cell) (log : List LogItem) : Type
   pub state : ℕ
   pub first : IsFirst (listing net) log state
   pub status :
-      (cell cells 0 ≡ (status_word (length (entries_in log)) (done_in log) (current_in log) state, true))
+      (cell cells 0 ≡ (packed_status (length (entries_in log)) (done_in log) (current_in log) state, true))
       ⊎ (cell cells 0 ≡ (gone_word, true))
   pub home : (t : ℕ) → 1 ≤ t → t < 128 → (cell cells t).1 ≡ true
   pub words : (t : ℕ) → 1 ≤ t → t < 128 → IsWordOf (listing net) log t (cell cells t).0

@@ -4,8 +4,8 @@ use Rattle.cm_past.specs.declared.status.TheConstants.{BYTE, BYTES, COUNTS, GONE
 
 -- the first word: how many entries there are; up to how many the words of all nodes are right, but for one; and this
 -- one, 0 where there is none, with its state with so many
-abbrev pub status_word : ℕ → ℕ → ℕ → ℕ → ℕ
-status_word count done node state = count * (COUNTS * BYTES) + done * BYTES + node * BYTE + state
+abbrev pub packed_status : ℕ → ℕ → ℕ → ℕ → ℕ
+packed_status count done node state = count * (COUNTS * BYTES) + done * BYTES + node * BYTE + state
 
 -- what it says
 abbrev pub status_count : ℕ → ℕ

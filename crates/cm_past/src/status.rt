@@ -1,7 +1,7 @@
 //! What the words of a row say, and the numbers that stand for it.
 ghost use Rattle.std.specs.Prelude.{◌≡◌, ◌≤◌, ◌<◌, ℕ, if◌then◌else◌};
 ghost use Rattle.cm_history.specs.Legal.{most_entries};
-ghost use Rattle.cm_past.specs.Words.{IsByte, IsWord, node_word, status_word};
+ghost use Rattle.cm_past.specs.Words.{IsByte, IsWord, node_word, packed_status};
 ghost use Rattle.cm_past.specs.Words.{status_count, status_done, status_node, status_state};
 ghost use Rattle.cm_past.specs.Words.{word_before, word_since, word_state};
 
@@ -38,7 +38,7 @@ impl Status {
     #[inline(always)]
     pub(crate) fn word(self) -> u64
         requires { (self.count ≤ most_entries) × (self.done ≤ most_entries) }
-        ensures value { result ≡ status_word self.count self.done self.node self.state }
+        ensures value { result ≡ packed_status self.count self.done self.node self.state }
         ensures range { IsByte self.state }
     {
         self.count * (COUNTS * BYTES)

@@ -35,7 +35,8 @@ abbrev pub IsCause : Listing → ℕ → List Entry → ℕ → SeatView → Cal
 IsCause net limit history room seat call fault.OutOfMemory = Unit {0}
 IsCause net limit history room seat call fault.SeatStale = IsStale history seat
 IsCause net limit history room seat call fault.JournalFull = (IsStale history seat → ⊥) × IsFull limit history
-IsCause net limit history room seat call fault.WireFull = (IsStale history seat → ⊥) × (IsFull limit history → ⊥) × LacksRoom net history room call
+IsCause net limit history room seat call fault.WireFull =
+    (IsStale history seat → ⊥) × (IsFull limit history → ⊥) × LacksRoom net history room call
 
 -- the call met a history that was legal and within the limit, each entry of one of this many seats, and began with what the
 -- seat saw and was told; there was the fault's cause. So WireFull comes only of a call that is answered with frames

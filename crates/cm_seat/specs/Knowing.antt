@@ -13,7 +13,14 @@ told_by known list = map (λ (m : Made). take m.position known) list
 
 abbrev pub seat_view : ℕ → List Made → ℕ → ℕ → List Entry → ℕ → ℕ → SeatView
 seat_view number list capacity amount known viewed called =
-    record { number = number; list = list; capacity = capacity; amount = amount; view = take viewed known; told = told_by known (drop called list) }
+    record {
+      number = number;
+      list = list;
+      capacity = capacity;
+      amount = amount;
+      view = take viewed known;
+      told = told_by known (drop called list);
+    }
 
 -- no place is behind the first n
 abbrev pub ArePlaced : List Made → ℕ → Type 0

@@ -1,7 +1,8 @@
 ghost use Rattle.std.specs.Prelude.{◌≡◌, ◌<◌, ◌≤◌, ◌==◌, ◌^◌, ◌-◌, ℕ, List, Some};
 ghost use Rattle.cm_history.specs.History.{is_empty};
 ghost use Rattle.cm_history.specs.declared.call.Call.TheVariants as call;
-ghost use Rattle.cm_history.specs.Answering.{is_late, lost_orders, open_less, refusal_number, report_orders, request_orders, starts_every, starts_one};
+ghost use Rattle.cm_history.specs.Answering.{is_late, lost_orders, open_less, refusal_number, report_orders};
+ghost use Rattle.cm_history.specs.Answering.{request_orders, starts_every, starts_one};
 ghost use Rattle.cm_sequential.specs.Standing.{listing_in, still_open, IsAnswer};
 
 use crate::effects::is_fatal;

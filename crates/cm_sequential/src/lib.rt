@@ -11,6 +11,7 @@ mod answering;
 mod compact;
 mod effects;
 mod listing_copy;
+mod lists;
 mod manager;
 mod replaying;
 mod sending;
@@ -19,6 +20,7 @@ mod state;
 mod statuses;
 
 pub use compact::{Cause, CompactReplay, Untaken};
+pub use lists::push_or;
 pub use manager::Manager;
 pub use replaying::{replay, replay_to_fault};
 pub use sending::frames;

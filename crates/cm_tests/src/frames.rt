@@ -3,7 +3,7 @@
 use crate::support::{node, sure};
 use cm_boot::{Answer, Question};
 use cm_can::{
-    CanFrame, CanId, ErrorControl, Kind, NO_SEGMENTS, TIMED_OUT, abort_frame, answer_of,
+    CanFrame, CanId, ErrorControl, Kind, NO_SEGMENTS, TIMED_OUT, abort_frame, answered_by,
     error_control, guard_request, is_segmented, nmt_frame, request_of,
 };
 use cm_nmt::{Command, Frame, NmtState, Target, Write};
@@ -51,7 +51,7 @@ fn asks(rt: &impl Abort, question: Question, data: [u8; 8]) {
 /// Asserts what a data frame answers to a question that node 2 was asked.
 fn answers(rt: &impl Abort, question: Question, id: u16, data: &[u8], answer: Option<Answer>) {
     let heard = frame(rt, id, data);
-    sure(rt, answer_of(node(rt, 2), &question, &heard) == answer);
+    sure(rt, answered_by(node(rt, 2), &question, &heard) == answer);
 }
 
 /// Asserts how a state is asked for: by a remote frame, or by none.
@@ -123,7 +123,7 @@ fn another_upload_is_no_answer(rt: HostRuntime) {
     answers(&rt, TYPE, 0x582, &[0x43, 0, 0x10, 0, a, b, c], None);
     let mut remote = frame(&rt, 0x582, &[0x43, 0, 0x10, 0, a, b, c, d]);
     remote.kind = Kind::Remote;
-    sure(&rt, answer_of(node(&rt, 2), &TYPE, &remote) == None);
+    sure(&rt, answered_by(node(&rt, 2), &TYPE, &remote) == None);
 }
 
 #[test]

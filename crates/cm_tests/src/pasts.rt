@@ -19,7 +19,7 @@ use std::process::Abort;
 use std::test::Fail;
 
 /// The node that a call names, the own one where it names none.
-fn node_of(call: &Call, own: NodeId) -> NodeId
+fn called_node(call: &Call, own: NodeId) -> NodeId
     ensures { (t : ℕ) → 1 ≤ t → t < 128 → (result == t) ≡ false
         → (node_named call.now == t) ≡ false }
 {
@@ -62,7 +62,7 @@ fn show<K: HistoryName>(
         seat: 1,
     };
     manager.carry_out(&entry.call, entry.reply, &entry.orders);
-    let node = node_of(&entry.call, own);
+    let node = called_node(&entry.call, own);
     let value = manager.shown(node);
     let own_value = manager.shown(own);
     match writer.show_entry(&entry, node, value, own_value) {

@@ -1,5 +1,6 @@
 -- Exactly 2, 4 or 8 hexadecimal digits, the high one first.
-use Rattle.std.specs.Prelude.{ℕ, ◌+◌, ◌-◌, ◌*◌, ◌/◌, ◌%◌, nat_lt, nat_le, ◌&&◌, ◌==◌, if◌then◌else◌, length, replicate, List, [], ◌∷◌, ◌++◌, Option, None}
+use Rattle.std.specs.Prelude.{ℕ, ◌+◌, ◌-◌, ◌*◌, ◌/◌, ◌%◌, nat_lt, nat_le, ◌&&◌, ◌==◌, if◌then◌else◌}
+use Rattle.std.specs.Prelude.{length, replicate, List, [], ◌∷◌, ◌++◌, Option, None}
 use Rattle.cm_text.specs.Exact.{respelled}
 
 -- the digit that is worth this much: 0 to 9 for 0 to 9, A to F for 10 to 15 (own)
@@ -42,7 +43,8 @@ four_of _ = None
 
 -- the number of 32 bits whose eight digits the field is (own)
 unfoldable pub eight_of : List ℕ → Option ℕ
-eight_of (a ∷ b ∷ c ∷ d ∷ e ∷ f ∷ g ∷ h ∷ []) = respelled hex_eight (four a b c d * 65536 + four e f g h) (a ∷ b ∷ c ∷ d ∷ e ∷ f ∷ g ∷ h ∷ [])
+eight_of (a ∷ b ∷ c ∷ d ∷ e ∷ f ∷ g ∷ h ∷ []) =
+    respelled hex_eight (four a b c d * 65536 + four e f g h) (a ∷ b ∷ c ∷ d ∷ e ∷ f ∷ g ∷ h ∷ [])
 eight_of _ = None
 
 -- eight digits, of which these are the last, and the others 0 (own)

@@ -1,7 +1,8 @@
 ghost use Rattle.std.specs.Prelude.{◌≡◌, ◌≢◌, ◌<◌, ◌≤◌, ◌*◌, ◌^◌, ◌==◌, ℕ, [], ◌∷◌, Some, None, MatchOption, if◌then◌else◌, length};
 ghost use Rattle.cm_text.specs.Hex.{glyph, nibble, hex_two, hex_four, hex_eight, two_of, four_of, eight_of, padded, digits_of};
 
-fn digit(worth: u8) -> u8
+/// The digit that is worth this much, as `D` for 13.
+pub fn digit(worth: u8) -> u8
     requires { worth < 16 }
     ensures { result ≡ glyph worth }
 {

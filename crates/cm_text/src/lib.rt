@@ -24,6 +24,6 @@ mod reading;
 mod words;
 
 pub use fields::Fields;
-pub use hex::{hex2, hex4, hex8, read_hex8};
+pub use hex::{digit, hex2, hex4, hex8, read_hex8};
 pub use reading::{Block, InputFault, read_input, read_until, skip_rest};
 pub use words::is_word;
