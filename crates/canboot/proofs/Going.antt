@@ -11,6 +11,7 @@ use Rattle.cm_watch.specs.declared.happening.Moment.TheVariants as moment
 use Rattle.cm_watch.specs.declared.happening.Step.{Step}
 use Rattle.cm_watch.specs.declared.settings.Settings.{Settings}
 use Rattle.cm_watch.specs.declared.watch.Watch.{Watch}
+use Rattle.canboot.specs.Again.{HasHeardAgain}
 use Rattle.canboot.specs.Going.{GoesOn, HasGoneOn, HasTaken, called_at}
 
 pub still : (net : Network) (old : Watch) (now : Network) (new : Watch) → now ≡ net → new ≡ old → GoesOn net old now new
@@ -82,4 +83,11 @@ pub happened_on : (h : Happening) (net : Network) (old : Watch) (now : Network) 
 happened_on h net old now new at same told = record {
   network = same;
   goes_on = λ s past w. taken_on h new net s past at (told s past w);
+}
+
+-- states that were heard again were told
+pub heard_on : (net : Network) (old new : Watch) (at : ℕ) → ((s : Settings) (past : Past) → Watches old net s past → HasHeardAgain new net s past at) → GoesOn net old net new
+heard_on net old new at told = record {
+  network = refl;
+  goes_on = λ s past w. (let t = told s past w in record { more = t.more; watches = t.watches });
 }

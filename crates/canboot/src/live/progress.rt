@@ -2,11 +2,10 @@
 
 ghost use Rattle.std.specs.Prelude.{◌≡◌, ◌<◌, ◌^◌, [], ◌∷◌, IfOk, IfSome, Some};
 ghost use Rattle.cm_netlist.specs.Network.{Network as NetworkList};
-ghost use Rattle.canboot.specs.Going.{GoesOn};
 ghost use Rattle.cm_watch.specs.Pasts.{Past};
 ghost use Rattle.cm_watch.specs.Signals.{state_heard};
 ghost use Rattle.cm_watch.specs.Watches.{Watches};
-ghost use Rattle.canboot.specs.Again.{state_again};
+ghost use Rattle.canboot.specs.Again.{HasHeardAgain, state_again};
 ghost use Rattle.cm_watch.specs.declared.happening.Happening.TheVariants.{Called};
 ghost use Rattle.cm_watch.specs.declared.happening.Moment.TheVariants.{Happened};
 ghost use Rattle.cm_watch.specs.declared.settings.Settings.{Settings as WatchSettings};
@@ -113,7 +112,8 @@ pub(crate) fn note_heartbeats(
     now: u64,
 )
     requires { now < 2 ^ 63 }
-    ensures { GoesOn network.now watch.old network.now watch.new }
+    ensures told { (s : WatchSettings) (past : Past) → Watches watch.old network.now s past
+        → HasHeardAgain watch.new network.now s past now }
 {
     for id in network.listed_ids().as_slice() {
         if let Some(state) = heard_again(watch, heartbeats, *id) {

@@ -1,15 +1,21 @@
-use Rattle.std.proofs.Common.{refl}
-use Rattle.canboot.proofs.Going.{on_and_on, one_more}
+use Rattle.std.proofs.Common.{[], ◌∷◌, ◌++◌, refl}
+use Rattle.cm_watch.specs.declared.happening.Happening.TheVariants.{Heard}
+use Rattle.cm_watch.specs.declared.happening.Moment.TheVariants.{Happened}
 use Rattle.canboot.proofs.live.progress.note_heartbeats.Goals as goal
 use Rattle.canboot.proofs.live.progress.note_heartbeats.Goals.{in-Some, in_default}
 
+pub loop-id-init : goal.loop-id-init
+loop-id-init c = λ s past w. record { more = []; again = tt; watches = w }
+
 pub loop-id-preserved : goal.loop-id-preserved
 loop-id-preserved c =
-    let net = c.args.network.now in
     elim c.match-heard_again.branch [
-      | in-Some w ↦ rw (w.watch-is) (
-          on_and_on net c.args.watch.now net c.loop-id.watch net w.take-told.new.self c.loop-id.invariant
-          (one_more net c.loop-id.watch net w.take-told.new.self c.args.now _ refl w.take-told.ensures.taken)
-          )
+      | in-Some w ↦ rw (w.watch-is) (λ s past h.
+          let t = c.loop-id.invariant s past h in
+          record {
+            more = (c.args.now, Happened (Heard c.id-item.result w.in-Some.state)) ∷ t.more;
+            again = (refl, w.in-Some.ensures c.args.network.now s (t.more ++ past) t.watches, t.again);
+            watches = w.take-told.ensures.taken s (t.more ++ past) t.watches;
+          })
       | in_default w ↦ rw (w.watch-is) c.loop-id.invariant
     ]

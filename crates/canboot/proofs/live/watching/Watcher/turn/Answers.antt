@@ -1,6 +1,6 @@
 use Rattle.std.proofs.Common.{ap}
 use Rattle.canboot.specs.Going.{GoesOn}
-use Rattle.canboot.proofs.Going.{on_and_on, steps_on, still}
+use Rattle.canboot.proofs.Going.{heard_on, on_and_on, steps_on, still}
 use Rattle.canboot.proofs.live.watching.Watcher.turn.Goals as goal
 use Rattle.canboot.proofs.live.watching.Watcher.turn.Goals.{After-tell}
 
@@ -10,7 +10,8 @@ so_far g c =
     let taken = c.take_all.new.self in
     let told = c.tell.new.self in
     on_and_on c.args.self.now.network.now c.args.self.now.progress.watch taken.network.now c.note_heartbeats.new.watch told.network.now told.progress.watch
-    (on_and_on c.args.self.now.network.now c.args.self.now.progress.watch taken.network.now taken.progress.watch taken.network.now c.note_heartbeats.new.watch c.in_ok-take_all.ensures.goes_on c.note_heartbeats.ensures)
+    (on_and_on c.args.self.now.network.now c.args.self.now.progress.watch taken.network.now taken.progress.watch taken.network.now c.note_heartbeats.new.watch c.in_ok-take_all.ensures.goes_on
+    (heard_on taken.network.now taken.progress.watch c.note_heartbeats.new.watch c.now-now.result c.note_heartbeats.ensures.told))
     (still taken.network.now c.note_heartbeats.new.watch told.network.now told.progress.watch (ap (λ n. n.now) c.tell.ensures.network) c.tell.ensures.watch)
 
 pub returns-then-not-look : goal.returns-then-not-look
