@@ -9,10 +9,10 @@ mod scanner;
 mod text;
 mod watching;
 
-use crate::ENDLESS;
 use crate::cases::case::Case;
 use crate::cases::run::{Outcome, run_case};
 use crate::cases::scanner::Scanner;
+use cm_text::ENDLESS;
 use std::fs::{self, File};
 use std::io::{self, StdinLock};
 use std::rt::Files;

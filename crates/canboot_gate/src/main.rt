@@ -23,9 +23,6 @@ use std::rt::{Clock, Env, Files};
 use std::sync::Wait;
 use std::thread::Threads;
 
-/// A loop must be known to end, and when some end isn't known: so they count to this, which none comes to.
-const ENDLESS: u64 = u64::MAX;
-
 fn words<R: Env + AllocGlobal>(rt: &R) -> io::Result<Vec<String>> {
     match env::args(rt)?.collect::<Vec<String>>(rt.alloc()) {
         Ok(words) => Ok(words),

@@ -9,14 +9,12 @@ use crate::received::Received;
 use cm_boot::Question;
 use cm_can::CanFrame;
 use cm_nmt::NodeId;
+use cm_text::ENDLESS;
 use crossbeam_channel::Receiver;
 use std::io::Write;
 use std::sync::atomic::{AtomicBool, Ordering};
 use std::sync::{Arc, Wait};
 use std::time::{Clock, Duration, Instant};
-
-/// How many frames may wait for a worker at most: no more come.
-const ENDLESS: u64 = u64::MAX;
 
 /// The port of one worker: its frames are written through an outlet, and those for it come from the reader of the
 /// bus.

@@ -1,3 +1,4 @@
 pub mod Ids
 mod Agreeing
+pub mod Identity
 pub mod Both

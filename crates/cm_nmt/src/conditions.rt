@@ -110,7 +110,7 @@ pub(crate) fn comes_to_beat(
 }
 
 /// Whether the boot comes to the field: all that its question comes after agrees.
-#[tactic(auto, unfolding(crate::specs::Conditions::vendor_agrees, crate::specs::Conditions::product_agrees, crate::specs::Conditions::revision_agrees, crate::specs::Conditions::identity_agrees))]
+#[tactic(auto, using(crate::proofs::Identity::identity_steps))]
 fn reaches(terms: &Terms, answers: &Answers, field: Field) -> bool
     ensures { result ≡ reaches terms.now answers.now field }
 {

@@ -92,7 +92,7 @@ fn rest_skipped(terms: &Terms, answers: &Answers) -> bool
 
 /// Whether the identity agrees; `None` where a field up to the serial number isn't settled.
 #[inline(always)]
-#[tactic(auto, unfolding(crate::specs::Conditions::vendor_agrees, crate::specs::Conditions::product_agrees, crate::specs::Conditions::revision_agrees, crate::specs::Conditions::identity_agrees))]
+#[tactic(auto, using(crate::proofs::Identity::identity_steps))]
 fn settled_identity(terms: &Terms, answers: &Answers) -> Option<bool>
     ensures { result ≡
         (if are_settled terms.now answers.now (Device ∷ Vendor ∷ Product ∷ Revision ∷ Serial ∷ [])

@@ -25,5 +25,5 @@ mod words;
 
 pub use fields::Fields;
 pub use hex::{digit, hex2, hex4, hex8, read_hex8};
-pub use reading::{Block, InputFault, read_input, read_until, skip_rest};
+pub use reading::{Block, ENDLESS, InputFault, read_input, read_until, skip_rest};
 pub use words::is_word;

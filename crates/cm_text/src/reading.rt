@@ -7,9 +7,9 @@ use std::io::Read;
 /// Room for the bytes of one read.
 pub type Block = [u8; 16384];
 
-// A loop must be known to end, and where an input ends is known only once it is read: so a loop over
-// reads counts to this, which no input comes to.
-const ENDLESS: u64 = u64::MAX;
+/// More turns than any loop makes. A loop must be known to end, and where an input ends, say, is known only once it is read:
+/// so a loop whose end isn't known counts to this.
+pub const ENDLESS: u64 = u64::MAX;
 
 /// Why an input was not read.
 #[derive(Clone, Copy, Debug, PartialEq, Eq)]

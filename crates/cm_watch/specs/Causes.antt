@@ -1,5 +1,6 @@
 -- No cause for a boot is forgotten (own).
-use Rattle.std.specs.Prelude.{◌≡◌, ℕ, Bool, true, false, ◌==◌, ◌||◌, if◌then◌else◌, [], ◌∷◌, Option, Some, None, is_some, option_map, unwrap_or}
+use Rattle.std.specs.Prelude.{◌≡◌, ◌==◌, ◌||◌, if◌then◌else◌, [], ◌∷◌, ℕ, Bool, true, false}
+use Rattle.std.specs.Prelude.{Option, Some, None, is_some, option_map, unwrap_or}
 use Rattle.cm_netlist.specs.Network.{Network}
 use Rattle.cm_watch.specs.Course.{started_at}
 use Rattle.cm_watch.specs.Pasts.{Past}

@@ -14,7 +14,8 @@ use Rattle.cm_watch.specs.Course.{end_by, is_end_given, is_over_given, is_stoppe
 use Rattle.cm_watch.specs.Pasts.{Past}
 use Rattle.cm_watch.specs.Schedules.{blank_schedule, cause_by, schedule_after, schedule_in}
 use Rattle.cm_watch.specs.Signals.{boot_up_by, changes_by, budget_in, full_budget, news_in, spends, spent, state_heard_by, state_told_by}
-use Rattle.cm_watch.specs.Slaves.{asked_by, booted_by, booted_since, busy_by, heard_by, heard_last, held_by, is_asked_in, is_busy_in, is_held_in, is_lost_given, is_tried_in, lost_by, tried_by}
+use Rattle.cm_watch.specs.Slaves.{asked_by, booted_by, booted_since, busy_by, heard_by, heard_last, held_by, is_asked_in}
+use Rattle.cm_watch.specs.Slaves.{is_busy_in, is_held_in, is_lost_given, is_tried_in, lost_by, tried_by}
 use Rattle.cm_watch.specs.declared.course.Course.{Course}
 use Rattle.cm_watch.specs.declared.happening.Happening.{Happening}
 use Rattle.cm_watch.specs.declared.happening.Happening.TheVariants as happening

@@ -1,7 +1,8 @@
 -- When a slave is to be booted (own). At a start of the network and behind a reset it settles, until its boot-up message
 -- comes or the settle time is over. One that reboots by itself or is lost is booted at once, and where that happens again and
 -- again, after 1, 2, 4 .. 60 s. At once too where it is released, or the operator asks for it.
-use Rattle.std.specs.Prelude.{ℕ, Bool, true, false, ◌==◌, ◌&&◌, ◌||◌, if◌then◌else◌, ◌+◌, ◌-◌, nat_le, max, min, [], ◌∷◌, Option, Some, None}
+use Rattle.std.specs.Prelude.{◌==◌, ◌&&◌, ◌||◌, if◌then◌else◌, ◌+◌, ◌-◌, [], ◌∷◌, ℕ, Bool, true, false}
+use Rattle.std.specs.Prelude.{nat_le, max, min, Option, Some, None}
 use Rattle.cm_history.specs.History.{is_boot_again, is_granted, is_handled, is_reset_value}
 use Rattle.cm_history.specs.Orders.{is_reset_all}
 use Rattle.cm_history.specs.declared.call.Call.{Call}

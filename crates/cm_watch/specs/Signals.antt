@@ -1,5 +1,6 @@
 -- What the manager is told of what a node sent, and how often (own, but where a standard is named).
-use Rattle.std.specs.Prelude.{ℕ, Bool, true, false, ◌==◌, ◌&&◌, ◌||◌, not, if◌then◌else◌, ◌+◌, ◌-◌, ◌%◌, min, nat_lt, [], ◌∷◌, Option, Some, None, unwrap_or}
+use Rattle.std.specs.Prelude.{◌==◌, ◌&&◌, ◌||◌, if◌then◌else◌, ◌+◌, ◌-◌, ◌%◌, [], ◌∷◌, ℕ, Bool, true, false, not}
+use Rattle.std.specs.Prelude.{min, nat_lt, Option, Some, None, unwrap_or}
 use Rattle.std.specs.Option.{option_or}
 use Rattle.cm_netlist.specs.Network.{Network}
 use Rattle.cm_watch.specs.Pasts.{Past}

@@ -1,5 +1,6 @@
 -- Which steps are given at a time, told from the past (own).
-use Rattle.std.specs.Prelude.{ℕ, Bool, false, ◌&&◌, ◌||◌, not, if◌then◌else◌, nat_lt, ◌-◌, ◌++◌, max, min, List, [], ◌∷◌, map, filter, Option, Some, None, is_some, unwrap_or}
+use Rattle.std.specs.Prelude.{◌&&◌, ◌||◌, if◌then◌else◌, ◌-◌, ◌++◌, [], ◌∷◌, ℕ, Bool, false, not, List}
+use Rattle.std.specs.Prelude.{nat_lt, max, min, map, filter, Option, Some, None, is_some, unwrap_or}
 use Rattle.std.specs.Option.{option_map_or}
 use Rattle.cm_history.specs.History.{is_empty}
 use Rattle.cm_history.specs.Phases.{is_booting, is_ready}

@@ -1,5 +1,6 @@
 -- What came of the boots of each slave, for the words of a live run (own).
-use Rattle.std.specs.Prelude.{◌≡◌, ℕ, ◌+◌, ◌≤◌, ◌<◌, ◌==◌, ◌&&◌, Bool, true, false, min, if◌then◌else◌, [], ◌∷◌, Option, Some, None, is_some, slice_index_or}
+use Rattle.std.specs.Prelude.{◌≡◌, ◌+◌, ◌≤◌, ◌<◌, ◌==◌, ◌&&◌, if◌then◌else◌, [], ◌∷◌, ℕ, Bool, true, false}
+use Rattle.std.specs.Prelude.{min, Option, Some, None, is_some, slice_index_or}
 use Rattle.cm_history.specs.History.{begins_by, last_status}
 use Rattle.cm_history.specs.declared.call.Call.{Call}
 use Rattle.cm_history.specs.declared.call.Call.TheVariants as call

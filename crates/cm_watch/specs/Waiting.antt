@@ -1,5 +1,6 @@
 -- What waits to be told, and when: each value once, in the order of the history, once its frames were handed to the wire (own).
-use Rattle.std.specs.Prelude.{◌≡◌, ℕ, ◌+◌, ◌-◌, ◌^◌, ◌||◌, nat_le, min, Bool, if◌then◌else◌, List, [], ◌∷◌, ◌++◌, length, map, Option, Some, None}
+use Rattle.std.specs.Prelude.{◌≡◌, ◌+◌, ◌-◌, ◌^◌, ◌||◌, if◌then◌else◌, [], ◌∷◌, ◌++◌, ℕ, Bool, List}
+use Rattle.std.specs.Prelude.{nat_le, min, length, map, Option, Some, None}
 use Rattle.cm_watch.specs.InOrder.{Holds}
 use Rattle.cm_watch.specs.declared.in_order.Placed.{Placed}
 use Rattle.cm_watch.specs.declared.telling.Told.{Told}

@@ -1,5 +1,6 @@
 -- When a watch has what a past says (own).
-use Rattle.std.specs.Prelude.{◌≡◌, ℕ, ◌<◌, ◌≤◌, Bool, ◌&&◌, ◌||◌, not, ◌-◌, nat_lt, min, ◌++◌, List, map, filter, is_none, is_some, slice_index_or, unwrap_or}
+use Rattle.std.specs.Prelude.{◌≡◌, ◌<◌, ◌≤◌, ◌&&◌, ◌||◌, ◌-◌, ◌++◌, ℕ, Bool, not, List}
+use Rattle.std.specs.Prelude.{nat_lt, min, map, filter, is_none, is_some, slice_index_or, unwrap_or}
 use Rattle.cm_history.specs.History.{is_empty}
 use Rattle.cm_history.specs.Phases.{is_booting, is_ready}
 use Rattle.cm_netlist.specs.Network.{Network, is_listed, listing}

@@ -1,6 +1,8 @@
 ghost use Rattle.std.specs.Prelude.{◌≡◌, ◌<◌, ◌^◌, None, Some, if◌then◌else◌};
 ghost use Rattle.cm_history.specs.History.{is_reset_value};
-ghost use Rattle.cm_watch.specs.Schedules.{again_after, boot_up_due, cause_by, cause_by_call, count_now, counted, due_after, is_due, is_own, is_quiet_for, lost_due, pause_of, paused, schedule_after, settle_of, settling};
+ghost use Rattle.cm_watch.specs.Schedules.{again_after, boot_up_due, cause_by, cause_by_call, count_now, counted, due_after};
+ghost use Rattle.cm_watch.specs.Schedules.{is_due, is_own, is_quiet_for, lost_due, pause_of, paused, schedule_after, settle_of};
+ghost use Rattle.cm_watch.specs.Schedules.{settling};
 
 use crate::happening::{Happening, Moment, Step};
 use crate::settings::Settings;

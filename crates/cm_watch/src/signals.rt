@@ -1,6 +1,7 @@
 ghost use Rattle.std.specs.Prelude.{◌≡◌};
 ghost use Rattle.cm_watch.specs.Kept.{budget_after, news_after};
-ghost use Rattle.cm_watch.specs.Signals.{boot_up_by, changes_by, is_allowed, is_change, is_other, left_now, news_of, pending_of, spends, spent, state_heard_by, state_told_by};
+ghost use Rattle.cm_watch.specs.Signals.{boot_up_by, changes_by, is_allowed, is_change, is_other, left_now, news_of};
+ghost use Rattle.cm_watch.specs.Signals.{pending_of, spends, spent, state_heard_by, state_told_by};
 
 use crate::happening::{Happening, Moment, Step};
 use crate::schedule::{Schedule, is_quiet_for};

@@ -1,5 +1,5 @@
-use crate::ENDLESS;
 use crate::cases::scanner::Scanner;
+use cm_text::ENDLESS;
 use std::alloc::{AllocError, Global};
 use std::io::{self, Read, Write};
 

@@ -1,6 +1,6 @@
-use crate::ENDLESS;
 use crate::bench::network::SLAVES;
 use cm_register::{RunName, Seat};
+use cm_text::ENDLESS;
 use std::sync::atomic::{AtomicBool, Ordering};
 
 /// What a reader saw: of how many calls its last read told, and the sum of all states, so that no
