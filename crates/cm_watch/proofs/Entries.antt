@@ -3,7 +3,7 @@ use Rattle.std.proofs.Common.{inl, inr, subst, ◌≡◌, ◌≢◌, ◌∙◌, 
 use Rattle.std.proofs.lemmas.List.{take-append-drop, take_more}
 use Rattle.std.proofs.lemmas.Bool.Decides.{eqb_tells}
 use Rattle.std.proofs.lemmas.Grind.{common_steps}
-use Rattle.std.proofs.lemmas.Option.{none-some, same_Some}
+use Rattle.std.proofs.lemmas.Option.{none-some, same_Some, slice_get-get_or}
 use Rattle.std.specs.Option.{option_or}
 use Rattle.std.specs.List.{slice_get, remove}
 use Rattle.cm_watch.specs.InOrder.{entry_at, Holds, IsFirstAt}
@@ -65,6 +65,20 @@ module _ {T : Type 0} where
   get_at : (xs : List (Placed T)) (e : Placed T) → slice_get (xs ++ e ∷ []) (length xs) ≡ Some e
   get_at [] e = refl
   get_at (x ∷ xs) e = get_at xs e
+
+  -- one more came
+  pub came_more : (o after : InOrder T) (arrived told : List (Placed T)) (e : Placed T) → Holds o arrived told → after.next ≡ o.next → after.waiting.items ≡ o.waiting.items ++ e ∷ [] → Holds after (arrived ++ e ∷ []) told
+  came_more o after arrived told e holds same items = record {
+    count = same ∙ holds.count;
+    each = λ p low.
+        let there : slice_get told p ≡ Some (get_or told p e) = slice_get-get_or told p e low in
+        entry_at-append arrived (e ∷ []) p ∙ ap (λ o. option_or o (entry_at (e ∷ []) p)) (holds.each p low ∙ there) ∙ sym there;
+    waiting = λ p high.
+        ap (λ (ys : List (Placed T)). entry_at ys p) items
+        ∙ entry_at-append o.waiting.items (e ∷ []) p
+        ∙ ap (λ o. option_or o (entry_at (e ∷ []) p)) (holds.waiting p high)
+        ∙ sym (entry_at-append arrived (e ∷ []) p);
+  }
 
   -- the next was told
   pub told_more : (o after : InOrder T) (arrived told : List (Placed T)) (i : ℕ) (e : Placed T) → Holds o arrived told → IsFirstAt o.waiting.items i o.next → e ≡ get_or o.waiting.items i e → after.next ≡ o.next + 1 → after.waiting.items ≡ remove o.waiting.items i → Holds after arrived (told ++ e ∷ [])

@@ -5,10 +5,10 @@ use Rattle.cm_watch.specs.declared.in_order.Placed.{Placed}
 use Rattle.cm_watch.specs.declared.in_order.InOrder.{InOrder}
 
 module _ {T : Type 0} where
-  -- the entry of this position among those that came, the newest first
+  -- the first entry of this position among those that came, the oldest first
   abbrev pub entry_at : List (Placed T) → ℕ → Option (Placed T)
   entry_at [] p = None
-  entry_at (e ∷ arrived) p = if e.position == p then Some e else entry_at arrived p
+  entry_at (e ∷ later) p = if e.position == p then Some e else entry_at later p
 
   -- the first entry of this position stands at place i
   pub record IsFirstAt (xs : List (Placed T)) (i p : ℕ) : Type 0 where

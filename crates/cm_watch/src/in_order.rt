@@ -16,7 +16,7 @@ pub struct Placed<T> {
 #[derive(Drop)]
 pub struct InOrder<T> {
     next: u64,
-    /// The newest first.
+    /// The oldest first.
     waiting: Vec<Placed<T>>,
 }
 
@@ -31,14 +31,14 @@ impl<T: Drop> InOrder<T> {
         }
     }
 
-    /// The first of this position comes. Where memory is refused it doesn't.
+    /// One comes; of those of one position the first is told. Where memory is refused it doesn't.
     pub fn take(&mut self, placed: Placed<T>) -> Result<(), AllocError>
         ensures came { (arrived told : List (At T)) → Holds self.old arrived told
-            → entry_at arrived placed.position ≡ None → OnOk result (Holds self.new (placed ∷ arrived) told) }
+            → OnOk result (Holds self.new (arrived ++ placed ∷ []) told) }
         ensures refused { (arrived told : List (At T)) → Holds self.old arrived told
             → OnErr result (Holds self.new arrived told) }
     {
-        self.waiting.insert(0, placed)?;
+        self.waiting.push(placed)?;
         Ok(())
     }
 

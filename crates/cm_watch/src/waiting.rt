@@ -1,8 +1,8 @@
 //! What waits to be told once its frames were handed to the wire.
 
-ghost use Rattle.std.specs.Prelude.{◌≡◌, ℕ, ◌+◌, ◌-◌, ◌<◌, ◌≤◌, ◌^◌, min, List, [], ◌∷◌, ◌++◌, length, None, IfSome, IfNone, OnOk, OnErr};
+ghost use Rattle.std.specs.Prelude.{◌≡◌, ℕ, ◌+◌, ◌-◌, ◌<◌, ◌≤◌, ◌^◌, min, List, [], ◌∷◌, ◌++◌, length, IfSome, IfNone, OnOk, OnErr};
 ghost use Rattle.cm_history.specs.Legal.{most_entries};
-ghost use Rattle.cm_watch.specs.InOrder.{Holds, IsTold, entry_at};
+ghost use Rattle.cm_watch.specs.InOrder.{Holds, IsTold};
 ghost use Rattle.cm_watch.specs.Waiting.{Gives, Tells, left_untold, next_told, placed_at, untold_of};
 ghost use Rattle.cm_watch.specs.declared.in_order.Placed.{Placed as At};
 ghost use Rattle.cm_watch.specs.declared.waiting.Untold.{Untold as Kept};
@@ -51,16 +51,16 @@ impl<T: Drop> Waiting<T> {
         }
     }
 
-    /// A value comes, before which so many stand in the history, 0 to 2^64 - 1. Where memory is refused it doesn't.
+    /// A value comes, before which so many stand in the history, 0 to 2^64 - 1; of those of one place the first is given. Where
+    /// memory is refused it doesn't.
     pub fn take(&mut self, position: u64, value: T) -> Result<(), AllocError>
         ensures came { (arrived told : List (At T)) → Holds self.old.order arrived told
-            → entry_at arrived position ≡ None
-            → OnOk result (Holds self.new.order (placed_at position value ∷ arrived) told) }
+            → OnOk result (Holds self.new.order (arrived ++ placed_at position value ∷ []) told) }
         ensures refused { (arrived told : List (At T)) → Holds self.old.order arrived told
             → OnErr result (Holds self.new.order arrived told) }
         ensures tells { (arrived given : List (At T)) (said : List (Kept T)) (counts : List ℕ)
-            → Tells self.old arrived given said counts → entry_at arrived position ≡ None
-            → OnOk result (Tells self.new (placed_at position value ∷ arrived) given said counts) }
+            → Tells self.old arrived given said counts
+            → OnOk result (Tells self.new (arrived ++ placed_at position value ∷ []) given said counts) }
         ensures stays { (arrived given : List (At T)) (said : List (Kept T)) (counts : List ℕ)
             → Tells self.old arrived given said counts
             → OnErr result (Tells self.new arrived given said counts) }
