@@ -39,3 +39,8 @@ HasObeyed (command.Make c) old new = calls_made new ≡ calls_made old ++ c ∷ 
 HasObeyed (command.Request t v) old new = HasMadeOrNot (call.Request t v) old new
 HasObeyed command.Start old new = (calls_made new ≡ calls_made old ++ call.StartNetwork ∷ []) ⊎ HasMadeOrNot (call.Request 128 5) old new
 HasObeyed _ old new = calls_made new ≡ calls_made old
+
+-- the same of what a line asks for; where it asks for nothing no call is made
+abbrev pub HasObeyedIf : Option Command → SeatView → SeatView → Type 0
+HasObeyedIf (Some c) old new = HasObeyed c old new
+HasObeyedIf None old new = new ≡ old

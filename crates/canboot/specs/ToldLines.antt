@@ -106,13 +106,14 @@ halted_by (call.Report i n a) (reply.Reported s) =
     codes ": node " ++ (decimal i ++ (codes " has status " ++ status_letter s))
 halted_by c r = []
 
--- behind a halt: the nodes that run on, if there are any (own)
-abbrev pub running_words : List ℕ → List ℕ
-running_words [] = []
-running_words (i ∷ rest) = codes "; " ++ (nodes_words (i ∷ rest) ++ codes " run on")
+-- behind a halt: the nodes that run on, if there are any, or that they aren't known (own)
+abbrev pub running_words : Option (List ℕ) → List ℕ
+running_words None = codes "; which nodes run on isn't known"
+running_words (Some []) = []
+running_words (Some (i ∷ rest)) = codes "; " ++ (nodes_words (i ∷ rest) ++ codes " run on")
 
--- the network was halted with this entry, while these nodes are operational (own)
-abbrev pub halted_words : Entry → List ℕ → List ℕ
+-- the network was halted with this entry, while these nodes are operational, if they are known (own)
+abbrev pub halted_words : Entry → Option (List ℕ) → List ℕ
 halted_words e running =
     codes "network halted" ++ (halted_by e.call e.reply ++ (running_words running ++ codes "; once that is mended, type start"))
 
@@ -175,9 +176,9 @@ entry_lines w =
     line_if (is_told w.entry.now.call) (entry_told w.network.now w.entry.now w.is_handed w.is_halted w.place w.unbooted)
     ++ line_if (w.place == nearly_full) (nearly_full_words (most_entries - nearly_full))
 
--- behind an entry, in this order: all nodes are stopped; the network is halted, while these nodes are operational; it is ready; a
--- slave is back; a slave isn't watched (own)
-abbrev pub told_lines : Told → Entry → List ℕ → List ℕ
+-- behind an entry, in this order: all nodes are stopped; the network is halted, while these nodes are operational, if they are known; it
+-- is ready; a slave is back; a slave isn't watched (own)
+abbrev pub told_lines : Told → Entry → Option (List ℕ) → List ℕ
 told_lines told e running =
     line_if told.is_stopped (stopped_words e)
     ++ (line_if told.is_halted (halted_words e running)

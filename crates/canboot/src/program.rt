@@ -1,6 +1,6 @@
 ghost use Rattle.std.specs.Prelude.{◌≡◌, ◌≤◌, ◌⊎◌, IfOk, None, false, is_some, true};
 ghost use Rattle.std.specs.Io.KnownBytes.{Appends};
-ghost use Rattle.canboot.specs.Program.{EndsWithout};
+ghost use Rattle.canboot.specs.Program.{EndsWithout, is_same_file};
 
 use crate::live::LiveOptions;
 use crate::live::files::{JournalPath, format_of, live_file};
@@ -193,7 +193,7 @@ fn run_file<R: Files + AllocGlobal + Wait + Threads + Send + Sync, W: Write, E: 
         Ok(file) => file,
         Err(error) => return read_fault(err, error.kind()),
     };
-    if journal.is_some_and(|journal| is_same_file(rt, path, journal)) {
+    if journal.is_some_and(|journal| is_same_file(file_at(rt, path), file_at(rt, journal))) {
         return fault_line(err, MISUSED, "the file of the journal is the network list");
     }
     let mut journal = match make(rt, journal) {
@@ -203,12 +203,30 @@ fn run_file<R: Files + AllocGlobal + Wait + Threads + Send + Sync, W: Write, E: 
     run_text(rt, rt.alloc(), &mut list, options, out, err, &mut journal)
 }
 
-/// Whether there is a file at both paths, and it is the same.
-fn is_same_file<R: Files>(rt: &R, path: &str, other: &str) -> bool {
-    let (Ok(here), Ok(there)) = (fs::metadata(rt, path), fs::metadata(rt, other)) else {
-        return false;
-    };
-    here.dev() == there.dev() && here.ino() == there.ino()
+/// What tells a file from any other: the device that it is on, and its number there.
+#[derive(Clone, Copy, PartialEq, Eq)]
+struct FileId {
+    device: u64,
+    number: u64,
+}
+
+/// The file at this path, as the system answers; none where it can't be asked.
+fn file_at<R: Files>(rt: &R, path: &str) -> Option<FileId> {
+    let found = fs::metadata(rt, path).ok()?;
+    Some(FileId {
+        device: found.dev(),
+        number: found.ino(),
+    })
+}
+
+/// Whether both are files, and the same.
+fn is_same_file(here: Option<FileId>, there: Option<FileId>) -> bool
+    ensures { result ≡ is_same_file here there }
+{
+    match (here, there) {
+        (Some(here), Some(there)) => here == there,
+        _ => false,
+    }
 }
 
 /// Makes the file of this path, if there is one.

@@ -7,9 +7,9 @@ ghost use Rattle.cm_watch.specs.Tried.{Tries, attempts_in, boots_at, started_nod
 ghost use Rattle.cm_watch.specs.Watches.{Watches};
 ghost use Rattle.cm_watch.specs.declared.happening.Happening.TheVariants.{Called};
 ghost use Rattle.cm_watch.specs.declared.happening.Moment.TheVariants.{Gave, Happened};
-ghost use Rattle.cm_watch.specs.declared.happening.Step.TheVariants.{Boot};
 ghost use Rattle.cm_watch.specs.declared.settings.Settings.{Settings as WatchSettings};
 
+use crate::happening::Step;
 use crate::watch::Watch;
 use cm_history::{Call, Entry, Reply};
 use cm_nmt::{NodeId, Status};
@@ -81,19 +81,21 @@ impl Tried {
         self.boots(id).status
     }
 
-    /// The slave is handed to its worker.
-    pub fn hand_out(&mut self, id: NodeId)
+    /// Counts the boots of a slave anew, where the step hands it to its worker.
+    pub fn give(&mut self, step: &Step)
         ensures { (now : ℕ) (past : Past) → Tries self.old past
-            → Tries self.new ((now, Gave (Boot id)) ∷ past) }
+            → Tries self.new ((now, Gave step.now) ∷ past) }
     {
-        let status = self.boots(id).status;
-        self.set(
-            id,
-            Boots {
-                attempts: 0,
-                status,
-            },
-        );
+        if let Step::Boot(id) = step {
+            let status = self.boots(*id).status;
+            self.set(
+                *id,
+                Boots {
+                    attempts: 0,
+                    status,
+                },
+            );
+        }
     }
 
     /// Counts the boots in an entry.

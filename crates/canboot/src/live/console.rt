@@ -1,16 +1,17 @@
 //! What a live run does for its operator.
 
-ghost use Rattle.std.specs.Prelude.{◌≡◌, ◌<◌, ◌^◌, ◌++◌, ◌∷◌, [], IfOk, None, Some};
+ghost use Rattle.std.specs.Prelude.{◌≡◌, ◌<◌, ◌^◌, ◌++◌, IfOk, Some};
 ghost use Rattle.cm_history.specs.declared.call.Call.TheVariants.{Request as RequestCall};
 ghost use Rattle.cm_live.specs.Console.{AsksPlainly, asked_by};
-ghost use Rattle.cm_live.specs.declared.console.Command.{Command as Asked};
+ghost use Rattle.cm_live.specs.Places.{LineStandsIn};
 ghost use Rattle.cm_netlist.specs.Network.{Network as NetworkList};
 ghost use Rattle.cm_watch.specs.Pasts.{Past};
 ghost use Rattle.cm_watch.specs.Watches.{Watches};
 ghost use Rattle.cm_watch.specs.declared.settings.Settings.{Settings as WatchSettings};
-ghost use Rattle.canboot.specs.Steps.{HasMadeOrNot, HasObeyed, calls_made};
-ghost use Rattle.canboot.specs.Going.{GoesOn};
-ghost use Rattle.canboot.specs.Asking.{is_start_of_all, no_boot_of};
+ghost use Rattle.cm_live.specs.declared.happening.Happening.TheVariants.{Typed};
+ghost use Rattle.canboot.specs.Steps.{HasMadeOrNot, HasObeyed, HasObeyedIf};
+ghost use Rattle.canboot.specs.Going.{Follows, HasTaken};
+ghost use Rattle.canboot.specs.Asking.{asked_of, asked_unless, is_start_of_all, no_boot_of};
 ghost use Rattle.cm_live.specs.declared.console.Command.TheVariants.{Start};
 
 use crate::live::ending::Ending;
@@ -95,7 +96,7 @@ impl<'w, 'a, 'n, R: Wait + Clock + Drop, K: RunName, B: BusName, M: LiveRegister
     fn request(&mut self, line: &TypedLine<B>, target: u8, value: u8) -> Result<(), Ending>
         ensures made { IfOk result
             (λ _. HasMadeOrNot (RequestCall target value) self.old.operator self.new.operator) }
-        ensures watch { self.new.progress.watch ≡ self.old.progress.watch }
+        ensures progress { self.new.progress ≡ self.old.progress }
         ensures network { self.new.network ≡ self.old.network }
     {
         let rt = self.setting.rt;
@@ -107,7 +108,7 @@ impl<'w, 'a, 'n, R: Wait + Clock + Drop, K: RunName, B: BusName, M: LiveRegister
     /// Starts the network: where all nodes are stopped, by a request to all.
     fn start(&mut self, line: &TypedLine<B>) -> Result<(), Ending>
         ensures made { IfOk result (λ _. HasObeyed Start self.old.operator self.new.operator) }
-        ensures watch { self.new.progress.watch ≡ self.old.progress.watch }
+        ensures progress { self.new.progress ≡ self.old.progress }
         ensures network { self.new.network ≡ self.old.network }
     {
         if is_start_of_all(&self.progress.watch) {
@@ -121,7 +122,10 @@ impl<'w, 'a, 'n, R: Wait + Clock + Drop, K: RunName, B: BusName, M: LiveRegister
     fn boot_now<E: Write>(&mut self, err: &mut E, id: NodeId, now: u64)
         requires { now < 2 ^ 63 }
         ensures calls { self.new.operator ≡ self.old.operator }
-        ensures goes_on { GoesOn self.old.network.now self.old.progress.watch self.new.network.now self.new.progress.watch }
+        ensures network { self.new.network ≡ self.old.network }
+        ensures told { (s : WatchSettings) (past : Past) → Follows self.old.progress self.old.network.now s past
+            → Follows self.new.progress self.old.network.now s
+            (asked_unless (no_boot_of self.old.network.now past id) id now ++ past) }
     {
         match no_boot(self.network, &self.progress.watch, id) {
             Some(none) => {
@@ -146,11 +150,13 @@ impl<'w, 'a, 'n, R: Wait + Clock + Drop, K: RunName, B: BusName, M: LiveRegister
         }
     }
 
-    /// Does what the operator has typed next.
+    /// Does what the operator has typed next, if there is a line.
     pub(crate) fn obey_next<E: Write>(&mut self, err: &mut E, now: u64) -> Result<(), Ending>
         requires { now < 2 ^ 63 }
-        ensures goes_on { IfOk result
-            (λ _. GoesOn self.old.network.now self.old.progress.watch self.new.network.now self.new.progress.watch) }
+        ensures obeyed { (s : WatchSettings) (past : Past) → Follows self.old.progress self.old.network.now s past
+            → IfOk result (λ _. HasTaken Typed self.old.setting.now.options.seconds B.typed
+            self.new.progress self.old.network.now s past now self.old.operator self.new.operator) }
+        ensures network { IfOk result (λ _. self.new.network ≡ self.old.network) }
     {
         match self.typed.try_recv(self.setting.rt) {
             Ok(line) => self.obey(err, &line, now),
@@ -169,8 +175,10 @@ impl<'w, 'a, 'n, R: Wait + Clock + Drop, K: RunName, B: BusName, M: LiveRegister
         requires time { now < 2 ^ 63 }
         requires plain { AsksPlainly command.now }
         ensures made { IfOk result (λ _. HasObeyed command.now self.old.operator self.new.operator) }
-        ensures goes_on { IfOk result
-            (λ _. GoesOn self.old.network.now self.old.progress.watch self.new.network.now self.new.progress.watch) }
+        ensures told { (s : WatchSettings) (past : Past) → Follows self.old.progress self.old.network.now s past
+            → IfOk result (λ _. Follows self.new.progress self.old.network.now s
+            (asked_of (Some command.now) self.old.network.now past now ++ past)) }
+        ensures network { IfOk result (λ _. self.new.network ≡ self.old.network) }
     {
         match command {
             Command::Make(call) => self.call(*call)?,
@@ -192,11 +200,12 @@ impl<'w, 'a, 'n, R: Wait + Clock + Drop, K: RunName, B: BusName, M: LiveRegister
     /// Does what a line asks for that the operator has typed.
     fn obey<E: Write>(&mut self, err: &mut E, line: &TypedLine<B>, now: u64) -> Result<(), Ending>
         requires { now < 2 ^ 63 }
-        ensures made { IfOk result (λ _. (c : Asked) → asked_by line.now.line ≡ Some c
-            → HasObeyed c self.old.operator self.new.operator) }
-        ensures none { asked_by line.now.line ≡ None → self.new.operator ≡ self.old.operator }
-        ensures goes_on { IfOk result
-            (λ _. GoesOn self.old.network.now self.old.progress.watch self.new.network.now self.new.progress.watch) }
+        ensures stands { LineStandsIn B.typed line.now.place line.now.line }
+        ensures made { IfOk result (λ _. HasObeyedIf (asked_by line.now.line) self.old.operator self.new.operator) }
+        ensures told { (s : WatchSettings) (past : Past) → Follows self.old.progress self.old.network.now s past
+            → IfOk result (λ _. Follows self.new.progress self.old.network.now s
+            (asked_of (asked_by line.now.line) self.old.network.now past now ++ past)) }
+        ensures network { IfOk result (λ _. self.new.network ≡ self.old.network) }
     {
         match read_command(line.line()) {
             Ok(command) => self.carry_out(err, line, &command, now),

@@ -1,6 +1,6 @@
 //! The lines that a live run tells beside those of entries.
 
-ghost use Rattle.std.specs.Prelude.{◌≡◌, Some};
+ghost use Rattle.std.specs.Prelude.{◌≡◌, Some, option_map};
 ghost use Rattle.canboot.specs.ToldLines.{back_words, bad_words, given_up_words, halted_by, halted_words, last_words};
 ghost use Rattle.canboot.specs.ToldLines.{left_out_words, mandatory_words, nearly_full_words, no_boot_words};
 ghost use Rattle.canboot.specs.ToldLines.{no_frames_words, running_words, stopped_words, time_over_words, times_words, unwatched_words};
@@ -190,31 +190,31 @@ impl<'a> fmt::Display for HaltedBy<'a> {
     }
 }
 
-/// The nodes that run on, if there are any.
+/// The nodes that run on, if there are any, or that they aren't known.
 #[derive(Drop)]
-struct Running<'a>(&'a Nodes);
+struct Running<'a>(&'a Option<Nodes>);
 
 impl<'a> fmt::Display for Running<'a> {
-    ghost output = { λ r. Some (running_words r.0.now.0.items) };
+    ghost output = { λ r. Some (running_words (option_map (λ n. n.0.items) r.0.now)) };
 
     fn fmt<W: fmt::Write>(&self, f: &mut fmt::Formatter<W>) -> fmt::Result {
-        if self.0.0.is_empty() {
-            Ok(())
-        } else {
-            write!(f, "; {} run on", self.0)
+        match self.0 {
+            None => write!(f, "; which nodes run on isn't known"),
+            Some(nodes) if nodes.0.is_empty() => Ok(()),
+            Some(nodes) => write!(f, "; {nodes} run on"),
         }
     }
 }
 
-/// That the network was halted with this entry, and which nodes run on.
+/// That the network was halted with this entry, and which nodes run on, if they are known.
 #[derive(Drop)]
 pub(crate) struct Halted<'a> {
     pub(crate) by: &'a Entry,
-    pub(crate) running: &'a Nodes,
+    pub(crate) running: &'a Option<Nodes>,
 }
 
 impl<'a> fmt::Display for Halted<'a> {
-    ghost output = { λ h. Some (halted_words h.by.now h.running.now.0.items) };
+    ghost output = { λ h. Some (halted_words h.by.now (option_map (λ n. n.0.items) h.running.now)) };
 
     fn fmt<W: fmt::Write>(&self, f: &mut fmt::Formatter<W>) -> fmt::Result {
         let by = HaltedBy(self.by);

@@ -1,11 +1,13 @@
 //! How far a live run has come.
 
-ghost use Rattle.std.specs.Prelude.{◌≡◌, ◌<◌, ◌^◌, [], ◌∷◌, IfOk, IfSome, Some};
+ghost use Rattle.std.specs.Prelude.{◌≡◌, ◌<◌, ◌^◌, [], ◌∷◌, false, IfNone, IfSome, OnOk, Some};
 ghost use Rattle.cm_netlist.specs.Network.{Network as NetworkList};
 ghost use Rattle.cm_watch.specs.Pasts.{Past};
 ghost use Rattle.cm_watch.specs.Signals.{state_heard};
+ghost use Rattle.cm_watch.specs.Tried.{may_change_boots};
 ghost use Rattle.cm_watch.specs.Watches.{Watches};
 ghost use Rattle.canboot.specs.Again.{HasHeardAgain, state_again};
+ghost use Rattle.canboot.specs.Going.{ComesNext, Follows};
 ghost use Rattle.cm_watch.specs.declared.happening.Happening.TheVariants.{Called};
 ghost use Rattle.cm_watch.specs.declared.happening.Moment.TheVariants.{Happened};
 ghost use Rattle.cm_watch.specs.declared.settings.Settings.{Settings as WatchSettings};
@@ -28,10 +30,10 @@ pub(crate) struct Progress<T> {
     pub(crate) tried: Tried,
 }
 
-impl<T: Drop> Progress<T> {
+impl Progress<Entry> {
     /// Nothing has happened.
-    pub(crate) fn new(alloc: Global, settings: Settings) -> Progress<T>
-        ensures { (net : NetworkList) → Watches result.watch net settings [] }
+    pub(crate) fn new(alloc: Global, settings: Settings) -> Progress<Entry>
+        ensures { (net : NetworkList) → Follows result net settings [] }
     {
         Progress {
             watch: Watch::new(settings),
@@ -39,31 +41,39 @@ impl<T: Drop> Progress<T> {
             tried: Tried::new(),
         }
     }
-}
 
-/// What the watch is told, and what an operator is told with it.
-pub(crate) fn note<E: Write>(
-    watch: &mut Watch,
-    tried: &Tried,
-    network: &Network,
-    err: &mut E,
-    happening: &Happening,
-    now: u64,
-)
-    requires { now < 2 ^ 63 }
-    ensures { (s : WatchSettings) (past : Past) → Watches watch.old network.now s past
-        → Watches watch.new network.now s ((now, Happened happening.now) ∷ past) }
-{
-    let told = watch.take(network, now, happening);
-    if let Some(id) = told.given_up {
-        if !watch.phase().is_halted() {
-            let _ = say(err, &given_up(tried, network, id));
+    /// What the watch is told beside entries, and what an operator is told with it.
+    pub(crate) fn note<E: Write>(
+        &mut self,
+        network: &Network,
+        err: &mut E,
+        happening: &Happening,
+        now: u64,
+    )
+        requires time { now < 2 ^ 63 }
+        requires other { may_change_boots (Happened happening.now) ≡ false }
+        ensures { (s : WatchSettings) (past : Past) → Follows self.old network.now s past
+            → Follows self.new network.now s ((now, Happened happening.now) ∷ past) }
+    {
+        let told = self.watch.take(network, now, happening);
+        if let Some(id) = told.given_up {
+            if !self.watch.phase().is_halted() {
+                let _ = say(err, &given_up(&self.tried, network, id));
+            }
         }
     }
-}
 
-impl Progress<Entry> {
-    /// An entry of the history is told to the watch, and waits to be told in words.
+    /// The entry that comes next in the history, where it has come.
+    pub(crate) fn next_entry(&mut self) -> Option<Entry>
+        ensures next { (net : NetworkList) (s : WatchSettings) (past : Past) → Follows self.old net s past
+            → IfSome result (ComesNext self.new net s past) }
+        ensures none { (net : NetworkList) (s : WatchSettings) (past : Past) → Follows self.old net s past
+            → IfNone result (Follows self.new net s past) }
+    {
+        self.waiting.next()
+    }
+
+    /// The entry that comes next is told to the watch, and waits to be told in words.
     pub(crate) fn take_entry(
         &mut self,
         network: &Network,
@@ -71,8 +81,8 @@ impl Progress<Entry> {
         now: u64,
     ) -> Result<(), AllocError>
         requires { now < 2 ^ 63 }
-        ensures { (s : WatchSettings) (past : Past) → Watches self.old.watch network.now s past
-            → Watches self.new.watch network.now s ((now, Happened (Called entry)) ∷ past) }
+        ensures { (s : WatchSettings) (past : Past) → ComesNext self.old network.now s past entry
+            → OnOk result (Follows self.new network.now s ((now, Happened (Called entry)) ∷ past)) }
     {
         let is_halted = self.watch.phase().is_halted();
         let told = self.watch.take(network, now, &Happening::Called(entry));

@@ -1,6 +1,9 @@
 //! What a live run says of what happens, each call behind its frames.
 
-ghost use Rattle.std.specs.Prelude.{◌≡◌, ◌⊎◌, []};
+ghost use Rattle.std.specs.Prelude.{◌≡◌, IfSome};
+ghost use Rattle.cm_watch.specs.Pasts.{Past};
+ghost use Rattle.cm_watch.specs.declared.settings.Settings.{Settings as WatchSettings};
+ghost use Rattle.canboot.specs.Going.{Follows};
 ghost use Rattle.canboot.specs.ToldLines.{AreRunningOn};
 
 use crate::live::nodes::{Nodes, running_by};
@@ -25,22 +28,21 @@ impl<'w, 'a, 'n, R: Wait + Clock + Drop, K: RunName, B: BusName, M: LiveRegister
     B,
     M,
 > {
-    /// The nodes that are operational now, as the manager knows it; none where there is no manager.
-    fn running(&self) -> Nodes
+    /// The nodes that are operational now, as the register's manager knows it, if the register gives one.
+    fn running(&self) -> Option<Nodes>
         ensures { self.now.network.now ≡ K.net
-            → (result.0.items ≡ []) ⊎ AreRunningOn K.net self.now.operator result.0.items }
+            → IfSome result (λ nodes. AreRunningOn K.net self.now.operator nodes.0.items) }
     {
         let seat = self.operator.as_seat();
-        match self.register.manager(self.setting.rt, seat) {
-            Some(manager) => running_by(self.network, &manager),
-            None => Nodes::new(),
-        }
+        let manager = self.register.manager(self.setting.rt, seat)?;
+        Some(running_by(self.network, &manager))
     }
 
     /// Tells the next entry that waits, if its frames were handed to the wire; at the end of the run, also if not. Whether
     /// it did.
     fn tell_next<E: Write>(&mut self, err: &mut E, handed: u64, is_end: bool) -> bool
-        ensures watch { self.new.progress.watch ≡ self.old.progress.watch }
+        ensures follows { (s : WatchSettings) (past : Past) → Follows self.old.progress self.old.network.now s past
+            → Follows self.new.progress self.old.network.now s past }
         ensures network { self.new.network ≡ self.old.network }
         ensures calls { self.new.operator ≡ self.old.operator }
     {
@@ -62,7 +64,7 @@ impl<'w, 'a, 'n, R: Wait + Clock + Drop, K: RunName, B: BusName, M: LiveRegister
         let running = if untold.told.is_halted {
             self.running()
         } else {
-            Nodes::new()
+            None
         };
         let _ = tell_told(err, &running, &untold.value, &untold.told);
         true
@@ -70,7 +72,8 @@ impl<'w, 'a, 'n, R: Wait + Clock + Drop, K: RunName, B: BusName, M: LiveRegister
 
     /// Tells what is to be told by now.
     pub(crate) fn tell<E: Write>(&mut self, err: &mut E, is_end: bool)
-        ensures watch { self.new.progress.watch ≡ self.old.progress.watch }
+        ensures follows { (s : WatchSettings) (past : Past) → Follows self.old.progress self.old.network.now s past
+            → Follows self.new.progress self.old.network.now s past }
         ensures network { self.new.network ≡ self.old.network }
         ensures calls { self.new.operator ≡ self.old.operator }
     {

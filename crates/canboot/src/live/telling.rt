@@ -1,6 +1,6 @@
 //! What a live run tells of its history, entry by entry.
 
-ghost use Rattle.std.specs.Prelude.{◌≡◌, IfSome, OnOk};
+ghost use Rattle.std.specs.Prelude.{◌≡◌, IfSome, OnOk, option_map};
 ghost use Rattle.cm_watch.specs.Pasts.{Past};
 ghost use Rattle.cm_watch.specs.Tried.{Tries, attempts_in, status_in};
 ghost use Rattle.std.specs.Fmt.{with_newline};
@@ -86,12 +86,12 @@ pub(crate) fn tell_entry<E: Write>(err: &mut E, words: &EntryWords<'_>) -> io::R
 /// Tells what became of the network and of slaves with an entry. Behind a failed write nothing more is told of it.
 pub(crate) fn tell_told<E: Write>(
     err: &mut E,
-    running: &Nodes,
+    running: &Option<Nodes>,
     entry: &Entry,
     told: &Told,
 ) -> io::Result<()>
     ensures { OnOk result (Appends (E.contents err.old) (E.contents err.new)
-        (told_lines told.now entry.now running.now.0.items)) }
+        (told_lines told.now entry.now (option_map (λ n. n.0.items) running.now))) }
 {
     say_if(err, told.is_stopped, &StoppedBy(entry))?;
     say_if(err, told.is_halted, &Halted { by: entry, running })?;

@@ -1,24 +1,25 @@
 //! How a live run goes on: what happens is told to the watch, and the steps that it gives are made.
 
-ghost use Rattle.std.specs.Prelude.{◌≡◌, ◌<◌, ◌^◌, ◌++◌, ◌∷◌, [], IfErr, IfNone, IfOk, IfSome, None, Some, length, slice_index_or};
+ghost use Rattle.std.specs.Prelude.{◌≡◌, ℕ, ◌<◌, ◌^◌, ◌++◌, ◌∷◌, [], false, length, slice_index_or};
+ghost use Rattle.std.specs.Prelude.{IfErr, IfNone, IfOk, IfSome, None, Some};
 ghost use Rattle.cm_netlist.specs.Network.{Network as NetworkList};
 ghost use Rattle.cm_netlist.specs.Workers.{worker_of};
 ghost use Rattle.cm_live.specs.Console.{IsOfWatch};
 ghost use Rattle.cm_watch.specs.Pasts.{Past};
 ghost use Rattle.cm_watch.specs.Steps.{given, steps_at};
-ghost use Rattle.cm_watch.specs.Watches.{Watches};
+ghost use Rattle.cm_watch.specs.Tried.{Tries, may_change_boots};
 ghost use Rattle.cm_watch.specs.declared.happening.Happening.TheVariants.{Ended, Heard};
-ghost use Rattle.cm_watch.specs.declared.happening.Moment.TheVariants.{Happened};
+ghost use Rattle.cm_watch.specs.declared.happening.Moment.TheVariants.{Gave, Happened};
 ghost use Rattle.cm_watch.specs.declared.settings.Settings.{Settings as WatchSettings};
 ghost use Rattle.canboot.specs.Ending.{is_ended_by};
-ghost use Rattle.canboot.specs.Going.{GoesOn, HasTaken, HasToldEntries};
+ghost use Rattle.canboot.specs.Going.{Follows, GoesOn, HasTaken, HasToldEntries};
 ghost use Rattle.canboot.specs.Steps.{HasMade, calls_made};
 
 use crate::live::ending::{Ending, can_go_on, is_ended_by};
 use crate::live::lines::{LeftOut, NoFrames, TimeOver};
 use crate::live::nodes::open_nodes;
 use crate::live::operator_seat::OperatorSeat;
-use crate::live::progress::{Progress, note, note_heartbeats};
+use crate::live::progress::{Progress, note_heartbeats};
 use crate::live::register::LiveRegister;
 use crate::live::setting::Setting;
 use crate::live::steps::call_of;
@@ -114,7 +115,7 @@ impl<'w, 'a, 'n, R: Wait + Clock + Drop, K: RunName, B: BusName, M: LiveRegister
     ) -> Watcher<'w, 'a, 'n, R, K, B, M>
         ensures operator { result.operator ≡ operator }
         ensures network { result.network ≡ setting.now.network }
-        ensures watch { (net : NetworkList) → Watches result.progress.watch net
+        ensures follows { (net : NetworkList) → Follows result.progress net
             (record { settle_ms = setting.now.options.settle_ms }) [] }
     {
         let settings = Settings {
@@ -152,45 +153,38 @@ impl<'w, 'a, 'n, R: Wait + Clock + Drop, K: RunName, B: BusName, M: LiveRegister
     pub(crate) fn call(&mut self, call: Call) -> Result<(), Ending>
         requires { IsOfWatch call }
         ensures made { IfOk result (λ _. calls_made self.new.operator ≡ calls_made self.old.operator ++ call ∷ []) }
-        ensures watch { self.new.progress.watch ≡ self.old.progress.watch }
+        ensures progress { self.new.progress ≡ self.old.progress }
         ensures network { self.new.network ≡ self.old.network }
     {
         self.operator.call(self.setting.rt, self.register, call)?;
         Ok(())
     }
 
-    /// What the watch is told, and what an operator is told with it.
+    /// What the watch is told beside entries, and what an operator is told with it.
     pub(crate) fn note<E: Write>(&mut self, err: &mut E, happening: &Watched, now: u64)
-        requires { now < 2 ^ 63 }
-        ensures told { (s : WatchSettings) (past : Past) → Watches self.old.progress.watch self.old.network.now s past
-            → Watches self.new.progress.watch self.old.network.now s ((now, Happened happening.now) ∷ past) }
+        requires time { now < 2 ^ 63 }
+        requires other { may_change_boots (Happened happening.now) ≡ false }
+        ensures told { (s : WatchSettings) (past : Past) → Follows self.old.progress self.old.network.now s past
+            → Follows self.new.progress self.old.network.now s ((now, Happened happening.now) ∷ past) }
         ensures calls { self.new.operator ≡ self.old.operator }
         ensures network { self.new.network ≡ self.old.network }
     {
-        let progress = &mut self.progress;
-        note(
-            &mut progress.watch,
-            &progress.tried,
-            self.network,
-            err,
-            happening,
-            now,
-        );
+        self.progress.note(self.network, err, happening, now);
     }
 
     /// The entries that come next in the history are told to the watch, and wait to be told in words.
     fn take_entries(&mut self, now: u64) -> Result<(), Ending>
         requires { now < 2 ^ 63 }
-        ensures told { (s : WatchSettings) (past : Past) → Watches self.old.progress.watch self.old.network.now s past
-            → IfOk result (λ _. HasToldEntries self.new.progress.watch self.old.network.now s past now) }
+        ensures told { (s : WatchSettings) (past : Past) → Follows self.old.progress self.old.network.now s past
+            → IfOk result (λ _. HasToldEntries self.new.progress self.old.network.now s past now) }
         ensures network { self.new.network ≡ self.old.network }
         ensures calls { self.new.operator ≡ self.old.operator }
     {
         for _ in self.setting.rt.forever() {
-            let Some(entry) = self.progress.waiting.next() else {
-                break;
-            };
-            self.progress.take_entry(self.network, entry, now)?;
+            match self.progress.next_entry() {
+                Some(entry) => self.progress.take_entry(self.network, entry, now)?,
+                None => break,
+            }
         }
         Ok(())
     }
@@ -198,8 +192,8 @@ impl<'w, 'a, 'n, R: Wait + Clock + Drop, K: RunName, B: BusName, M: LiveRegister
     /// An entry of the history was recorded, before which so many stand.
     pub(crate) fn enter(&mut self, position: u64, entry: Entry, now: u64) -> Result<(), Ending>
         requires { now < 2 ^ 63 }
-        ensures told { (s : WatchSettings) (past : Past) → Watches self.old.progress.watch self.old.network.now s past
-            → IfOk result (λ _. HasToldEntries self.new.progress.watch self.old.network.now s past now) }
+        ensures told { (s : WatchSettings) (past : Past) → Follows self.old.progress self.old.network.now s past
+            → IfOk result (λ _. HasToldEntries self.new.progress self.old.network.now s past now) }
         ensures network { self.new.network ≡ self.old.network }
         ensures calls { self.new.operator ≡ self.old.operator }
     {
@@ -216,8 +210,9 @@ impl<'w, 'a, 'n, R: Wait + Clock + Drop, K: RunName, B: BusName, M: LiveRegister
         now: u64,
     ) -> Result<(), Ending>
         requires { now < 2 ^ 63 }
-        ensures told { (s : WatchSettings) (past : Past) → Watches self.old.progress.watch self.old.network.now s past
-            → IfOk result (λ _. Watches self.new.progress.watch self.old.network.now s ((now, Happened (Ended id)) ∷ past)) }
+        ensures told { (s : WatchSettings) (past : Past) → Follows self.old.progress self.old.network.now s past
+            → IfOk result (λ _. Follows self.new.progress self.old.network.now s ((now, Happened (Ended id)) ∷ past)) }
+        ensures calls { self.new.operator ≡ self.old.operator }
         ensures network { self.new.network ≡ self.old.network }
     {
         if let Some(fault) = fault {
@@ -230,8 +225,9 @@ impl<'w, 'a, 'n, R: Wait + Clock + Drop, K: RunName, B: BusName, M: LiveRegister
     /// An error control message of a node came, which is news.
     fn hear<E: Write>(&mut self, err: &mut E, id: NodeId, byte: u8, now: u64)
         requires { now < 2 ^ 63 }
-        ensures told { (s : WatchSettings) (past : Past) → Watches self.old.progress.watch self.old.network.now s past
-            → Watches self.new.progress.watch self.old.network.now s ((now, Happened (Heard id byte)) ∷ past) }
+        ensures told { (s : WatchSettings) (past : Past) → Follows self.old.progress self.old.network.now s past
+            → Follows self.new.progress self.old.network.now s ((now, Happened (Heard id byte)) ∷ past) }
+        ensures calls { self.new.operator ≡ self.old.operator }
         ensures network { self.new.network ≡ self.old.network }
     {
         self.note(err, &Watched::Heard(id, byte), now);
@@ -240,9 +236,10 @@ impl<'w, 'a, 'n, R: Wait + Clock + Drop, K: RunName, B: BusName, M: LiveRegister
     /// Takes one thing that has happened.
     fn take<E: Write>(&mut self, err: &mut E, happening: Happening, now: u64) -> Result<(), Ending>
         requires { now < 2 ^ 63 }
-        ensures told { (s : WatchSettings) (past : Past) → Watches self.old.progress.watch self.old.network.now s past
-            → IfOk result (λ _. HasTaken happening self.new.progress.watch self.old.network.now s past now) }
-        ensures network { IfOk result (λ _. self.new.network.now ≡ self.old.network.now) }
+        ensures told { (s : WatchSettings) (past : Past) → Follows self.old.progress self.old.network.now s past
+            → IfOk result (λ _. HasTaken happening self.old.setting.now.options.seconds B.typed
+            self.new.progress self.old.network.now s past now self.old.operator self.new.operator) }
+        ensures network { IfOk result (λ _. self.new.network ≡ self.old.network) }
     {
         match happening {
             Happening::Entered(position, entry) => self.enter(position, entry, now)?,
@@ -251,7 +248,7 @@ impl<'w, 'a, 'n, R: Wait + Clock + Drop, K: RunName, B: BusName, M: LiveRegister
             Happening::Typed => self.obey_next(err, now)?,
             Happening::NoMoreTyped => {
                 let rest_ms = u64::from(self.setting.options.seconds) * 1000;
-                self.note(err, &Watched::Ends(now.saturating_add(rest_ms)), now);
+                self.note(err, &Watched::Ends(now + rest_ms), now);
             }
             Happening::NoFrames => {
                 let _ = say(err, &NoFrames(self.setting.options.format));
@@ -268,7 +265,7 @@ impl<'w, 'a, 'n, R: Wait + Clock + Drop, K: RunName, B: BusName, M: LiveRegister
         happenings: &Receiver<Happening>,
     ) -> Result<(), Ending>
         ensures goes_on { IfOk result
-            (λ _. GoesOn self.old.network.now self.old.progress.watch self.new.network.now self.new.progress.watch) }
+            (λ _. GoesOn self.old.network.now self.old.progress self.new.network.now self.new.progress) }
     {
         let wait = Duration::from_millis(TURN_MS);
         let mut next = happenings.recv_timeout(self.setting.rt, wait).ok();
@@ -286,12 +283,15 @@ impl<'w, 'a, 'n, R: Wait + Clock + Drop, K: RunName, B: BusName, M: LiveRegister
     /// Makes a step: its call, if it has one.
     fn make<E: Write>(&mut self, err: &mut E, step: &Step) -> Result<(), Ending>
         ensures made { IfOk result (λ _. HasMade (step.now ∷ []) self.old.operator self.new.operator) }
+        ensures tries { (now : ℕ) (past : Past) → Tries self.old.progress.tried past
+            → Tries self.new.progress.tried ((now, Gave step.now) ∷ past) }
+        ensures waiting { self.new.progress.waiting ≡ self.old.progress.waiting }
         ensures watch { self.new.progress.watch ≡ self.old.progress.watch }
         ensures network { self.new.network ≡ self.old.network }
     {
+        self.progress.tried.give(step);
         match step {
             Step::Boot(id) => {
-                self.progress.tried.hand_out(*id);
                 let listed = self.network.listed_ids();
                 if let Some(jobs) = jobs_of(listed.as_slice(), self.jobs.as_slice(), *id) {
                     let _ = jobs.send(self.setting.rt, *id);
@@ -315,12 +315,12 @@ impl<'w, 'a, 'n, R: Wait + Clock + Drop, K: RunName, B: BusName, M: LiveRegister
     /// Makes the steps that the watch gives now. Whether the run ends with them.
     fn make_steps<E: Write>(&mut self, err: &mut E, now: u64) -> Result<bool, Ending>
         requires { now < 2 ^ 63 }
-        ensures made { (s : WatchSettings) (past : Past) → Watches self.old.progress.watch self.old.network.now s past
+        ensures made { (s : WatchSettings) (past : Past) → Follows self.old.progress self.old.network.now s past
             → IfOk result (λ _. HasMade (steps_at self.old.network.now s past now) self.old.operator self.new.operator) }
-        ensures given { (s : WatchSettings) (past : Past) → Watches self.old.progress.watch self.old.network.now s past
-            → IfOk result (λ _. Watches self.new.progress.watch self.old.network.now s
+        ensures given { (s : WatchSettings) (past : Past) → Follows self.old.progress self.old.network.now s past
+            → IfOk result (λ _. Follows self.new.progress self.old.network.now s
             (given now (steps_at self.old.network.now s past now) past)) }
-        ensures ended { (s : WatchSettings) (past : Past) → Watches self.old.progress.watch self.old.network.now s past
+        ensures ended { (s : WatchSettings) (past : Past) → Follows self.old.progress self.old.network.now s past
             → IfOk result (λ ended. ended ≡ is_ended_by (steps_at self.old.network.now s past now)) }
         ensures network { self.new.network ≡ self.old.network }
     {
@@ -339,7 +339,7 @@ impl<'w, 'a, 'n, R: Wait + Clock + Drop, K: RunName, B: BusName, M: LiveRegister
         happenings: &Receiver<Happening>,
     ) -> Result<(), Ending>
         ensures goes_on { IfOk result
-            (λ _. GoesOn self.old.network.now self.old.progress.watch self.new.network.now self.new.progress.watch) }
+            (λ _. GoesOn self.old.network.now self.old.progress self.new.network.now self.new.progress) }
     {
         self.take_all(err, happenings)?;
         let now = self.now();

@@ -1,8 +1,15 @@
-use Rattle.std.proofs.Common.{ap}
-use Rattle.canboot.proofs.Going.{one_more}
+use Rattle.std.proofs.Common.{◌∙◌, ◌++◌, Option, sym, subst}
+use Rattle.canboot.specs.Asking.{asked_unless}
+use Rattle.canboot.specs.Going.{Follows}
+use Rattle.canboot.specs.declared.live.console.NoBoot.{NoBoot}
 use Rattle.canboot.proofs.live.watching.Watcher.boot_now.Goals as goal
 
-pub returns-in-None-clause-goes_on : goal.returns-in-None-clause-goes_on
-returns-in-None-clause-goes_on g c =
-    one_more c.args.self.now.network.now c.args.self.now.progress.watch c.note.new.self.network.now c.note.new.self.progress.watch c.args.now _
-    (ap (λ n. n.now) c.note.ensures.network) c.note.ensures.told
+pub returns-in-Some-clause-told : goal.returns-in-Some-clause-told
+returns-in-Some-clause-told g c = λ s past f.
+    subst (λ (o : Option NoBoot). Follows c.args.self.now.progress c.args.self.now.network.now s (asked_unless o c.args.id c.args.now ++ past))
+    (sym c.in-Some.is ∙ c.no_boot.ensures s past f.watches) f
+
+pub returns-in-None-clause-told : goal.returns-in-None-clause-told
+returns-in-None-clause-told g c = λ s past f.
+    subst (λ (o : Option NoBoot). Follows c.note.new.self.progress c.args.self.now.network.now s (asked_unless o c.args.id c.args.now ++ past))
+    (sym c.in-None.is ∙ c.no_boot.ensures s past f.watches) (c.note.ensures.told s past f)

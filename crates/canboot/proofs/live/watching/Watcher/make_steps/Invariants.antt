@@ -1,9 +1,17 @@
 use Rattle.std.proofs.Common.{◌≡◌, take}
+use Rattle.cm_watch.specs.Pasts.{Past}
+use Rattle.cm_watch.specs.Steps.{given}
+use Rattle.cm_watch.specs.Tried.{Tries}
 use Rattle.canboot.specs.Steps.{HasMade}
 use Rattle.canboot.proofs.live.watching.Watcher.make_steps.Given as goal
 
--- the steps so far were made, and the watch is the one that gave them
+-- the steps so far were made, and what came of the boots is what it is behind them; the watch is the one that gave them
 abbrev pub invariant-loop-step : goal.invariant-loop-step
-invariant-loop-step g l =
-    HasMade (take l.step-index l.step-items) l.fn.self.operator l.self.operator × (l.self.progress.watch ≡ l.initial.self.progress.watch)
-    × (l.self.network ≡ l.initial.self.network)
+invariant-loop-step g l = record {
+  made : HasMade (take l.step-index l.step-items) l.fn.self.operator l.self.operator;
+  tries : (past : Past) → Tries l.initial.self.progress.tried past
+      → Tries l.self.progress.tried (given l.now (take l.step-index l.step-items) past);
+  waiting : l.self.progress.waiting ≡ l.initial.self.progress.waiting;
+  watch : l.self.progress.watch ≡ l.initial.self.progress.watch;
+  network : l.self.network ≡ l.initial.self.network;
+}

@@ -1,3 +1,4 @@
+use Rattle.std.proofs.Common.{ap}
 use Rattle.canboot.proofs.Going.{happened_on, on_and_on}
 use Rattle.canboot.proofs.live.watching.Watcher.take_all.Goals as goal
 
@@ -5,5 +6,6 @@ pub loop-preserved : goal.loop-preserved
 loop-preserved g c =
     let before = c.loop.self in
     let after = c.take.new.self in
-    on_and_on c.args.self.now.network.now c.args.self.now.progress.watch before.network.now before.progress.watch after.network.now after.progress.watch c.loop.invariant
-    (happened_on c.in-Some.happening before.network.now before.progress.watch after.network.now after.progress.watch c.now-now.result c.in_ok-take.ensures.network c.in_ok-take.ensures.told)
+    on_and_on c.args.self.now.network.now c.args.self.now.progress before.network.now before.progress after.network.now after.progress c.loop.invariant
+    (happened_on c.in-Some.happening before.setting.now.options.seconds g.B.BusName.typed before.network.now before.progress after.network.now after.progress c.now-now.result
+    before.operator after.operator (ap (λ n. n.now) c.in_ok-take.ensures.network) c.in_ok-take.ensures.told)
