@@ -12,3 +12,4 @@ pub mod Calls
 pub mod Steps
 pub mod Going
 pub mod Filters
+pub mod JournalNames

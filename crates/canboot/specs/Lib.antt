@@ -11,5 +11,6 @@ pub mod Workers
 pub mod Heard
 pub mod Operated
 pub use Rattle.canboot_check.specs.Check
+pub mod JournalNames
 pub mod Words
 pub mod ToldLines
