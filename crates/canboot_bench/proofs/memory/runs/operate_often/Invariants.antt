@@ -1,5 +1,5 @@
 use Rattle.cm_past.specs.Unnamed.{log_of}
-use Rattle.canboot_gate.proofs.memory.runs.operate_often.Given as goal
+use Rattle.canboot_bench.proofs.memory.runs.operate_often.Given as goal
 
 abbrev pub ghosts-operates-K-Ledger : goal.ghosts-operates-K-Ledger
 ghosts-operates-K-Ledger g a = record { name = a.opened.blank.name; parts = a.opened.seats }

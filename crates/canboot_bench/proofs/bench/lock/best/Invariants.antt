@@ -1,5 +1,5 @@
 use Rattle.cm_past.specs.Unnamed.{log_of}
-use Rattle.canboot_gate.proofs.bench.lock.best.Given as goal
+use Rattle.canboot_bench.proofs.bench.lock.best.Given as goal
 
 abbrev pub ghosts-run_book-K-Ledger : goal.ghosts-run_book-K-Ledger
 ghosts-run_book-K-Ledger g a = record { name = a.opened.blank.name; parts = a.opened.seats }
