@@ -42,6 +42,17 @@ struct Head<'a> {
     journal: Option<&'a str>,
 }
 
+/// The same, but for the journal, with the words of the command as they stand there.
+#[derive(Clone, Copy)]
+struct Stated<'f, 'a> {
+    name: &'a str,
+    command: &'f [&'a str],
+    input: &'a str,
+    out: &'a str,
+    err: &'a str,
+    status: u8,
+}
+
 impl<'a> Case<'a> {
     /// Takes a case, unless it is misspelled.
     pub fn read(alloc: Global, scanner: &mut Scanner<'a>) -> Result<Option<Case<'a>>, AllocError> {
@@ -75,16 +86,8 @@ impl<'a> Case<'a> {
     }
 }
 
-/// `case NAME COMMAND in S out S err S status N`, and then perhaps ` journal S`.
-fn read_head<'a>(alloc: Global, line: &'a str) -> Result<Option<Head<'a>>, AllocError> {
-    let mut fields: Vec<&'a str> = Vec::new(alloc);
-    for field in line.split(' ') {
-        fields.push(field)?;
-    }
-    let (stated, journal) = match fields.as_slice() {
-        [stated @ .., "journal", journal] => (stated, Some(*journal)),
-        stated => (stated, None),
-    };
+/// `case NAME COMMAND in S out S err S status N`.
+fn stated_in<'f, 'a>(fields: &'f [&'a str]) -> Option<Stated<'f, 'a>> {
     let [
         "case",
         name,
@@ -97,20 +100,40 @@ fn read_head<'a>(alloc: Global, line: &'a str) -> Result<Option<Head<'a>>, Alloc
         err,
         "status",
         status,
-    ] = stated
+    ] = fields
     else {
-        return Ok(None);
+        return None;
     };
-    let Ok(status) = status.parse::<u8>() else {
-        return Ok(None);
-    };
-    Ok(Some(Head {
+    Some(Stated {
         name: *name,
-        words: words_of(alloc, command)?,
+        command,
         input: *input,
         out: *out,
         err: *err,
-        status,
+        status: status.parse::<u8>().ok()?,
+    })
+}
+
+/// The same, and then perhaps ` journal S`.
+fn read_head<'a>(alloc: Global, line: &'a str) -> Result<Option<Head<'a>>, AllocError> {
+    let mut fields: Vec<&'a str> = Vec::new(alloc);
+    for field in line.split(' ') {
+        fields.push(field)?;
+    }
+    let (stated, journal) = match fields.as_slice() {
+        [stated @ .., "journal", journal] => (stated, Some(*journal)),
+        stated => (stated, None),
+    };
+    let Some(stated) = stated_in(stated) else {
+        return Ok(None);
+    };
+    Ok(Some(Head {
+        name: stated.name,
+        words: words_of(alloc, stated.command)?,
+        input: stated.input,
+        out: stated.out,
+        err: stated.err,
+        status: stated.status,
         journal,
     }))
 }
