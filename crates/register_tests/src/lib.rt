@@ -1,8 +1,15 @@
-//! What no contract says of the register: that it opens, that its calls are made and that it closes,
-//! in one thread and in many; that each seat reads without the lock, that reads see the
-//! calls of all seats, and that they go on while a call is made. One file for each topic.
+//! What no contract says of a register, in one thread and in many: that it opens, that its calls are made and that it closes;
+//! that each seat reads without the lock, that reads see the calls of all seats, and that they go on while a call is made;
+//! and of what is done over it: that workers boot the slaves of a network, in threads of their own, and that a seat reads
+//! beside them. One file for each topic.
 #![tactic(auto)]
 
+#[cfg(test)]
+mod beside;
+#[cfg(test)]
+mod boot_support;
+#[cfg(test)]
+mod boots;
 #[cfg(test)]
 mod closing;
 #[cfg(test)]
@@ -12,18 +19,32 @@ mod first_use;
 #[cfg(test)]
 mod holding;
 #[cfg(test)]
+mod live_bus;
+#[cfg(test)]
 mod one_book;
 #[cfg(test)]
 mod one_seat;
 #[cfg(test)]
 mod opening;
 #[cfg(test)]
+mod operator;
+#[cfg(test)]
 mod readers;
+#[cfg(test)]
+mod reading;
 #[cfg(test)]
 mod reads;
 #[cfg(test)]
+mod rounds;
+#[cfg(test)]
+mod routed;
+#[cfg(test)]
 mod seats;
+#[cfg(test)]
+mod side_by_side;
 #[cfg(test)]
 mod support;
 #[cfg(test)]
 mod threads;
+#[cfg(test)]
+mod workers;

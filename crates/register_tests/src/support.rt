@@ -1,4 +1,4 @@
-//! What the tests of several topics call and assert.
+//! What the tests of the register and its readers call and assert.
 
 ghost use Rattle.cm_register.specs.Naming.{Names};
 

@@ -1,0 +1,317 @@
+//! A bus whose frames are written down before: which frame is taken as the answer of a question, what is sent, and
+//! what stands in the log; lines that are cut, and heartbeats that are news.
+
+use crate::boot_support::{node, sure};
+use cm_boot::{Answer, Bus, Question};
+use cm_can::{CanFrame, read_frame};
+use cm_live::{Event, Format, FrameCutter, Heartbeats, LineCutter, LiveBus, Port, Received};
+use cm_netlist::Network;
+use cm_nmt::{NmtState, NodeId, Startup, Write};
+use std::alloc::{AllocError, Global};
+use std::collections::VecDeque;
+use std::marker::Brand;
+use std::process::Abort;
+
+/// A port that hears these frames, in order, once a question is asked. So many bytes of their lines were read before.
+#[derive(Drop)]
+struct Written {
+    frames: VecDeque<Received<Brand>>,
+    read: u64,
+}
+
+impl Port<Brand> for Written {
+    fn listen(&mut self, _node: NodeId, _question: &Question, _wait_ms: u32) {}
+
+    fn received(&self) -> u64 {
+        self.read
+    }
+
+    fn send(&mut self, _frame: &CanFrame) {}
+
+    fn hear(&mut self) -> Option<Received<Brand>> {
+        self.frames.pop_front()
+    }
+}
+
+/// The frames of these lines of can-utils, on a bus of which nothing is known.
+fn frames_in(alloc: Global, text: &[u8]) -> Result<VecDeque<Received<Brand>>, AllocError> {
+    let mut frames = VecDeque::new(alloc);
+    if text.len() > 65_536 {
+        return Err(AllocError);
+    }
+    let mut cutter = FrameCutter::<Brand>::new(Format::CanUtils);
+    for byte in text {
+        if let Some(received) = cutter.take(*byte) {
+            frames.push_back(received)?;
+        }
+    }
+    Ok(frames)
+}
+
+fn frame_of(rt: &impl Abort, text: &str) -> CanFrame {
+    read_frame(text.as_bytes()).expect(rt, "a frame")
+}
+
+/// Adds these bytes.
+fn add(rt: &impl Abort, lines: &mut Vec<u8>, bytes: &[u8]) {
+    lines.extend_from_slice(bytes).ok().expect(rt, "memory");
+}
+
+/// The lines of these frames.
+fn lines_of(rt: &impl Abort, alloc: Global, heard: &[&str]) -> Vec<u8> {
+    let mut lines = Vec::new(alloc);
+    for text in heard {
+        add(rt, &mut lines, b"(0.0) can0 ");
+        add(rt, &mut lines, text.as_bytes());
+        add(rt, &mut lines, b"\n");
+    }
+    lines
+}
+
+/// What a question over a bus comes to.
+#[derive(Clone, Copy)]
+struct Outcome {
+    answer: Answer,
+    /// How many events stand in the log before the last.
+    before: usize,
+    last: Event,
+}
+
+/// Asserts what the question comes to, which node 2 is asked over this bus.
+fn gives(
+    rt: &impl Abort,
+    bus: &mut LiveBus<'_, Brand, Written>,
+    question: Question,
+    outcome: Outcome,
+) {
+    let given = bus.ask(node(rt, 2), question);
+    sure(rt, given == outcome.answer);
+    sure(rt, bus.log().len() == outcome.before.saturating_add(1));
+    sure(rt, bus.log().last().copied() == Some(outcome.last));
+}
+
+/// Asks node 2 the question over a bus of which so many bytes were read, and which hears these lines.
+fn comes_to(
+    rt: &impl Abort,
+    alloc: Global,
+    question: Question,
+    lines: &[u8],
+    read: u64,
+    outcome: Outcome,
+) {
+    let network = Network::new(alloc, node(rt, 1), Startup(1), 0);
+    let frames = frames_in(alloc, lines).ok().expect(rt, "memory");
+    let bus = LiveBus::new(alloc, &network, 300, Written { frames, read });
+    let mut bus = bus.ok().expect(rt, "memory");
+    gives(rt, &mut bus, question, outcome);
+}
+
+/// Asks node 2 the question over a bus that hears these frames: it gets this answer, and the log ends with this
+/// event behind so many others.
+fn is_answered(
+    rt: &impl Abort,
+    alloc: Global,
+    question: Question,
+    heard: &[&str],
+    answer: Answer,
+    before: usize,
+    last: Event,
+) {
+    let outcome = Outcome {
+        answer,
+        before,
+        last,
+    };
+    let lines = lines_of(rt, alloc, heard);
+    comes_to(rt, alloc, question, lines.as_slice(), 0, outcome);
+}
+
+#[test]
+fn the_first_frame_that_answers_is_taken(rt: HostRuntime) {
+    let value = "582#4318100123010000";
+    // another node's, of another index, of another sub-index, of another command, the client's own, a remote frame
+    let others = [
+        "583#4318100123040000",
+        "582#4300100092010200",
+        "582#4318100299040000",
+        "582#6018100100000000",
+        "602#4018100100000000",
+        "582#R",
+        value,
+        "582#4318100177770000",
+    ];
+    is_answered(
+        &rt,
+        rt.alloc(),
+        Question::Read(0x1018, 1),
+        &others,
+        Answer::Value(0x123),
+        7,
+        Event::Heard(frame_of(&rt, value)),
+    );
+}
+
+#[test]
+fn a_question_without_an_answer_is_aborted(rt: HostRuntime) {
+    is_answered(
+        &rt,
+        rt.alloc(),
+        Question::Read(0x1000, 0),
+        &["582#4318100123010000"],
+        Answer::Silent,
+        3,
+        Event::Sent(frame_of(&rt, "602#8000100000000405")),
+    );
+    let write = Write::new(0x6200, 1, 2, 0x1234);
+    is_answered(
+        &rt,
+        rt.alloc(),
+        Question::Write(write),
+        &[],
+        Answer::Silent,
+        2,
+        Event::Sent(frame_of(&rt, "602#8000620100000405")),
+    );
+}
+
+#[test]
+fn a_segmented_upload_is_aborted(rt: HostRuntime) {
+    is_answered(
+        &rt,
+        rt.alloc(),
+        Question::Read(0x1018, 1),
+        &["582#4118100110000000"],
+        Answer::Abort(0x0504_0001),
+        2,
+        Event::Sent(frame_of(&rt, "602#8018100101000405")),
+    );
+}
+
+#[test]
+fn a_heartbeat_is_waited_for(rt: HostRuntime) {
+    let beat = "702#05";
+    // nothing is sent; a boot-up message tells no state
+    is_answered(
+        &rt,
+        rt.alloc(),
+        Question::Beat,
+        &["702#00", "703#7F", beat],
+        Answer::State(NmtState::Operational),
+        2,
+        Event::Heard(frame_of(&rt, beat)),
+    );
+    is_answered(
+        &rt,
+        rt.alloc(),
+        Question::StateByBeat,
+        &[],
+        Answer::Silent,
+        0,
+        Event::Expired,
+    );
+}
+
+#[test]
+fn so_many_other_frames_are_silence(rt: HostRuntime) {
+    let other = "582#4300100092010200";
+    let others = [other; 65];
+    let value = "582#4318100123010000";
+    is_answered(
+        &rt,
+        rt.alloc(),
+        Question::Read(0x1018, 1),
+        &others,
+        Answer::Silent,
+        66,
+        Event::Sent(frame_of(&rt, "602#8018100100000405")),
+    );
+    let mut few = [other; 65];
+    few[64] = value;
+    is_answered(
+        &rt,
+        rt.alloc(),
+        Question::Read(0x1018, 1),
+        &few,
+        Answer::Silent,
+        66,
+        Event::Sent(frame_of(&rt, "602#8018100100000405")),
+    );
+    few[63] = value;
+    is_answered(
+        &rt,
+        rt.alloc(),
+        Question::Read(0x1018, 1),
+        &few,
+        Answer::Value(0x123),
+        64,
+        Event::Heard(frame_of(&rt, value)),
+    );
+}
+
+#[test]
+fn a_late_answer_is_none(rt: HostRuntime) {
+    let value = "582#4318100123010000";
+    let late = lines_of(&rt, rt.alloc(), &["582#4318100177770000"]);
+    let lines = lines_of(&rt, rt.alloc(), &["582#4318100177770000", value]);
+    let (read, all) = (late.len() as u64, lines.len() as u64);
+    let question = Question::Read(0x1018, 1);
+    let answered = Outcome {
+        answer: Answer::Value(0x123),
+        before: 1,
+        last: Event::Heard(frame_of(&rt, value)),
+    };
+    let lines = lines.as_slice();
+    // the first line was read before the request was sent, the second behind it
+    comes_to(&rt, rt.alloc(), question, lines, read, answered);
+    // of the second all but its last byte was read before
+    let but_one = all.saturating_sub(1);
+    comes_to(&rt, rt.alloc(), question, lines, but_one, answered);
+    // all of it was
+    let silent = Outcome {
+        answer: Answer::Silent,
+        before: 2,
+        last: Event::Sent(frame_of(&rt, "602#8018100100000405")),
+    };
+    comes_to(&rt, rt.alloc(), question, lines, all, silent);
+}
+
+/// How many lines the bytes end, of which each is `ok`.
+fn count_lines<R: Abort>(rt: &R, lines: &mut LineCutter, bytes: &[u8]) -> u32 {
+    let mut count = 0u32;
+    for byte in bytes {
+        if lines.take(*byte) {
+            sure(rt, lines.line() == b"ok".as_slice());
+            count = count.saturating_add(1);
+        }
+    }
+    count
+}
+
+#[test]
+fn a_long_line_is_passed_over(rt: HostRuntime) {
+    let mut lines = LineCutter::new();
+    sure(&rt, count_lines(&rt, &mut lines, b"ok\nok\r\n\n\rok") == 2);
+    sure(&rt, count_lines(&rt, &mut lines, b"\n") == 1);
+    let noise = [b'x'; 1000];
+    for _part in 0..1000u32 {
+        sure(&rt, count_lines(&rt, &mut lines, &noise) == 0);
+    }
+    sure(&rt, count_lines(&rt, &mut lines, b"ok\nok\n") == 1);
+}
+
+#[test]
+fn only_another_state_is_news(rt: HostRuntime) {
+    let heartbeats = Heartbeats::new(rt.alloc());
+    let heartbeats = heartbeats.ok().expect(&rt, "memory");
+    let two = node(&rt, 2);
+    sure(&rt, heartbeats.last(two).is_none());
+    sure(&rt, heartbeats.hear(two, 0, 0));
+    sure(&rt, heartbeats.last(two) == Some((0, 0)));
+    sure(&rt, heartbeats.hear(two, 0, 10));
+    sure(&rt, heartbeats.hear(two, 0x7F, 20));
+    sure(&rt, !heartbeats.hear(two, 0x7F, 30));
+    sure(&rt, !heartbeats.hear(two, 0xFF, 40));
+    sure(&rt, heartbeats.hear(two, 5, 50));
+    sure(&rt, heartbeats.last(two) == Some((50, 5)));
+    sure(&rt, heartbeats.last(node(&rt, 3)).is_none());
+}

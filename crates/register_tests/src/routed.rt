@@ -1,0 +1,194 @@
+//! Whom a frame is given to that is received of a bus: the worker of its node, while it listens to its identifier.
+
+use crate::boot_support::{node, sure};
+use cm_boot::Question;
+use cm_can::{CanFrame, read_frame};
+use cm_live::{
+    Format, Happening, Heartbeats, Listening, LivePort, Outlet, Port, Received, Routes, Source,
+};
+use cm_nmt::NodeId;
+use crossbeam_channel::{Receiver, Sender};
+use std::alloc::Global;
+use std::io::{self, Read};
+use std::marker::Brand;
+use std::process::Abort;
+use std::sync::atomic::AtomicBool;
+use std::sync::{Arc, Wait};
+use std::time::{Clock, Instant};
+
+/// What is received of a bus of which contracts know nothing.
+#[derive(Drop)]
+struct Lines {
+    left: &'static [u8],
+}
+
+impl Read for Lines {
+    fn read(&mut self, buf: &mut [u8]) -> io::Result<usize> {
+        if let (Some((first, rest)), Some(place)) = (self.left.split_first(), buf.first_mut()) {
+            *place = *first;
+            self.left = rest;
+            return Ok(1);
+        }
+        Ok(0)
+    }
+}
+
+/// The port of this worker, and by what it gets frames.
+fn make_port<R: Wait + Clock + Clone + Drop + Abort>(
+    rt: &R,
+    alloc: Global,
+    listening: &Arc<Listening>,
+    worker: usize,
+) -> (LivePort<R, Brand, Vec<u8>>, Sender<Received<Brand>>) {
+    let channel = crossbeam_channel::unbounded(alloc);
+    let (hears, heard) = channel.ok().expect(rt, "a channel");
+    let broken = Arc::new(alloc, AtomicBool::new(false));
+    let port = LivePort {
+        rt: rt.clone().ok().expect(rt, "memory"),
+        worker,
+        heard,
+        listening: Arc::try_clone(listening).ok().expect(rt, "memory"),
+        outlet: Outlet::new(Vec::new(alloc), Format::CanUtils),
+        broken: broken.ok().expect(rt, "memory"),
+        deadline: None,
+    };
+    (port, hears)
+}
+
+/// The frames that wait for a worker are these, in this order.
+fn wait_there<R: Abort + Wait>(rt: &R, heard: &Receiver<Received<Brand>>, texts: &[&str]) {
+    for text in texts {
+        let frame: Option<CanFrame> = match heard.try_recv(rt) {
+            Ok(received) => Some(received.frame()),
+            Err(_) => None,
+        };
+        sure(rt, frame.is_some());
+        sure(rt, frame == read_frame(text.as_bytes()));
+    }
+    sure(rt, heard.try_recv(rt).is_err());
+}
+
+/// Nodes 2, 3 and 5.
+fn listed(rt: &impl Abort, alloc: Global) -> Vec<NodeId> {
+    let mut listed = Vec::new(alloc);
+    for number in [2, 3, 5].iter() {
+        listed.push(node(rt, *number)).ok().expect(rt, "memory");
+    }
+    listed
+}
+
+/// No node was heard yet.
+fn heartbeats(rt: &impl Abort, alloc: Global) -> Arc<Heartbeats> {
+    let heartbeats = Heartbeats::new(alloc).ok().expect(rt, "memory");
+    Arc::new(alloc, heartbeats).ok().expect(rt, "memory")
+}
+
+/// What is received is given to the workers of nodes 2, 3 and 5 in turn.
+fn give<R: Wait + Clock + Abort>(
+    rt: &R,
+    alloc: Global,
+    listening: Arc<Listening>,
+    workers: Vec<Sender<Received<Brand>>>,
+    left: &'static [u8],
+) {
+    let channel = crossbeam_channel::unbounded::<Happening, _>(alloc);
+    let (happenings, _told) = channel.ok().expect(rt, "a channel");
+    let routes = Routes {
+        start: Instant::now(rt).ok().expect(rt, "a clock"),
+        listed: listed(rt, alloc),
+        listening,
+        heartbeats: heartbeats(rt, alloc),
+        workers,
+        happenings,
+    };
+    let source = Source::<Brand, Lines>::new(Lines { left }, Format::CanUtils);
+    source.receive(rt, &routes);
+}
+
+/// Each of these workers listens to the answer of its question.
+fn listen_each<R: Wait + Clock + Drop + Abort>(
+    rt: &R,
+    first: &mut LivePort<R, Brand, Vec<u8>>,
+    second: &mut LivePort<R, Brand, Vec<u8>>,
+    asks: &[(usize, u8, Question)],
+) {
+    for (worker, id, question) in asks {
+        if *worker == 0 {
+            first.listen(node(rt, *id), question, 10);
+        } else {
+            second.listen(node(rt, *id), question, 10);
+        }
+    }
+}
+
+/// What is received is given to the workers of nodes 2, 3 and 5, of which the first boots nodes 2 and 5: its port
+/// and that of the second.
+fn receive<R: Wait + Clock + Clone + Drop + Abort>(
+    rt: &R,
+    alloc: Global,
+    asks: &[(usize, u8, Question)],
+    left: &'static [u8],
+) -> (LivePort<R, Brand, Vec<u8>>, LivePort<R, Brand, Vec<u8>>) {
+    let listening = Listening::new(alloc, 2).ok().expect(rt, "memory");
+    let listening = Arc::new(alloc, listening).ok().expect(rt, "memory");
+    let (mut first, to_first) = make_port(rt, alloc, &listening, 0);
+    let (mut second, to_second) = make_port(rt, alloc, &listening, 1);
+    listen_each(rt, &mut first, &mut second, asks);
+    let workers = vec![in alloc; to_first, to_second];
+    give(
+        rt,
+        alloc,
+        listening,
+        workers.ok().expect(rt, "memory"),
+        left,
+    );
+    (first, second)
+}
+
+/// Of nodes 2 (worker 1), 3 (worker 2) and 5 (worker 1 too), of another that isn't listed, and noise.
+const HEARD: &[u8] = b"(0.0) can0 582#4300100092010200\n\
+    (0.0) can0 585#4300100093010200\n\
+    (0.0) can0 583#4300100094010200\n\
+    (0.0) can0 584#4300100095010200\n\
+    (0.0) can0 702#05\n\
+    noise\n\
+    (0.0) can0 705#7F\n\
+    (0.0) can0 582#R\n\
+    (0.0) can0 582#4318100123010000\n";
+
+#[test]
+fn a_worker_hears_the_node_that_it_asks(rt: HostRuntime) {
+    let asks = [(0, 2, Question::Read(0x1000, 0))];
+    let (first, second) = receive(&rt, rt.alloc(), &asks, HEARD);
+    let answers = ["582#4300100092010200", "582#4318100123010000"];
+    wait_there(&rt, &first.heard, &answers);
+    wait_there(&rt, &second.heard, &[]);
+    // all bytes were read: what stands in them is late for the next question
+    sure(&rt, first.received() == HEARD.len() as u64);
+    sure(&rt, second.received() == HEARD.len() as u64);
+}
+
+#[test]
+fn each_worker_hears_its_own(rt: HostRuntime) {
+    let asks = [(0, 5, Question::Beat), (1, 3, Question::Read(0x1000, 0))];
+    let (first, second) = receive(&rt, rt.alloc(), &asks, HEARD);
+    wait_there(&rt, &first.heard, &["705#7F"]);
+    wait_there(&rt, &second.heard, &["583#4300100094010200"]);
+}
+
+#[test]
+fn no_worker_hears_the_node_of_another(rt: HostRuntime) {
+    // worker 2 asks a node that worker 1 boots
+    let asks = [(1, 2, Question::Read(0x1000, 0))];
+    let (first, second) = receive(&rt, rt.alloc(), &asks, HEARD);
+    wait_there(&rt, &first.heard, &[]);
+    wait_there(&rt, &second.heard, &[]);
+}
+
+#[test]
+fn what_came_late_is_forgotten(rt: HostRuntime) {
+    let asks = [(0, 2, Question::Read(0x1000, 0))];
+    let (mut first, _second) = receive(&rt, rt.alloc(), &asks, HEARD);
+    first.listen(node(&rt, 2), &Question::Read(0x1018, 1), 10);
+    wait_there(&rt, &first.heard, &[]);
+}
