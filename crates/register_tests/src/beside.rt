@@ -3,10 +3,8 @@
 
 ghost use Rattle.cm_register.specs.Naming.{Names};
 
-use crate::boot_support::{
-    HeldBus, close, held, is_made, named, network, node, open, outcome, reaches, start, sure,
-    with_operator,
-};
+use crate::boot_support::{HeldBus, held, outcome, reaches, start, with_operator};
+use crate::support::{close, is_made, named, network, node, open, sure};
 use cm_history::{Call, Reply};
 use cm_nmt::{NodeId, Status};
 use cm_register::{Opened, Register, RunName, Seat};

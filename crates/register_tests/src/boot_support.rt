@@ -1,14 +1,13 @@
 //! What the tests of boots, of an operator and of a live bus call.
 
 ghost use Rattle.std.specs.Prelude.{⊤};
-ghost use Rattle.cm_register.specs.Naming.{Names};
 
-use arrayvec::ArrayVec;
+use crate::support::{is_made, node};
 use cm_boot::{Answer, Bus, Question};
 use cm_history::{Call, Reply};
-use cm_netlist::{Network, SlaveEntry};
-use cm_nmt::{Assignment, Frame, NodeId, Startup, Terms};
-use cm_register::{CallFault, Closed, Opened, Receipt, Register, RunName, Seat};
+use cm_netlist::Network;
+use cm_nmt::NodeId;
+use cm_register::{Register, RunName, Seat};
 use cm_run::{Last, Outcome};
 use cm_simulated::{SimBus, SimSlave, SimWire};
 use std::alloc::Global;
@@ -20,71 +19,6 @@ use std::thread;
 /// How many turns are waited at most.
 const TURNS: u32 = 1_000_000;
 
-// Each comparison is asserted here, since an assertion of its own in each place is long to prove.
-pub(crate) fn sure(rt: &impl Abort, is_so: bool) {
-    assert!(rt; is_so);
-}
-
-pub(crate) fn node(rt: &impl Abort, number: u8) -> NodeId {
-    NodeId::new(number).expect(rt, "a node-ID")
-}
-
-/// The frame of these two bytes.
-pub(crate) fn frame(rt: &impl Abort, bytes: [u8; 2]) -> Frame {
-    Frame::read(&bytes).expect(rt, "a frame")
-}
-
-/// A slave of this assignment, whose other fields are 0.
-fn slave(assignment: u32) -> SlaveEntry {
-    let terms = Terms {
-        assignment: Assignment(assignment),
-        device_type: 0,
-        vendor: 0,
-        product: 0,
-        revision: 0,
-        serial: 0,
-        heartbeat_ms: 0,
-        date: 0,
-        time: 0,
-        writes: 0,
-    };
-    SlaveEntry::from_terms(terms, ArrayVec::new())
-}
-
-/// A network of this manager with slaves of these nodes and assignments.
-pub(crate) fn network(rt: &impl Abort, alloc: Global, own: u8, slaves: &[(u8, u32)]) -> Network {
-    let mut network = Network::new(alloc, node(rt, own), Startup(1), 0);
-    for (number, assignment) in slaves {
-        let added = network.add(node(rt, *number), slave(*assignment));
-        sure(rt, added.is_ok());
-    }
-    network
-}
-
-/// A register with so many seats and entries, whose wire has room for so many frames.
-pub(crate) fn open<'n>(
-    rt: &impl Abort,
-    alloc: Global,
-    net: &'n Network,
-    seats: u16,
-    limit: u32,
-    room: u32,
-) -> Opened<'n, SimWire> {
-    let wire = SimWire::new(alloc, room).ok().expect(rt, "a wire");
-    let opened = Register::open(alloc, net, seats, limit, wire);
-    opened.ok().expect(rt, "a register")
-}
-
-/// The register, and its seats.
-pub(crate) fn named<'n, K: RunName>(
-    rt: &impl Abort,
-    opened: Opened<'n, SimWire>,
-) -> (Register<'n, SimWire, K>, Vec<Seat<K>>)
-    requires { Names K.RunName opened }
-{
-    opened.named::<K>().ok().expect(rt, "named")
-}
-
 /// The last seat, the operator's, by which the network is started; the workers' are left.
 pub(crate) fn start<K: RunName, R: Wait + Abort>(
     rt: &R,
@@ -95,15 +29,6 @@ pub(crate) fn start<K: RunName, R: Wait + Abort>(
     let start = register.call(rt, &mut operator, Call::StartNetwork);
     is_made(rt, start, 1, Reply::Started);
     operator
-}
-
-/// What a register leaves that closes with these seats.
-pub(crate) fn close<K: RunName>(
-    rt: &impl Abort,
-    register: Register<SimWire, K>,
-    seats: Vec<Seat<K>>,
-) -> Closed<SimWire> {
-    register.close(seats).ok().expect(rt, "closed")
 }
 
 /// The workers' seats, and the operator's behind them.
@@ -143,16 +68,6 @@ pub(crate) fn agreeing(
         buses.push(bus).ok().expect(rt, "memory");
     }
     buses
-}
-
-/// Asserts that a call was made, with this place and this reply.
-pub(crate) fn is_made(
-    rt: &impl Abort,
-    made: Result<Receipt, CallFault>,
-    position: u32,
-    reply: Reply,
-) {
-    sure(rt, made == Ok(Receipt { position, reply }));
 }
 
 /// Whether the count comes to this many in time.

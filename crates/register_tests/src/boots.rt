@@ -3,10 +3,8 @@
 
 ghost use Rattle.cm_register.specs.Naming.{Names};
 
-use crate::boot_support::{
-    agreeing, close, frame, is_made, named, network, node, open, outcome, start, sure,
-    with_operator,
-};
+use crate::boot_support::{agreeing, outcome, start, with_operator};
+use crate::support::{close, frame, is_made, named, network, node, open, sure};
 use cm_history::{Call, Phase, Reply};
 use cm_nmt::{Frame, NmtState, Status};
 use cm_register::{CallFault, Closed, Opened, Register, RunName, Seat};

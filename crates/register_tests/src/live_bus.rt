@@ -1,7 +1,7 @@
 //! A bus whose frames are written down before: which frame is taken as the answer of a question, what is sent, and
 //! what stands in the log; lines that are cut, and heartbeats that are news.
 
-use crate::boot_support::{node, sure};
+use crate::support::{node, sure};
 use cm_boot::{Answer, Bus, Question};
 use cm_can::{CanFrame, read_frame};
 use cm_live::{Event, Format, FrameCutter, Heartbeats, LineCutter, LiveBus, Port, Received};

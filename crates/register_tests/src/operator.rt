@@ -2,7 +2,7 @@
 
 ghost use Rattle.cm_register.specs.Naming.{Names};
 
-use crate::boot_support::{close, is_made, named, network, open, sure};
+use crate::support::{close, is_made, named, network, open, sure};
 use cm_history::{Call, Reply};
 use cm_register::{CallFault, Opened, Receipt, Register, RunName, Seat};
 use cm_run::{OperateFault, operate};

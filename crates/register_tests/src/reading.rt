@@ -2,9 +2,8 @@
 
 ghost use Rattle.cm_register.specs.Naming.{Names};
 
-use crate::boot_support::{
-    HeldBus, close, held, named, network, open, reaches, start, sure, with_operator,
-};
+use crate::boot_support::{HeldBus, held, reaches, start, with_operator};
+use crate::support::{close, named, network, open, sure};
 use cm_register::{Opened, Register, RunName, Seat, Seen};
 use cm_run::{Booted, boot_all};
 use cm_simulated::SimWire;

@@ -2,7 +2,7 @@
 
 ghost use Rattle.cm_register.specs.Naming.{Names};
 
-use crate::boot_support::{close, named, network, node, open, sure};
+use crate::support::{close, named, network, node, open, sure};
 use cm_history::{Call, Reply};
 use cm_nmt::{NodeId, Status};
 use cm_register::{Opened, Receipt, Register, RunName, Seat};

@@ -1,6 +1,6 @@
 //! Whom a frame is given to that is received of a bus: the worker of its node, while it listens to its identifier.
 
-use crate::boot_support::{node, sure};
+use crate::support::{node, sure};
 use cm_boot::Question;
 use cm_can::{CanFrame, read_frame};
 use cm_live::{

@@ -3,7 +3,8 @@
 
 ghost use Rattle.cm_register.specs.Naming.{Names};
 
-use crate::boot_support::{close, held, named, network, open, outcome, start, sure, with_operator};
+use crate::boot_support::{held, outcome, start, with_operator};
+use crate::support::{close, named, network, open, sure};
 use cm_nmt::Status;
 use cm_register::{Opened, Register, RunName, Seat};
 use cm_run::{Booted, Last, Outcome, boot_all};

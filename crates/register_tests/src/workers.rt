@@ -2,7 +2,7 @@
 
 ghost use Rattle.cm_register.specs.Naming.{Names};
 
-use crate::boot_support::{close, named, network, open, sure};
+use crate::support::{close, named, network, open, sure};
 use cm_register::{Opened, Register, RunName, Seat};
 use cm_run::{RunKind, boot_all};
 use cm_simulated::{SimBus, SimWire};
