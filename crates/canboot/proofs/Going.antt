@@ -1,5 +1,5 @@
 -- What is kept of a live run goes on from step to step.
-use Rattle.std.proofs.Common.{◌≡◌, ℕ, ◌+◌, List, [], ◌∷◌, ◌++◌, Option, Some, None, Result, Ok, Err, false, inl, inr, ◌⊎◌, refl, sym, subst, ap, ◌∙◌, append_assoc}
+use Rattle.std.proofs.Common.{◌≡◌, ℕ, ◌+◌, List, [], ◌∷◌, ◌++◌, Option, Some, None, Result, Ok, Err, Bool, true, false, inl, inr, ◌⊎◌, refl, sym, subst, ap, ◌∙◌, append_assoc}
 use Rattle.std.specs.Prelude.{IfNone, IfOk}
 use Rattle.cm_history.specs.declared.call.Entry.{Entry}
 use Rattle.cm_live.specs.declared.happening.Happening.{Happening}
@@ -7,8 +7,9 @@ use Rattle.cm_live.specs.declared.happening.Happening.TheVariants as live
 use Rattle.cm_netlist.specs.Network.{Network}
 use Rattle.cm_seat.specs.Views.{SeatView}
 use Rattle.cm_watch.proofs.Tries.{same_tries}
+use Rattle.cm_watch.specs.Guarding.{heard_at, heard_if}
 use Rattle.cm_watch.specs.Pasts.{Past}
-use Rattle.cm_watch.specs.Steps.{given, steps_at}
+use Rattle.cm_watch.specs.Steps.{given}
 use Rattle.cm_watch.specs.Tried.{Tries, may_change_boots}
 use Rattle.cm_watch.specs.Waiting.{Tells}
 use Rattle.cm_watch.specs.Watches.{Watches}
@@ -72,30 +73,42 @@ noted old new net s past now m other tried waiting f w = record {
   tells = tells_same old.waiting new.waiting f.arrived (placed_in past) (placed_in ((now, m) ∷ past)) f.said (counts_in net past) (counts_in net ((now, m) ∷ past)) waiting (no_entry m (placed_in past) other) (no_count net m (counts_in net past) other) f.tells;
 }
 
+-- the watch was told of an error control message, where it counts
+pub heard_follows : (old new : Progress Entry) (net : Network) (s : Settings) (past : Past) (now i b : ℕ) (counted : Bool) → new.tried ≡ old.tried → new.waiting ≡ old.waiting
+    → Follows old net s past → Watches new.watch net s (heard_if counted now i b ++ past) → Follows new net s (heard_if counted now i b ++ past)
+heard_follows old new net s past now i b true tried waiting f w = noted old new net s past now (moment.Happened (happening.Heard i b)) refl tried waiting f w
+heard_follows old new net s past now i b false tried waiting f w = record {
+  watches = w;
+  tries = subst (λ (t : Tried). Tries t past) (sym tried) f.tries;
+  arrived = f.arrived;
+  said = f.said;
+  tells = tells_same old.waiting new.waiting f.arrived (placed_in past) (placed_in past) f.said (counts_in net past) (counts_in net past) waiting refl refl f.tells;
+}
+
 -- ---- states that were heard again
 
-heard_only : (m : Moment) (past : Past) → IsHeardAgain m past → may_change_boots m ≡ false
-heard_only (moment.Happened (happening.Heard j b)) past again = refl
-heard_only (moment.Happened (happening.Called e)) past again = absurd again
-heard_only (moment.Happened (happening.Ended j)) past again = absurd again
-heard_only (moment.Happened (happening.Asked j)) past again = absurd again
-heard_only (moment.Happened (happening.Ends at)) past again = absurd again
-heard_only (moment.Gave x) past again = absurd again
+heard_only : (net : Network) (m : Moment) (past : Past) → IsHeardAgain net m past → may_change_boots m ≡ false
+heard_only net (moment.Happened (happening.Heard j b)) past again = refl
+heard_only net (moment.Happened (happening.Called e)) past again = absurd again
+heard_only net (moment.Happened (happening.Ended j)) past again = absurd again
+heard_only net (moment.Happened (happening.Asked j)) past again = absurd again
+heard_only net (moment.Happened (happening.Ends at)) past again = absurd again
+heard_only net (moment.Gave x) past again = absurd again
 
-tries_again : (t : Tried) (now : ℕ) (more past : Past) → AreHeardAgain now more past → Tries t past → Tries t (more ++ past)
-tries_again t now [] past again tries = tries
-tries_again t now (x ∷ more) past again tries =
-    same_tries t x.0 x.1 (more ++ past) (heard_only x.1 (more ++ past) again.1) (tries_again t now more past again.2 tries)
+tries_again : (net : Network) (t : Tried) (now : ℕ) (more past : Past) → AreHeardAgain net now more past → Tries t past → Tries t (more ++ past)
+tries_again net t now [] past again tries = tries
+tries_again net t now (x ∷ more) past again tries =
+    same_tries t x.0 x.1 (more ++ past) (heard_only net x.1 (more ++ past) again.1) (tries_again net t now more past again.2 tries)
 
-placed_again : (now : ℕ) (more past : Past) → AreHeardAgain now more past → placed_in (more ++ past) ≡ placed_in past
-placed_again now [] past again = refl
-placed_again now (x ∷ more) past again =
-    no_entry x.1 (placed_in (more ++ past)) (heard_only x.1 (more ++ past) again.1) ∙ placed_again now more past again.2
+placed_again : (net : Network) (now : ℕ) (more past : Past) → AreHeardAgain net now more past → placed_in (more ++ past) ≡ placed_in past
+placed_again net now [] past again = refl
+placed_again net now (x ∷ more) past again =
+    no_entry x.1 (placed_in (more ++ past)) (heard_only net x.1 (more ++ past) again.1) ∙ placed_again net now more past again.2
 
-counts_again : (net : Network) (now : ℕ) (more past : Past) → AreHeardAgain now more past → counts_in net (more ++ past) ≡ counts_in net past
+counts_again : (net : Network) (now : ℕ) (more past : Past) → AreHeardAgain net now more past → counts_in net (more ++ past) ≡ counts_in net past
 counts_again net now [] past again = refl
 counts_again net now (x ∷ more) past again =
-    no_count net x.1 (counts_in net (more ++ past)) (heard_only x.1 (more ++ past) again.1) ∙ counts_again net now more past again.2
+    no_count net x.1 (counts_in net (more ++ past)) (heard_only net x.1 (more ++ past) again.1) ∙ counts_again net now more past again.2
 
 -- ---- steps that were given
 
@@ -165,7 +178,7 @@ typed_on typed p net s past now old new (inr line) = record { more = _; follows 
 -- what was taken goes on
 pub taken_on : (h : Happening) (seconds : ℕ) (typed : Option (List ℕ)) (p : Progress Entry) (net : Network) (s : Settings) (past : Past) (now : ℕ) (old new : SeatView)
     → HasTaken h seconds typed p net s past now old new → HasGoneOn p net s past
-taken_on (live.Told i byte) seconds typed p net s past now old new t = record { more = (now, _) ∷ []; follows = t.1 }
+taken_on (live.Told i byte) seconds typed p net s past now old new t = record { more = heard_at net past now i byte; follows = t.1 }
 taken_on (live.Ended i fault) seconds typed p net s past now old new t = record { more = (now, _) ∷ []; follows = t.1 }
 taken_on (live.Entered position e) seconds typed p net s past now old new t = record { more = called_at now t.1.entries; follows = t.1.follows }
 taken_on live.Typed seconds typed p net s past now old new t = typed_on typed p net s past now old new t
@@ -178,12 +191,12 @@ given_on p net s past now steps h = record {
   follows = subst (λ (q : Past). Follows p net s q) (gave_is now steps [] past) h;
 }
 
--- a turn whose steps were given
-pub steps_on : (net : Network) (old : Progress Entry) (now : Network) (new : Progress Entry) (at : ℕ) → now ≡ net
-    → ((s : Settings) (past : Past) → Follows old net s past → Follows new net s (given at (steps_at net s past at) past)) → GoesOn net old now new
-steps_on net old now new at same turned = record {
+-- steps were given
+pub steps_on : (steps : Settings → Past → List Step) (net : Network) (old : Progress Entry) (now : Network) (new : Progress Entry) (at : ℕ) → now ≡ net
+    → ((s : Settings) (past : Past) → Follows old net s past → Follows new net s (given at (steps s past) past)) → GoesOn net old now new
+steps_on steps net old now new at same turned = record {
   network = same;
-  goes_on = λ s past f. given_on new net s past at (steps_at net s past at) (turned s past f);
+  goes_on = λ s past f. given_on new net s past at (steps s past) (turned s past f);
 }
 
 -- what has happened was taken
@@ -205,10 +218,10 @@ heard_on net old new at tried waiting told = record {
         more = t.more;
         follows = record {
           watches = t.watches;
-          tries = subst (λ (u : Tried). Tries u (t.more ++ past)) (sym tried) (tries_again old.tried at t.more past t.again f.tries);
+          tries = subst (λ (u : Tried). Tries u (t.more ++ past)) (sym tried) (tries_again net old.tried at t.more past t.again f.tries);
           arrived = f.arrived;
           said = f.said;
-          tells = tells_same old.waiting new.waiting f.arrived (placed_in past) (placed_in (t.more ++ past)) f.said (counts_in net past) (counts_in net (t.more ++ past)) waiting (placed_again at t.more past t.again) (counts_again net at t.more past t.again) f.tells;
+          tells = tells_same old.waiting new.waiting f.arrived (placed_in past) (placed_in (t.more ++ past)) f.said (counts_in net past) (counts_in net (t.more ++ past)) waiting (placed_again net at t.more past t.again) (counts_again net at t.more past t.again) f.tells;
         };
       };
 }

@@ -10,6 +10,7 @@ pub mod Attempts
 pub mod Begins
 pub mod Calls
 pub mod Steps
+pub mod Sendings
 pub mod Going
 pub mod Filters
 pub mod JournalNames

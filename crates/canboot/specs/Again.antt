@@ -1,6 +1,7 @@
 -- What heartbeats are told to the watch (own).
-use Rattle.std.specs.Prelude.{◌≡◌, [], ◌∷◌, ◌++◌, ℕ, ◌==◌, ◌&&◌, not, nat_lt, Option, Some, None, if◌then◌else◌}
+use Rattle.std.specs.Prelude.{◌≡◌, [], ◌∷◌, ◌++◌, ◌%◌, ℕ, ◌==◌, ◌&&◌, not, nat_lt, Option, Some, None, if◌then◌else◌}
 use Rattle.cm_netlist.specs.Network.{Network}
+use Rattle.cm_watch.specs.Guarding.{guard_of}
 use Rattle.cm_watch.specs.Pasts.{Past}
 use Rattle.cm_watch.specs.Signals.{state_heard}
 use Rattle.cm_watch.specs.Watches.{Watches}
@@ -10,25 +11,27 @@ use Rattle.cm_watch.specs.declared.happening.Moment.TheVariants as moment
 use Rattle.cm_watch.specs.declared.settings.Settings.{Settings}
 use Rattle.cm_watch.specs.declared.watch.Watch.{Watch}
 
--- the state of a node that is to be noted again: of the message that came last, at its time with its state, where one was noted before, no
--- later, with the same state; a boot-up message is never noted again
-abbrev pub state_again : Option (ℕ × ℕ) → Option ℕ → Option ℕ → Option ℕ
-state_again (Some last) (Some noted) (Some state) =
-    if not (last.1 == 0) && (state == last.1) && not (nat_lt last.0 noted) then Some last.1 else None
-state_again _ _ _ = None
+-- the state of a node that is to be noted again: of the message that came last, at its time with its byte, where one was noted before, no
+-- later, with the same state; a boot-up message is never noted again, nor a message of a guarded node, which is asked each g ms: of these
+-- each that counts comes by itself, with its toggle bit turned
+abbrev pub state_again : ℕ → Option (ℕ × ℕ) → Option ℕ → Option ℕ → Option ℕ
+state_again g (Some last) (Some noted) (Some state) =
+    let now = last.1 % 128 in
+    if (g == 0) && not (now == 0) && (state == now) && not (nat_lt last.0 noted) then Some now else None
+state_again g _ _ _ = None
 
--- a moment repeats what was heard last of a node: its state again
-abbrev pub IsHeardAgain : Moment → Past → Type 0
-IsHeardAgain (moment.Happened (happening.Heard i state)) past = state_heard past i ≡ Some state
-IsHeardAgain _ past = ⊥
+-- a moment repeats what was heard last of a node that isn't guarded: its state again
+abbrev pub IsHeardAgain : Network → Moment → Past → Type 0
+IsHeardAgain net (moment.Happened (happening.Heard i state)) past = (guard_of net i ≡ 0) × (state_heard past i ≡ Some state)
+IsHeardAgain net _ past = ⊥
 
 -- all that came behind this past are such moments, at this time, each in its turn
-abbrev pub AreHeardAgain : ℕ → Past → Past → Type 0
-AreHeardAgain now [] past = Unit {0}
-AreHeardAgain now (x ∷ more) past = (x.0 ≡ now) × IsHeardAgain x.1 (more ++ past) × AreHeardAgain now more past
+abbrev pub AreHeardAgain : Network → ℕ → Past → Past → Type 0
+AreHeardAgain net now [] past = Unit {0}
+AreHeardAgain net now (x ∷ more) past = (x.0 ≡ now) × IsHeardAgain net x.1 (more ++ past) × AreHeardAgain net now more past
 
 -- the watch was told states that it heard before, and nothing else
 pub record HasHeardAgain (w : Watch) (net : Network) (s : Settings) (past : Past) (now : ℕ) : Type 0 where
   pub more : Past
-  pub again : AreHeardAgain now more past
+  pub again : AreHeardAgain net now more past
   pub watches : Watches w net s (more ++ past)

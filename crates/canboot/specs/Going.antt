@@ -8,6 +8,7 @@ use Rattle.cm_live.specs.declared.happening.Happening.{Happening}
 use Rattle.cm_live.specs.declared.happening.Happening.TheVariants as live
 use Rattle.cm_netlist.specs.Network.{Network, listing}
 use Rattle.cm_seat.specs.Views.{SeatView}
+use Rattle.cm_watch.specs.Guarding.{heard_at}
 use Rattle.cm_watch.specs.Pasts.{Past}
 use Rattle.cm_watch.specs.Tried.{Tries}
 use Rattle.cm_watch.specs.Waiting.{Gives, Tells, placed_at}
@@ -92,11 +93,11 @@ pub record HasObeyedLine (typed : Option (List ℕ)) (p : Progress Entry) (net :
   pub made : HasObeyedIf (asked_by line) old new
 
 -- what comes, at its time, of what has happened in a live run that goes on so many seconds once nothing is typed any more: the watch is
--- told of a state that was heard, the end of a worker's attempts, the entries that come next in the history, when the run is to end; a
--- line that was typed is obeyed, if there is one; of what else comes it is told nothing, and no call is made
+-- told of an error control message, where it counts, the end of a worker's attempts, the entries that come next in the history, when the
+-- run is to end; a line that was typed is obeyed, if there is one; of what else comes it is told nothing, and no call is made
 abbrev pub HasTaken : Happening → ℕ → Option (List ℕ) → Progress Entry → Network → Settings → Past → ℕ → SeatView → SeatView → Type 0
 HasTaken (live.Told i byte) seconds typed p net s past now old new =
-    (new ≡ old) × Follows p net s ((now, moment.Happened (happening.Heard i byte)) ∷ past)
+    (new ≡ old) × Follows p net s (heard_at net past now i byte ++ past)
 HasTaken (live.Ended i fault) seconds typed p net s past now old new =
     (new ≡ old) × Follows p net s ((now, moment.Happened (happening.Ended i)) ∷ past)
 HasTaken (live.Entered position e) seconds typed p net s past now old new = (new ≡ old) × HasToldEntries p net s past now

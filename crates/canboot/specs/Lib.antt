@@ -3,6 +3,7 @@ pub mod Ending
 pub mod Faults
 pub mod Going
 pub mod Steps
+pub mod Sendings
 pub mod Asking
 pub mod Run
 pub mod Program

@@ -13,7 +13,8 @@ use Rattle.cm_watch.specs.declared.happening.Step.TheVariants as step
 abbrev pub calls_made : SeatView → List Call
 calls_made s = map (λ (m : Made). m.call) s.list
 
--- the call that a step is, if it is one: a boot is handed to a worker, what was left out is told, and the run ends
+-- the call that a step is, if it is one: a boot is handed to a worker, what was left out is told, what is sent for error control is a
+-- frame, and the run ends
 abbrev pub call_for : Step → Option Call
 call_for (step.Lost i) = Some (call.Lost i)
 call_for (step.Boot i) = None
@@ -21,6 +22,8 @@ call_for (step.Signal i byte) = Some (call.Signal i byte)
 call_for (step.LeftOut i n) = None
 call_for (step.TimeOver ms) = Some (call.Elapsed ms)
 call_for (step.AllTried ms) = Some (call.Elapsed ms)
+call_for (step.Beat b) = None
+call_for (step.Guard i) = None
 call_for step.End = None
 
 -- the seat has made just the calls of these steps more, each once, in their order

@@ -70,7 +70,7 @@ back_words i =
 
 -- a slave is booted that isn't watched (own)
 abbrev pub unwatched_words : ℕ → List ℕ
-unwatched_words i = codes "node " ++ (decimal i ++ codes " isn't watched: it has no heartbeat time")
+unwatched_words i = codes "node " ++ (decimal i ++ codes " isn't watched: it has no heartbeat time and no guard time")
 
 -- so many changes of state of a node were left out (own)
 abbrev pub left_out_words : ℕ → ℕ → List ℕ

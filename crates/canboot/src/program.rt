@@ -128,6 +128,7 @@ pub fn run_words<
                 attempts,
                 answer_ms,
                 settle_ms,
+                heartbeat_ms,
                 seconds,
                 journal,
                 is_synced,
@@ -138,6 +139,7 @@ pub fn run_words<
                 attempts,
                 answer_ms,
                 settle_ms,
+                heartbeat_ms,
                 seconds: seconds.unwrap_or(0),
                 format: format_of(&bus),
             };

@@ -277,6 +277,7 @@ pub(crate) fn bus_of<R: Wait + Clone + Drop>(
     let (answers, heard) = crossbeam_channel::unbounded(alloc)?;
     let (starts, started) = crossbeam_channel::unbounded(alloc)?;
     let written = writers(rt, alloc, &answers, &starts, most.written)?;
+    let error_control = make_devices(rt, alloc, &answers, &starts, most.messages, false)?;
     let sent = make_devices(rt, alloc, &answers, &starts, most.messages, false)?;
     let received = reader(rt, alloc, heard, most.heard)?;
     let typed = Typing {
@@ -290,6 +291,7 @@ pub(crate) fn bus_of<R: Wait + Clone + Drop>(
             received,
             typed,
             written,
+            error_control,
         },
         messages: Outlet::new(sent, Format::CanUtils),
     })
@@ -304,6 +306,7 @@ fn four_workers() -> LiveOptions
         attempts: 2,
         answer_ms: 2000,
         settle_ms: 60_000,
+        heartbeat_ms: 0,
         seconds: 0,
         format: Format::CanUtils,
     }

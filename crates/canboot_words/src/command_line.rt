@@ -52,6 +52,8 @@ pub enum Action<'a> {
         answer_ms: u32,
         /// How long boot-up messages are waited for behind a reset, in ms, 0 to 600,000.
         settle_ms: u32,
+        /// How often the manager sends its own heartbeat, in ms, 10 to 65,535; 0: it sends none.
+        heartbeat_ms: u16,
         /// How long the run goes on behind the end of the operator's input, in seconds, up to
         /// 31,536,000; none: it ends there.
         seconds: Option<u32>,
@@ -224,20 +226,20 @@ fn run_action<'a>(given: &ArgMatches<'a>) -> Action<'a>
     }
 }
 
-fn action_of<'a>(matches: &ArgMatches<'a>) -> Action<'a>
-    ensures { IsInRange result }
+fn action_of<'a>(alloc: Global, matches: &ArgMatches<'a>) -> Result<Action<'a>, NoAction>
+    ensures { IfOk result IsInRange }
 {
     let Some((name, given)) = matches.subcommand() else {
-        return Action::Replay;
+        return Ok(Action::Replay);
     };
     match name {
-        "check" => Action::Check {
+        "check" => Ok(Action::Check {
             network: text_of(given, "network"),
-        },
-        "run" => run_action(given),
-        "live" => live_action(given),
-        "mend" => Action::Mend,
-        _ => Action::Replay,
+        }),
+        "run" => Ok(run_action(given)),
+        "live" => live_action(alloc, given),
+        "mend" => Ok(Action::Mend),
+        _ => Ok(Action::Replay),
     }
 }
 
@@ -269,7 +271,7 @@ pub fn read_words<'a>(alloc: Global, words: &'a [String]) -> Result<Action<'a>, 
         Err(_) => return Err(NoAction::OutOfMemory),
     };
     match parsed {
-        Ok(matches) => Ok(action_of(&matches)),
+        Ok(matches) => action_of(alloc, &matches),
         Err(error) => Err(no_action_of(alloc, &error)),
     }
 }

@@ -106,7 +106,8 @@ Keys of each slave:
   product      1F86h, expected product code, 0 to 4,294,967,295; 0, not compared
   revision     1F87h, expected revision number, 0 to 4,294,967,295; 0, not compared
   serial       1F88h, expected serial number, 0 to 4,294,967,295; 0, not compared
-  heartbeat    1016h, time in which a heartbeat has to come in ms, 0 to 65,535; 0, node guarding
+  heartbeat    1016h, time in which a heartbeat has to come in ms, 0 to 65,535; 0, node guarding,
+               if assignment has its times
   date         1F26h, expected configuration date in days since 1 January 1984, 0 to \
 4,294,967,295; 0, always configured
   time         1F27h, expected configuration time in ms since midnight, 0 to 4,294,967,295; \
@@ -126,6 +127,8 @@ operational it isn't configured
   5  its software version is to be verified, which this master can't do: where bit 2 is set, its \
 boot fails with status G once its identity was read and agrees, unless bit 4 is set and it is found \
 operational
+  8 to 15, 16 to 31  retry factor and guard time in ms: where neither is 0, and heartbeat is, \
+'canboot live' guards the slave (node guarding), as with 0x0064030D each 100 ms
 
 Where faults apply, standard error names the first of these that applies anywhere in the list:
 
@@ -248,10 +251,16 @@ the slaves, and try each at most as often as --attempts says; another attempt fo
 status B, or where the session of the last one was dropped before its report. An SDO answer and a \
 guard answer are waited for --answer MS, a heartbeat for the slave's heartbeat time.
 
+With --heartbeat MS the manager sends a heartbeat of its own, on 700h + own: boot-up at first, and \
+then its NMT state each MS. So slaves that watch it (1016h) see when it is gone.
+
 Then the slaves are watched:
 
   A booted slave with a heartbeat time whose heartbeat doesn't come in that time is lost. What \
 follows is said by bits 4 and 6 of startup.
+  A booted slave with no heartbeat time, but with a guard time and a retry factor in its \
+assignment, is asked for its state each guard time. An answer counts only with its toggle bit \
+turned. Where none counts within guard time times retry factor, the slave is lost.
   A slave that sends its boot-up message is booted again, and one that was lost or reset. Where \
 that happens again and again, it is booted 1, 2, 4 .. 60 s later.
   A heartbeat with another state than the last one is a signal. One with the same state is no \

@@ -1,8 +1,8 @@
-ghost use Rattle.std.specs.Prelude.{◌≤◌};
+ghost use Rattle.std.specs.Prelude.{◌≡◌, ◌≤◌, ◌⊎◌, IfOk};
 ghost use Rattle.canboot_words.specs.CommandLine.{IsInRange};
 
 use crate::command_line::{
-    Action, BusPaths, argument, attempts_argument, described, journal_argument, listed,
+    Action, BusPaths, NoAction, argument, attempts_argument, described, journal_argument, listed,
     network_argument, number_of, option, text_of, workers_argument,
 };
 use crate::help::{ABOUT_LIVE, HELP_LIVE, USAGE_LIVE};
@@ -50,6 +50,13 @@ fn settle_argument<'a>(alloc: Global) -> Arg<'a> {
         .default_value("1000")
 }
 
+fn heartbeat_argument<'a>(alloc: Global) -> Arg<'a> {
+    let help = "How often the manager sends its own heartbeat, 10 to 65535; 0: it sends none";
+    option(alloc, "heartbeat", "MS", help)
+        .value_parser(value_parser!(u16).range(0..65_536))
+        .default_value("0")
+}
+
 fn seconds_argument<'a>(alloc: Global) -> Arg<'a> {
     let help = "How long the run goes on behind the end of the operator's input, 0 to 31536000";
     option(alloc, "for", "SECONDS", help).value_parser(value_parser!(u32).range(0..31_536_001))
@@ -75,6 +82,7 @@ fn arguments<'a>(alloc: Global) -> Result<Vec<Arg<'a>>, AllocError> {
             Ok(attempts_argument(alloc, "3")),
             Ok(answer_argument(alloc)),
             Ok(settle_argument(alloc)),
+            Ok(heartbeat_argument(alloc)),
             Ok(seconds_argument(alloc)),
             Ok(journal_argument(alloc)),
             sync_argument(alloc),
@@ -107,6 +115,29 @@ fn milliseconds_of(given: &ArgMatches<'_>, name: &str, least: u32, most: u32) ->
     }
 }
 
+/// The least time of the manager's heartbeat, in ms.
+const LEAST_HEARTBEAT_MS: u16 = 10;
+
+/// The time of the manager's heartbeat, in ms, which is 0 or not less than that.
+fn heartbeat_of(alloc: Global, given: &ArgMatches<'_>) -> Result<u16, NoAction>
+    ensures { IfOk result (λ ms. (ms ≡ 0) ⊎ (10 ≤ ms)) }
+{
+    let ms = given.get_one::<u16>("heartbeat").unwrap_or(0);
+    if ms == 0 || LEAST_HEARTBEAT_MS <= ms {
+        return Ok(ms);
+    }
+    let text = format!(in alloc;
+        "error: invalid value '{ms}' for '--heartbeat <MS>': it is 0, or 10 to 65535
+
+For more information, try '--help'.
+"
+    );
+    match text {
+        Ok(text) => Err(NoAction::Wrong(text)),
+        Err(_) => Err(NoAction::OutOfMemory),
+    }
+}
+
 /// Where the bus is; clap took only one of the two ways, and all of it.
 fn bus_paths<'a>(given: &ArgMatches<'a>) -> BusPaths<'a> {
     match given.get_str("slcan") {
@@ -119,18 +150,20 @@ fn bus_paths<'a>(given: &ArgMatches<'a>) -> BusPaths<'a> {
 }
 
 /// What these words of `canboot live` ask for.
-pub(crate) fn live_action<'a>(given: &ArgMatches<'a>) -> Action<'a>
-    ensures { IsInRange result }
+pub(crate) fn live_action<'a>(alloc: Global, given: &ArgMatches<'a>) -> Result<Action<'a>, NoAction>
+    ensures { IfOk result IsInRange }
 {
-    Action::Live {
+    let heartbeat_ms = heartbeat_of(alloc, given)?;
+    Ok(Action::Live {
         network: text_of(given, "network"),
         bus: bus_paths(given),
         workers: number_of(given, "workers", 16),
         attempts: number_of(given, "attempts", 10),
         answer_ms: milliseconds_of(given, "answer", 1, 60_000),
         settle_ms: milliseconds_of(given, "settle", 0, 600_000),
+        heartbeat_ms,
         seconds: given.get_one::<u32>("for"),
         journal: given.get_str("journal"),
         is_synced: given.get_flag("journal-sync"),
-    }
+    })
 }

@@ -35,6 +35,16 @@ pub struct ErrorControl {
     pub byte: u8,
 }
 
+/// The frame of an error control message: identifier 700h + node-ID and its byte.
+pub fn error_control_frame(message: ErrorControl) -> CanFrame
+    ensures { IsErrorControl message.node message.byte result }
+{
+    let id = CanId {
+        number: 0x700 + u16::from(message.node.get()),
+    };
+    CanFrame::with(id, &[message.byte])
+}
+
 /// The error control message of a frame: a heartbeat, a boot-up message or the answer to a guard request;
 /// `None` exactly where the frame is none.
 pub fn error_control(frame: &CanFrame) -> Option<ErrorControl>

@@ -15,7 +15,7 @@ mod sdo;
 mod text;
 
 pub use adapter::{adapter_text, read_adapter_line};
-pub use control::{ErrorControl, error_control, guard_request, nmt_frame};
+pub use control::{ErrorControl, error_control, error_control_frame, guard_request, nmt_frame};
 pub use frame::{CanFrame, CanId, Kind};
 pub use lines::{frame_text, one_frame, read_frame, read_log_line};
 pub use node::{answered_by, request_of};

@@ -1,4 +1,4 @@
-mod Messages
+pub mod Messages
 mod Nodes
 mod Untold
 pub mod Talking

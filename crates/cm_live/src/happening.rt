@@ -9,8 +9,8 @@ pub enum Happening {
     Entered(u64, Entry),
     /// A worker's attempts at a slave have ended; where a call couldn't be made, why.
     Ended(NodeId, Option<CallFault>),
-    /// An error control message of a listed node: a boot-up message, or another state than the last one's.
-    /// The byte is the message's.
+    /// An error control message of a listed node: a boot-up message, or another byte than the last one's, since its
+    /// state is another or its toggle bit is turned. The byte is the message's.
     Told(NodeId, u8),
     /// The operator typed a line, which was sent before this is told.
     Typed,

@@ -19,20 +19,19 @@ pub struct Heartbeats {
 /// The word that says that a node was heard at so many ms, with this byte.
 fn word_of(now_ms: u64, byte: u8) -> u64
     ensures value { result ≡ word_of now_ms byte }
-    ensures read { read_word result ≡ Some (min now_ms (2 ^ 50), byte % 128) }
+    ensures read { read_word result ≡ Some (min now_ms (2 ^ 50), byte) }
 {
-    now_ms.min(MOST_MS) * 256 + 128 + u64::from(byte % 128)
+    now_ms.min(MOST_MS) * 512 + 256 + u64::from(byte)
 }
 
-/// What a word says: when a node was heard, in ms, and with which state.
+/// What a word says: when a node was heard, in ms, and with which byte.
 fn read_word(word: u64) -> Option<(u64, u8)>
-    ensures value { result ≡ read_word word }
-    ensures state { IfSome result (λ heard. heard.1 < 128) }
+    ensures { result ≡ read_word word }
 {
     if word == 0 {
         None
     } else {
-        Some((word / 256, (word % 128) as u8))
+        Some((word / 512, (word % 256) as u8))
     }
 }
 
@@ -43,7 +42,7 @@ fn is_news(last: Option<(u64, u8)>, byte: u8) -> bool
 {
     match last {
         None => true,
-        Some((_, state)) => byte % 128 == 0 || state != byte % 128,
+        Some((_, before)) => byte % 128 == 0 || before != byte,
     }
 }
 
@@ -60,7 +59,7 @@ impl Heartbeats {
     }
 
     /// The node was heard with this byte at so many ms since the run began. The answer is whether that is news: a
-    /// boot-up message, or another state than the last time.
+    /// boot-up message, or another byte than the last time.
     pub fn hear(&self, node: NodeId, byte: u8, now_ms: u64) -> bool
         ensures boot_up { byte % 128 ≡ 0 → IsTrue result }
     {
@@ -71,10 +70,8 @@ impl Heartbeats {
         is_news(read_word(last), byte)
     }
 
-    /// When the node was last heard, in ms since the run began, and with which state; `None` where it never was.
-    pub fn last(&self, node: NodeId) -> Option<(u64, u8)>
-        ensures state { IfSome result (λ heard. heard.1 < 128) }
-    {
+    /// When the node was last heard, in ms since the run began, and with which byte; `None` where it never was.
+    pub fn last(&self, node: NodeId) -> Option<(u64, u8)> {
         let word = self.words.get(usize::from(node.get()))?;
         read_word(word.load(Ordering::SeqCst))
     }

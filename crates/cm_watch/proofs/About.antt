@@ -69,4 +69,6 @@ module _ (net : Network) (s : Settings) (t i j : ℕ) (other : j ≢ i) (k : Sla
   kept_apart (moment.Gave (step.LeftOut n c)) is = refl
   kept_apart (moment.Gave (step.TimeOver ms)) is = absurd (none-some i is)
   kept_apart (moment.Gave (step.AllTried ms)) is = absurd (none-some i is)
+  kept_apart (moment.Gave (step.Beat b)) is = absurd (none-some i is)
+  kept_apart (moment.Gave (step.Guard n)) is = rw (apart n is) refl
   kept_apart (moment.Gave step.End) is = absurd (none-some i is)

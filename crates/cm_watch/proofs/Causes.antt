@@ -130,6 +130,8 @@ module _ (net : Network) (s : Settings) (i t : ℕ) where
   moment_case (moment.Gave (step.LeftOut j n)) at b busy held up k before = before
   moment_case (moment.Gave (step.TimeOver ms)) at b busy held up k before = before
   moment_case (moment.Gave (step.AllTried ms)) at b busy held up k before = before
+  moment_case (moment.Gave (step.Beat x)) at b busy held up k before = before
+  moment_case (moment.Gave (step.Guard j)) at b busy held up k before = before
   moment_case (moment.Gave step.End) at b busy held up k before = before
 
 pub not_forgotten : IsNotForgotten

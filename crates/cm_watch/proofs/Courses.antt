@@ -3,7 +3,7 @@
 use Rattle.std.proofs.Common.{◌≡◌, ◌∙◌, ℕ, ◌&&◌, ◌||◌, not, Bool, true, false, List, [], ◌∷◌, ap, refl, sym, Option, Some, None, is_some, unwrap_or}
 use Rattle.std.specs.Bool.{if◌then◌else◌}
 use Rattle.std.specs.List.{filter}
-use Rattle.cm_history.specs.History.{boots, clears, is_booted, is_empty, is_start_by, open_of, phase_of}
+use Rattle.cm_history.specs.History.{boots, clears, is_booted, is_empty, is_start_by, open_of, own_of, phase_of}
 use Rattle.cm_history.specs.Machine.{phase_then}
 use Rattle.cm_history.specs.Phases.{is_booting}
 use Rattle.cm_history.specs.declared.call.Entry.{Entry}
@@ -12,7 +12,8 @@ use Rattle.cm_history.specs.declared.phase.Phase.TheVariants as phase
 use Rattle.cm_history.proofs.PhaseSteps.{phase_more}
 use Rattle.cm_netlist.specs.Network.{Network, listing}
 use Rattle.cm_nmt.specs.Listing.{is_mandatory, node_ids}
-use Rattle.cm_watch.specs.Kept.{course_after, course_of, phase_behind}
+use Rattle.cm_nmt.specs.declared.state.NmtState.{NmtState}
+use Rattle.cm_watch.specs.Kept.{course_after, course_of, own_behind, phase_behind}
 use Rattle.cm_watch.specs.Pasts.{Past, entries_in, with_entry}
 use Rattle.cm_watch.specs.Slaves.{booted_by, booted_since}
 use Rattle.cm_watch.specs.Watches.{AreSlaves, is_pending_by}
@@ -66,17 +67,29 @@ phase_step net (moment.Happened (happening.Asked j)) es = refl
 phase_step net (moment.Happened (happening.Ends at)) es = refl
 phase_step net (moment.Gave g) es = refl
 
+own_step : (net : Network) (m : Moment) (es : List Entry)
+    → own_behind net m (phase_of (listing net) es) (phase_of (listing net) (with_entry m es)) (own_of (listing net) es) ≡ own_of (listing net) (with_entry m es)
+own_step net (moment.Happened (happening.Called e)) es = refl
+own_step net (moment.Happened (happening.Heard j k)) es = refl
+own_step net (moment.Happened (happening.Ended j)) es = refl
+own_step net (moment.Happened (happening.Asked j)) es = refl
+own_step net (moment.Happened (happening.Ends at)) es = refl
+own_step net (moment.Gave g) es = refl
+
 -- what is kept of the network, after one moment more
 pub course_step : (net : Network) (past : Past) (t : ℕ) (m : Moment)
     → course_after net t m (open_of (listing net) (entries_in ((t, m) ∷ past))) (course_of net past) ≡ course_of net ((t, m) ∷ past)
 course_step net past t m =
     ap (λ p. record {
       phase = p;
+      own = own_behind net m (course_of net past).phase p (course_of net past).own;
       started = (course_of net ((t, m) ∷ past)).started;
       is_stopped = (course_of net ((t, m) ∷ past)).is_stopped;
       is_over_given = (course_of net ((t, m) ∷ past)).is_over_given;
       is_end_given = (course_of net ((t, m) ∷ past)).is_end_given;
+      beat = (course_of net ((t, m) ∷ past)).beat;
     }) (phase_step net m (entries_in past))
+    ∙ ap (λ (o : NmtState). record (course_of net ((t, m) ∷ past)) { own = o }) (own_step net m (entries_in past))
 
 -- in another phase than Booting no call decides
 same_then : (p : Phase) (a b : Option Phase) → is_booting p ≡ false → phase_then p a ≡ phase_then p b
@@ -105,8 +118,10 @@ course_while net t m xs c after none is known = by_booting (is_booting c.phase) 
         known (0 ∷ []) (is ∙ ap (λ b. b && is_empty xs) other)
         ∙ ap (λ p. record {
           phase = p;
+          own = own_behind net m c.phase p c.own;
           started = (course_after net t m xs c).started;
           is_stopped = (course_after net t m xs c).is_stopped;
           is_over_given = (course_after net t m xs c).is_over_given;
           is_end_given = (course_after net t m xs c).is_end_given;
+          beat = (course_after net t m xs c).beat;
         }) (same_behind net m (0 ∷ []) xs c.phase other)

@@ -2,6 +2,8 @@ pub mod Lists
 pub mod Rows
 pub mod About
 pub mod Steps
+pub mod Multiples
+pub mod Sendings
 pub mod Courses
 pub mod Losses
 pub mod Limits

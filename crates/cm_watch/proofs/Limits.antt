@@ -24,7 +24,7 @@ use Rattle.cm_watch.specs.declared.settings.Settings.{Settings}
 use Rattle.cm_watch.specs.declared.signals.Budget.{Budget}
 use Rattle.cm_watch.proofs.Steps.{given-append}
 
-false_true : {A : Type 0} → false ≡ true → A
+pub false_true : {A : Type 0} → false ≡ true → A
 false_true e = absurd (cc)
 
 -- ---- one in 10 s

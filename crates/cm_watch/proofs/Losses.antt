@@ -4,7 +4,8 @@ use Rattle.std.specs.Bool.{if◌then◌else◌}
 use Rattle.cm_watch.specs.Losses.{IsLostOnce, NoneBoots, is_boot_of}
 use Rattle.cm_watch.specs.Pasts.{Past}
 use Rattle.cm_watch.specs.Slaves.{booted_since, heard_last, is_lost_given, lost_by}
-use Rattle.cm_watch.specs.Steps.{heartbeat_of, is_overdue}
+use Rattle.cm_watch.specs.Guarding.{most_silence_of}
+use Rattle.cm_watch.specs.Steps.{is_overdue}
 use Rattle.cm_watch.specs.declared.happening.Happening.TheVariants as happening
 use Rattle.cm_watch.specs.declared.happening.Moment.{Moment}
 use Rattle.cm_watch.specs.declared.happening.Moment.TheVariants as moment
@@ -22,6 +23,8 @@ stays (moment.Gave (step.Signal j b)) i rest none yet = yet
 stays (moment.Gave (step.LeftOut j n)) i rest none yet = yet
 stays (moment.Gave (step.TimeOver ms)) i rest none yet = yet
 stays (moment.Gave (step.AllTried ms)) i rest none yet = yet
+stays (moment.Gave (step.Beat b)) i rest none yet = yet
+stays (moment.Gave (step.Guard j)) i rest none yet = yet
 stays (moment.Gave step.End) i rest none yet = yet
 
 given_until : (newer past : Past) (t i : ℕ) → NoneBoots newer i → is_lost_given (newer ++ (t, moment.Gave (step.Lost i)) ∷ past) i ≡ true
@@ -35,5 +38,5 @@ never_both false = refl
 pub lost_once : IsLostOnce
 lost_once net newer past t now i none =
     let all = newer ++ (t, moment.Gave (step.Lost i)) ∷ past in
-    let late = is_overdue (heartbeat_of net i) now (heard_last all i) (booted_since all i) in
+    let late = is_overdue (most_silence_of net i) now (heard_last all i) (booted_since all i) in
     ap (λ b. late && not b) (given_until newer past t i none) ∙ never_both late

@@ -6,12 +6,15 @@ use Rattle.cm_history.specs.History.{is_empty}
 use Rattle.cm_netlist.specs.Network.{Network, is_listed}
 use Rattle.cm_nmt.specs.Listing.{node_ids}
 use Rattle.cm_watch.specs.Ends.{has_come, is_run_over}
+use Rattle.cm_watch.specs.Beats.{beat_byte, beat_last, is_beat_due, own_in}
+use Rattle.cm_watch.specs.ErrorControl.{error_control_at}
+use Rattle.cm_watch.specs.Guarding.{counts, counts_for, guard_of, is_asked_again, is_guard_due, most_silence_of}
 use Rattle.cm_watch.specs.Kept.{course_of, slave_of}
 use Rattle.cm_watch.specs.Pasts.{Past}
 use Rattle.cm_watch.specs.Signals.{is_allowed, news_of, pending_of}
 use Rattle.cm_watch.specs.Slaves.{is_tried_in}
-use Rattle.cm_watch.specs.Steps.{are_tried, elapsed_at, given, heartbeat_of, is_end, is_free, is_late, is_left_out, is_overdue, is_time_over, is_to_be_booted, is_to_be_told, left_out_of, signal_of, steps_at, takes_boots}
-use Rattle.cm_watch.specs.Watches.{Watches, are_tried_by, elapsed_by, is_end_by, is_late_by, is_left_out_by, is_pending_by, is_run_over_by, is_time_over_by, is_to_be_booted_by, is_to_be_told_by, kept_at, left_out_by, signal_by, steps_by, steps_of_kind}
+use Rattle.cm_watch.specs.Steps.{are_tried, elapsed_at, given, is_end, is_free, is_late, is_left_out, is_overdue, is_time_over, is_to_be_booted, is_to_be_told, left_out_of, signal_of, steps_at, step_if, takes_boots}
+use Rattle.cm_watch.specs.Watches.{Watches, are_tried_by, counts_by, elapsed_by, error_control_by, is_end_by, is_guard_due_by, is_late_by, is_left_out_by, is_pending_by, is_run_over_by, is_time_over_by, is_to_be_booted_by, is_to_be_told_by, kept_at, left_out_by, signal_by, steps_by, steps_of_kind}
 use Rattle.cm_watch.specs.declared.watch.Kind.TheVariants as kind
 use Rattle.cm_watch.specs.declared.watch.Pending.TheVariants as pending
 use Rattle.cm_watch.specs.declared.course.Course.{Course}
@@ -25,7 +28,7 @@ use Rattle.cm_watch.proofs.Lists.{same_chosen, same_mapped}
 
 module _ (w : Watch) (net : Network) (s : Settings) (past : Past) (has : Watches w net s past) where
   same_late : (now i : ℕ) → 1 ≤ i → i < 128 → is_late_by w net now i ≡ is_late net past now i
-  same_late now i low high = ap (λ (k : Slave). is_overdue (heartbeat_of net i) now k.heard k.booted && not k.is_lost) (has.slaves i low high)
+  same_late now i low high = ap (λ (k : Slave). is_overdue (most_silence_of net i) now k.heard k.booted && not k.is_lost) (has.slaves i low high)
 
   same_boot : (now i : ℕ) → 1 ≤ i → i < 128 → is_to_be_booted_by w net now i ≡ is_to_be_booted net s past now i
   same_boot now i low high =
@@ -85,6 +88,28 @@ module _ (w : Watch) (net : Network) (s : Settings) (past : Past) (has : Watches
       let elapsed : elapsed_by w now ≡ elapsed_at past now = same_elapsed now in
       let run_over : is_run_over_by w now ≡ is_run_over past now = same_run_over now in
       rw (losses, boots, left_out, signals, over, ended, elapsed, run_over) refl
+
+  -- ---- error control
+
+  same_guard : (now i : ℕ) → 1 ≤ i → i < 128 → is_guard_due_by w net now i ≡ is_guard_due net past now i
+  same_guard now i low high = ap (λ (k : Slave). is_asked_again (guard_of net i) now k.guarded k.booted) (has.slaves i low high)
+
+  same_beat : (now : ℕ) → step_if (is_beat_due w.settings.heartbeat_ms now w.course.beat) (step.Beat (beat_byte w.course.beat w.course.own))
+      ≡ step_if (is_beat_due s.heartbeat_ms now (beat_last past)) (step.Beat (beat_byte (beat_last past) (own_in net past)))
+  same_beat now =
+      ap (λ (x : Settings). step_if (is_beat_due x.heartbeat_ms now w.course.beat) (step.Beat (beat_byte w.course.beat w.course.own))) has.settings
+      ∙ ap (λ (c : Course). step_if (is_beat_due s.heartbeat_ms now c.beat) (step.Beat (beat_byte c.beat c.own))) has.course
+
+  -- what is sent for error control is what the past says
+  pub same_error_control : (now : ℕ) → error_control_by w net now ≡ error_control_at net s past now
+  same_error_control now =
+      let beat = same_beat now in
+      let guards : steps_of_kind w net now kind.Guard ≡ map step.Guard (filter (is_guard_due net past now) node_ids) =
+      ap (map step.Guard) (same_chosen (is_guard_due_by w net now) (is_guard_due net past now) (same_guard now)) in
+      rw (beat, guards) refl
+
+  pub same_counts : (i b : ℕ) → 1 ≤ i → i < 128 → counts_by w net i b ≡ counts net past i b
+  same_counts i b low high = ap (λ (k : Slave). counts_for (guard_of net i) k.booted k.toggle b) (has.slaves i low high)
 
 -- one step more
 pub given_more : (now : ℕ) (xs : List Step) (x : Step) (past : Past) → given now (xs ++ x ∷ []) past ≡ (now, moment.Gave x) ∷ given now xs past

@@ -21,6 +21,8 @@ same_boots now (moment.Gave (step.Signal j b)) past i other = refl
 same_boots now (moment.Gave (step.LeftOut j n)) past i other = refl
 same_boots now (moment.Gave (step.TimeOver ms)) past i other = refl
 same_boots now (moment.Gave (step.AllTried ms)) past i other = refl
+same_boots now (moment.Gave (step.Beat b)) past i other = refl
+same_boots now (moment.Gave (step.Guard j)) past i other = refl
 same_boots now (moment.Gave step.End) past i other = refl
 
 pub same_tries : (t : Tried) (now : ℕ) (m : Moment) (past : Past) → may_change_boots m ≡ false → Tries t past → Tries t ((now, m) ∷ past)

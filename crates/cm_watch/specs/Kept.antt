@@ -1,7 +1,7 @@
 -- Working definitions: what is kept of a slave and of the network, and what one moment makes of it.
 use Rattle.std.specs.Prelude.{ℕ, Option, Some, None, false, ◌&&◌, if◌then◌else◌, nat_le, unwrap_or}
 use Rattle.std.specs.Option.{option_or}
-use Rattle.cm_history.specs.Machine.{phase_after}
+use Rattle.cm_history.specs.Machine.{own_after, phase_after}
 use Rattle.cm_history.specs.Orders.{is_reset_all}
 use Rattle.cm_history.specs.declared.call.Call.{Call}
 use Rattle.cm_history.specs.declared.call.Call.TheVariants as call
@@ -9,8 +9,12 @@ use Rattle.cm_history.specs.declared.call.Orders.{Orders}
 use Rattle.cm_history.specs.declared.phase.Phase.{Phase}
 use Rattle.cm_history.specs.declared.phase.Phase.TheVariants as phase
 use Rattle.cm_netlist.specs.Network.{Network, listing}
+use Rattle.cm_nmt.specs.declared.state.NmtState.{NmtState}
+use Rattle.cm_nmt.specs.declared.state.NmtState.TheVariants as state
 use Rattle.std.specs.Prelude.{List}
+use Rattle.cm_watch.specs.Beats.{beat_by, beat_last, own_in}
 use Rattle.cm_watch.specs.Course.{end_by, is_end_given, is_over_given, is_stopped_in, over_by, phase_in, started_at, started_by, stopped_by}
+use Rattle.cm_watch.specs.Guarding.{guard_by, guard_last, toggle_by, toggle_in}
 use Rattle.cm_watch.specs.Pasts.{Past}
 use Rattle.cm_watch.specs.Schedules.{blank_schedule, cause_by, schedule_after, schedule_in}
 use Rattle.cm_watch.specs.Signals.{boot_up_by, changes_by, budget_in, full_budget, news_in, spends, spent, state_heard_by, state_told_by}
@@ -44,6 +48,8 @@ slave_of net s past i = record {
   schedule = schedule_in net s past i;
   news = news_in past i;
   budget = budget_in net s past i;
+  guarded = guard_last past i;
+  toggle = toggle_in net past i;
 }
 
 -- nothing has happened
@@ -59,6 +65,8 @@ blank_slave = record {
   schedule = blank_schedule;
   news = record { boot_up = false; heard = None; told = None; changes = 0 };
   budget = full_budget;
+  guarded = None;
+  toggle = false;
 }
 
 abbrev pub news_after : Moment → ℕ → News → News
@@ -85,6 +93,8 @@ slave_after net s t m i k = record {
   schedule = schedule_after net s t i (cause_by m i) k.schedule;
   news = news_after m i k.news;
   budget = budget_after t m i k.schedule k.budget;
+  guarded = option_or (guard_by t m i) k.guarded;
+  toggle = unwrap_or (toggle_by net m i) k.toggle;
 }
 
 -- ---- which slave a moment may change
@@ -121,6 +131,8 @@ about_step (step.Signal j b) = Some j
 about_step (step.LeftOut j n) = Some j
 about_step (step.TimeOver ms) = None
 about_step (step.AllTried ms) = None
+about_step (step.Beat b) = None
+about_step (step.Guard j) = Some j
 about_step step.End = None
 
 -- which node a moment is about: what is kept of each other slave stays as it is; none where it may be about all, or is
@@ -135,26 +147,43 @@ about (moment.Gave s) = about_step s
 abbrev pub course_of : Network → Past → Course
 course_of net past = record {
   phase = phase_in net past;
+  own = own_in net past;
   started = started_at past;
   is_stopped = is_stopped_in past;
   is_over_given = is_over_given past;
   is_end_given = is_end_given past;
+  beat = beat_last past;
 }
 
 -- before any call
 abbrev pub blank_course : Course
-blank_course = record { phase = phase.Idle; started = None; is_stopped = false; is_over_given = false; is_end_given = false }
+blank_course = record {
+  phase = phase.Idle;
+  own = state.PreOperational;
+  started = None;
+  is_stopped = false;
+  is_over_given = false;
+  is_end_given = false;
+  beat = None;
+}
 
 -- the phase after the moment, with the slaves that are open then
 abbrev pub phase_behind : Network → Moment → List ℕ → Phase → Phase
 phase_behind net (moment.Happened (happening.Called e)) open_slaves p = phase_after (listing net) e.call e.reply open_slaves p
 phase_behind net _ open_slaves p = p
 
+-- the manager's own state after the moment, with the phases before and behind it
+abbrev pub own_behind : Network → Moment → Phase → Phase → NmtState → NmtState
+own_behind net (moment.Happened (happening.Called e)) before after own = own_after (listing net) e.call e.reply e.orders before after own
+own_behind net _ before after own = own
+
 abbrev pub course_after : Network → ℕ → Moment → List ℕ → Course → Course
 course_after net t m open_slaves c = record {
   phase = phase_behind net m open_slaves c.phase;
+  own = own_behind net m c.phase (phase_behind net m open_slaves c.phase) c.own;
   started = option_or (started_by t m) c.started;
   is_stopped = unwrap_or (stopped_by m) c.is_stopped;
   is_over_given = unwrap_or (over_by m) c.is_over_given;
   is_end_given = unwrap_or (end_by m) c.is_end_given;
+  beat = option_or (beat_by t m) c.beat;
 }

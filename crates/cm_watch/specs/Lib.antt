@@ -4,7 +4,10 @@ pub mod Schedules
 pub mod Signals
 pub mod Course
 pub mod Ends
+pub mod Guarding
+pub mod Beats
 pub mod Steps
+pub mod ErrorControl
 pub mod Losses
 pub mod Limits
 pub mod Causes

@@ -1,15 +1,14 @@
 -- Which steps are given at a time, told from the past (own).
 use Rattle.std.specs.Prelude.{◌&&◌, ◌||◌, if◌then◌else◌, ◌-◌, ◌++◌, [], ◌∷◌, ℕ, Bool, false, not, List}
 use Rattle.std.specs.Prelude.{nat_lt, max, min, map, filter, Option, Some, None, is_some, unwrap_or}
-use Rattle.std.specs.Option.{option_map_or}
 use Rattle.cm_history.specs.History.{is_empty}
 use Rattle.cm_history.specs.Phases.{is_booting, is_ready}
 use Rattle.cm_history.specs.declared.phase.Phase.{Phase}
-use Rattle.cm_netlist.specs.Network.{Network, entry, is_listed}
-use Rattle.cm_netlist.specs.declared.entry.SlaveEntry.{SlaveEntry}
+use Rattle.cm_netlist.specs.Network.{Network, is_listed}
 use Rattle.cm_nmt.specs.Listing.{node_ids}
 use Rattle.cm_watch.specs.Course.{is_end_given, is_over_given, is_stopped_in, phase_in, started_at}
 use Rattle.cm_watch.specs.Ends.{is_run_over}
+use Rattle.cm_watch.specs.Guarding.{most_silence_of}
 use Rattle.cm_watch.specs.Pasts.{Past}
 use Rattle.cm_watch.specs.Schedules.{is_due, is_own, schedule_in}
 use Rattle.cm_watch.specs.Signals.{budget_in, is_allowed, news_in, news_of, pending_of}
@@ -23,10 +22,6 @@ use Rattle.cm_watch.specs.declared.signals.Budget.{Budget}
 
 -- ---- a slave that is lost
 
--- in which time the heartbeat of i has to come, in ms; 0 where it isn't watched (CiA 302-2, 1016h of the manager)
-abbrev pub heartbeat_of : Network → ℕ → ℕ
-heartbeat_of net i = option_map_or (λ (e : SlaveEntry). e.heartbeat_ms) (entry net i) 0
-
 -- what is booted since some time, and was heard last at another, wasn't heard within h ms
 abbrev pub is_overdue : ℕ → ℕ → Option ℕ → Option ℕ → Bool
 is_overdue h now heard None = false
@@ -36,7 +31,7 @@ is_overdue h now heard (Some since) = nat_lt 0 h && nat_lt h (now - max (unwrap_
 -- given as lost since it was booted
 abbrev pub is_late : Network → Past → ℕ → ℕ → Bool
 is_late net past now i =
-    is_overdue (heartbeat_of net i) now (heard_last past i) (booted_since past i) && not (is_lost_given past i)
+    is_overdue (most_silence_of net i) now (heard_last past i) (booted_since past i) && not (is_lost_given past i)
 
 -- ---- a slave that is to be booted
 

@@ -7,10 +7,10 @@ use Rattle.cm_history.specs.declared.call.Call.TheVariants as call
 use Rattle.cm_history.specs.declared.call.Reply.{Reply}
 use Rattle.cm_netlist.specs.Network.{Network}
 use Rattle.cm_watch.specs.Course.{is_stopped_in, phase_in}
+use Rattle.cm_watch.specs.Guarding.{most_silence_of}
 use Rattle.cm_watch.specs.Pasts.{Past}
 use Rattle.cm_watch.specs.Schedules.{schedule_in}
 use Rattle.cm_watch.specs.Slaves.{booted_since, is_held_in}
-use Rattle.cm_watch.specs.Steps.{heartbeat_of}
 use Rattle.cm_watch.specs.declared.happening.Happening.{Happening}
 use Rattle.cm_watch.specs.declared.happening.Happening.TheVariants as happening
 use Rattle.cm_watch.specs.declared.happening.Moment.TheVariants as moment
@@ -34,9 +34,9 @@ back_by _ = None
 abbrev pub back_while : Bool → Happening → Option ℕ
 back_while stopped h = if stopped then back_by h else None
 
--- the slave that the call boots, and that has no heartbeat time
+-- the slave that the call boots, and that isn't watched: it has neither a heartbeat time nor a node life time
 abbrev pub unwatched_by_call : Network → Call → Reply → Option ℕ
-unwatched_by_call net (call.Report j n a) r = if is_good_report r && heartbeat_of net j == 0 then Some j else None
+unwatched_by_call net (call.Report j n a) r = if is_good_report r && most_silence_of net j == 0 then Some j else None
 unwatched_by_call net _ r = None
 
 abbrev pub unwatched_by : Network → Happening → Option ℕ

@@ -9,7 +9,9 @@ use Rattle.cm_watch.specs.Ends.{ends_in, has_come}
 use Rattle.cm_watch.specs.Kept.{blank_slave, course_of, slave_of}
 use Rattle.cm_watch.specs.Pasts.{Past}
 use Rattle.cm_watch.specs.Signals.{is_allowed, news_of, pending_of}
-use Rattle.cm_watch.specs.Steps.{heartbeat_of, is_free, is_overdue, step_if, takes_boots}
+use Rattle.cm_watch.specs.Beats.{beat_byte, is_beat_due}
+use Rattle.cm_watch.specs.Guarding.{counts_for, guard_of, is_asked_again, most_silence_of}
+use Rattle.cm_watch.specs.Steps.{is_free, is_overdue, step_if, takes_boots}
 use Rattle.cm_watch.specs.declared.happening.Step.{Step}
 use Rattle.cm_watch.specs.declared.happening.Step.TheVariants as step
 use Rattle.cm_watch.specs.declared.settings.Settings.{Settings}
@@ -38,7 +40,7 @@ pub record Watches (w : Watch) (net : Network) (s : Settings) (past : Past) : Ty
 -- ---- working definitions: what the watch does by what it keeps
 
 abbrev pub is_late_by : Watch → Network → ℕ → ℕ → Bool
-is_late_by w net now i = let k = kept_at w.slaves i in is_overdue (heartbeat_of net i) now k.heard k.booted && not k.is_lost
+is_late_by w net now i = let k = kept_at w.slaves i in is_overdue (most_silence_of net i) now k.heard k.booted && not k.is_lost
 
 abbrev pub is_to_be_booted_by : Watch → Network → ℕ → ℕ → Bool
 is_to_be_booted_by w net now i =
@@ -75,18 +77,23 @@ is_pending_by slaves net pending.Untried i = is_untried_by slaves net i
 abbrev pub are_tried_by : Watch → Network → Bool
 are_tried_by w net = is_empty (filter (is_pending_by w.slaves net pending.Untried) node_ids)
 
+abbrev pub is_guard_due_by : Watch → Network → ℕ → ℕ → Bool
+is_guard_due_by w net now i = let k = kept_at w.slaves i in is_asked_again (guard_of net i) now k.guarded k.booted
+
 -- a step of this kind, and whether it is to be given
 abbrev pub is_given_by : Watch → Network → ℕ → Kind → ℕ → Bool
 is_given_by w net now kind.Lost i = is_late_by w net now i
 is_given_by w net now kind.Boot i = is_to_be_booted_by w net now i
 is_given_by w net now kind.LeftOut i = is_left_out_by w net now i
 is_given_by w net now kind.Signal i = is_to_be_told_by w net now i
+is_given_by w net now kind.Guard i = is_guard_due_by w net now i
 
 abbrev pub step_by : Watch → Kind → ℕ → Step
 step_by w kind.Lost i = step.Lost i
 step_by w kind.Boot i = step.Boot i
 step_by w kind.LeftOut i = left_out_by w i
 step_by w kind.Signal i = signal_by w i
+step_by w kind.Guard i = step.Guard i
 
 -- the steps of one kind, in rising order
 abbrev pub steps_of_kind : Watch → Network → ℕ → Kind → List Step
@@ -120,3 +127,13 @@ steps_by w net now =
 -- i isn't booted, isn't held, and is to be booted at no time
 abbrev pub is_given_up_by : Watch → ℕ → Bool
 is_given_up_by w i = let k = kept_at w.slaves i in is_none k.booted && (not k.is_held && is_none k.schedule.due)
+
+-- a message of i with this byte counts
+abbrev pub counts_by : Watch → Network → ℕ → ℕ → Bool
+counts_by w net i b = let k = kept_at w.slaves i in counts_for (guard_of net i) k.booted k.toggle b
+
+-- what is sent for error control
+abbrev pub error_control_by : Watch → Network → ℕ → List Step
+error_control_by w net now =
+    step_if (is_beat_due w.settings.heartbeat_ms now w.course.beat) (step.Beat (beat_byte w.course.beat w.course.own))
+    ++ steps_of_kind w net now kind.Guard

@@ -4,7 +4,8 @@ use cm_nmt::NodeId;
 /// What happens in a live run.
 #[derive(Clone, Copy)]
 pub enum Happening {
-    /// An error control message of the node came, with this byte (CiA 301, heartbeat and boot-up).
+    /// An error control message of the node came, with this byte, and counts: see [`crate::Watch::hear`] (CiA 301, boot-up,
+    /// heartbeat and node guarding).
     Heard(NodeId, u8),
     /// A call was made: its entry of the history. Calls are told in the order of the history.
     Called(Entry),
@@ -33,6 +34,10 @@ pub enum Step {
     TimeOver(u32),
     /// The manager is to be told that so many ms went by: the network is ready, or all slaves were tried.
     AllTried(u32),
+    /// The manager's own heartbeat is to be sent, with this byte: 0, boot-up, at first, and then its own NMT state (CiA 301).
+    Beat(u8),
+    /// The slave is to be asked for its state: node guarding (CiA 301).
+    Guard(NodeId),
     /// The run ends.
     End,
 }

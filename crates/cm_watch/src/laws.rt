@@ -1,3 +1,4 @@
+ghost use Rattle.cm_watch.specs.Beats.{IsAtMultiples};
 ghost use Rattle.cm_watch.specs.Causes.{IsNotForgotten};
 ghost use Rattle.cm_watch.specs.Limits.{IsOneInTenSeconds, IsToldInTime};
 ghost use Rattle.cm_watch.specs.Losses.{IsLostOnce};
@@ -23,4 +24,10 @@ pub fn told_in_time()
 /// some time.
 pub fn none_forgotten()
     ensures { IsNotForgotten }
+{}
+
+/// Behind a heartbeat of the manager, one is due exactly where a multiple of its time lies between. So none is missed, and
+/// where a turn comes late there is one for all that it has passed.
+pub fn beats_at_multiples()
+    ensures { IsAtMultiples }
 {}

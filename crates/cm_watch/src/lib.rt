@@ -2,15 +2,19 @@
 //! in it (own).
 //!
 //! A [`Watch`] is told each happening with its time, and gives the steps that are to be made: that a slave is lost, is to be
-//! booted, has sent something, that time has gone by, or that the run ends. What it gives is told by specs/ of the list of what
-//! has happened and was given so far, its past. That each slave is given as lost once, that none is forgotten, and that one
+//! booted, has sent something, that time has gone by, or that the run ends; and what is to be sent for error control: the heartbeat
+//! of the manager itself, and the requests of node guarding. What it gives is told by specs/ of the list of what has happened and
+//! was given so far, its past. That each slave is given as lost once, that none is forgotten, and that one
 //! which babbles causes at most one step in 10 s, are laws of every past. What an operator is told behind a happening is
 //! [`Told`]; in the order of the history it comes by [`InOrder`]; and when the time may be looked at, [`Pace`] says. What waits
 //! until its frames were handed to the wire is [`Waiting`], and what came of the boots so far [`Tried`].
 #![tactic(auto)]
 
+mod beats;
 mod course;
 mod ends;
+mod error_control;
+mod guarding;
 mod happening;
 mod in_order;
 mod laws;
@@ -27,9 +31,10 @@ mod waiting;
 mod watch;
 
 pub use course::Course;
+pub use guarding::guard_of;
 pub use happening::{Happening, Moment, Step};
 pub use in_order::{InOrder, Placed};
-pub use laws::{lost_once, none_forgotten, one_in_ten_seconds, told_in_time};
+pub use laws::{beats_at_multiples, lost_once, none_forgotten, one_in_ten_seconds, told_in_time};
 pub use pace::Pace;
 pub use schedule::{Again, Cause, Due, Schedule};
 pub use settings::Settings;

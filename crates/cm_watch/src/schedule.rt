@@ -102,7 +102,7 @@ fn cause_by_call(call: &Call, reply: Reply, orders: &Orders, id: NodeId) -> Opti
 }
 
 /// What a moment is for the schedule of the slave.
-fn cause_by(moment: &Moment, id: NodeId) -> Option<Cause>
+pub(crate) fn cause_by(moment: &Moment, id: NodeId) -> Option<Cause>
     ensures { result ≡ cause_by moment.now id }
 {
     match moment {

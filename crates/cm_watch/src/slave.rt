@@ -6,6 +6,7 @@ ghost use Rattle.cm_watch.specs.Steps.{is_free, is_overdue};
 ghost use Rattle.cm_watch.specs.declared.happening.Happening.TheVariants.{Called};
 ghost use Rattle.cm_watch.specs.declared.happening.Moment.TheVariants.{Happened};
 
+use crate::guarding::{guard_by, toggle_by};
 use crate::happening::{Happening, Moment, Step};
 use crate::schedule::{Schedule, is_reset};
 use crate::settings::Settings;
@@ -34,6 +35,10 @@ pub struct Slave {
     pub schedule: Schedule,
     pub news: News,
     pub budget: Budget,
+    /// When it was asked for its state last, in ms.
+    pub guarded: Option<u64>,
+    /// The toggle bit of its next answer (CiA 301, node guarding).
+    pub toggle: bool,
 }
 
 /// Whether the call is a report that boots the slave.
@@ -171,18 +176,13 @@ fn asked_by(moment: &Moment, id: NodeId) -> Option<bool>
 }
 
 /// Whether what was booted and heard then is late now.
-pub(crate) fn is_overdue(
-    heartbeat_ms: u16,
-    now: u64,
-    heard: Option<u64>,
-    booted: Option<u64>,
-) -> bool
-    ensures { result ≡ is_overdue heartbeat_ms now heard booted }
+pub(crate) fn is_overdue(most_ms: u32, now: u64, heard: Option<u64>, booted: Option<u64>) -> bool
+    ensures { result ≡ is_overdue most_ms now heard booted }
 {
     match booted {
         Some(since) => {
             let last = heard.unwrap_or(0).max(since);
-            0 < heartbeat_ms && u64::from(heartbeat_ms) < now.saturating_sub(last)
+            0 < most_ms && u64::from(most_ms) < now.saturating_sub(last)
         }
         None => false,
     }
@@ -212,6 +212,8 @@ impl Slave {
             schedule: self.schedule.after(network, settings, now, moment, id),
             news: self.news.after(moment, id),
             budget: self.budget.after(now, moment, self.schedule, id),
+            guarded: guard_by(now, moment, id).or(self.guarded),
+            toggle: toggle_by(network, moment, id).unwrap_or(self.toggle),
         }
     }
 

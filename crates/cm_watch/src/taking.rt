@@ -52,8 +52,12 @@ fn about_step(step: &Step) -> Option<NodeId>
     ensures { result ≡ about_step step.now }
 {
     match step {
-        Step::Lost(id) | Step::Boot(id) | Step::Signal(id, _) | Step::LeftOut(id, _) => Some(*id),
-        Step::TimeOver(_) | Step::AllTried(_) | Step::End => None,
+        Step::Lost(id)
+        | Step::Boot(id)
+        | Step::Signal(id, _)
+        | Step::LeftOut(id, _)
+        | Step::Guard(id) => Some(*id),
+        Step::TimeOver(_) | Step::AllTried(_) | Step::Beat(_) | Step::End => None,
     }
 }
 

@@ -1,8 +1,8 @@
 ghost use Rattle.std.specs.Prelude.{◌≡◌};
 ghost use Rattle.cm_watch.specs.Telling.{back_by, back_while, becomes, unwatched_by};
 
+use crate::guarding::most_silence_of;
 use crate::happening::Happening;
-use crate::watch::heartbeat_of;
 use cm_history::{Call, Reply};
 use cm_netlist::Network;
 use cm_nmt::NodeId;
@@ -18,7 +18,7 @@ pub struct Told {
     pub is_stopped: bool,
     /// This slave is back, while all are stopped.
     pub back: Option<NodeId>,
-    /// This slave is booted, and isn't watched, since it has no heartbeat time.
+    /// This slave is booted, and isn't watched, since it has neither a heartbeat time nor a node life time.
     pub unwatched: Option<NodeId>,
     /// This slave isn't booted, and is to be booted at no time: a worker's attempts at it have ended.
     pub given_up: Option<NodeId>,
@@ -51,14 +51,14 @@ pub(crate) fn back_while(is_stopped: bool, happening: &Happening) -> Option<Node
     if is_stopped { back_by(happening) } else { None }
 }
 
-/// The slave that is booted with it, and that has no heartbeat time.
+/// The slave that is booted with it, and that isn't watched.
 pub(crate) fn unwatched_by(network: &Network, happening: &Happening) -> Option<NodeId>
     ensures { result ≡ unwatched_by network.now happening.now }
 {
     match happening {
         Happening::Called(entry) => match (&entry.call, entry.reply) {
             (Call::Report(id, _, _), Reply::Reported(status))
-                if status.is_good() && heartbeat_of(network, *id) == 0 => { Some(*id) }
+                if status.is_good() && most_silence_of(network, *id) == 0 => { Some(*id) }
             _ => None,
         },
         _ => None,

@@ -6,7 +6,7 @@ ghost use Rattle.cm_nmt.specs.Listing.{node_ids};
 ghost use Rattle.cm_watch.specs.Kept.{course_of};
 ghost use Rattle.cm_watch.specs.Limits.{AreLimited};
 ghost use Rattle.cm_watch.specs.Pasts.{Past};
-ghost use Rattle.cm_watch.specs.Steps.{given, heartbeat_of, steps_at};
+ghost use Rattle.cm_watch.specs.Steps.{given, steps_at};
 ghost use Rattle.cm_watch.specs.Telling.{given_up_of, told_of};
 ghost use Rattle.cm_watch.specs.Watches.{Watches, elapsed_by, is_end_by, is_given_by, is_given_up_by, is_late_by};
 ghost use Rattle.cm_watch.specs.Watches.{is_left_out_by, is_pending_by, is_run_over_by, is_time_over_by, is_to_be_booted_by};
@@ -17,6 +17,7 @@ ghost use Rattle.cm_watch.specs.declared.settings.Settings.{Settings as WatchSet
 
 use crate::course::{Course, is_mandatory};
 use crate::ends::{ends_by, has_come};
+use crate::guarding::most_silence_of;
 use crate::happening::{Happening, Moment, Step};
 use crate::schedule::{Again, Schedule};
 use crate::settings::Settings;
@@ -26,13 +27,13 @@ use crate::taking::take_all;
 use crate::telling::{Told, back_while, becomes, unwatched_by};
 use cm_history::Phase;
 use cm_netlist::Network;
-use cm_nmt::NodeId;
+use cm_nmt::{NmtState, NodeId};
 use std::alloc::{AllocError, Global};
 
 /// What a live run does next, told from what has happened and the network list.
 #[derive(Clone, Copy)]
 pub struct Watch {
-    settings: Settings,
+    pub(crate) settings: Settings,
     pub(crate) course: Course,
     /// When the run is to end, in ms since it began.
     ends: Option<u64>,
@@ -40,23 +41,14 @@ pub struct Watch {
     slaves: [Slave; 128],
 }
 
-/// In which time the heartbeat of the node has to come, in ms; 0 where it isn't watched.
-pub(crate) fn heartbeat_of(network: &Network, id: NodeId) -> u16
-    ensures { result ≡ heartbeat_of network.now id }
-{
-    match network.entry(id) {
-        Some(entry) => entry.heartbeat_ms,
-        None => 0,
-    }
-}
-
 /// What a step of a node is.
 #[derive(Clone, Copy)]
-enum Kind {
+pub(crate) enum Kind {
     Lost,
     Boot,
     LeftOut,
     Signal,
+    Guard,
 }
 
 /// What a listed slave may still be.
@@ -96,15 +88,19 @@ impl Watch {
                 left: MOST_AT_ONCE,
                 last: None,
             },
+            guarded: None,
+            toggle: false,
         };
         Watch {
             settings,
             course: Course {
                 phase: Phase::Idle,
+                own: NmtState::PreOperational,
                 started: None,
                 is_stopped: false,
                 is_over_given: false,
                 is_end_given: false,
+                beat: None,
             },
             ends: None,
             slaves: [blank; 128],
@@ -112,7 +108,7 @@ impl Watch {
     }
 
     /// The moment came then.
-    fn note(&mut self, network: &Network, now_ms: u64, moment: &Moment)
+    pub(crate) fn note(&mut self, network: &Network, now_ms: u64, moment: &Moment)
         requires { now_ms < 2 ^ 63 }
         ensures { (s : WatchSettings) (past : Past) → Watches self.old network.now s past
             → Watches self.new network.now s ((now_ms, moment.now) ∷ past) }
@@ -155,8 +151,8 @@ impl Watch {
         ensures { result ≡ is_late_by self.now network.now now id }
     {
         let slave = self.slave(id);
-        let heartbeat_ms = heartbeat_of(network, id);
-        is_overdue(heartbeat_ms, now, slave.heard, slave.booted) && !slave.is_lost
+        let most_ms = most_silence_of(network, id);
+        is_overdue(most_ms, now, slave.heard, slave.booted) && !slave.is_lost
     }
 
     /// Whether the slave is to be booted now.
@@ -211,6 +207,7 @@ impl Watch {
             Kind::Boot => self.is_to_be_booted(network, now, id),
             Kind::LeftOut => self.is_left_out(network, now, id),
             Kind::Signal => self.is_to_be_told(network, now, id),
+            Kind::Guard => self.is_guard_due(network, now, id),
         }
     }
 
@@ -223,11 +220,12 @@ impl Watch {
             Kind::Boot => Step::Boot(id),
             Kind::LeftOut => self.left_out(id),
             Kind::Signal => self.signal(id),
+            Kind::Guard => Step::Guard(id),
         }
     }
 
     /// Adds the steps of this kind, in rising order.
-    fn add_steps(
+    pub(crate) fn add_steps(
         &self,
         network: &Network,
         now: u64,
@@ -363,6 +361,17 @@ impl Watch {
         }
     }
 
+    /// These steps count as given.
+    pub(crate) fn give(&mut self, network: &Network, now_ms: u64, steps: &[Step])
+        requires { now_ms < 2 ^ 63 }
+        ensures { (s : WatchSettings) (past : Past) → Watches self.old network.now s past
+            → Watches self.new network.now s (given now_ms steps.now past) }
+    {
+        for step in steps {
+            self.note(network, now_ms, &Moment::Gave(*step));
+        }
+    }
+
     /// The steps that are to be made now. They count as given. Where memory is refused nothing is given.
     pub fn turn(
         &mut self,
@@ -381,9 +390,7 @@ impl Watch {
         ensures refused { OnErr result (self.new ≡ self.old) }
     {
         let steps = self.steps(alloc, network, now_ms)?;
-        for step in &steps {
-            self.note(network, now_ms, &Moment::Gave(*step));
-        }
+        self.give(network, now_ms, steps.as_slice());
         Ok(steps)
     }
 }

@@ -300,7 +300,7 @@ fn a_long_line_is_passed_over(rt: HostRuntime) {
 }
 
 #[test]
-fn only_another_state_is_news(rt: HostRuntime) {
+fn only_another_byte_is_news(rt: HostRuntime) {
     let heartbeats = Heartbeats::new(rt.alloc());
     let heartbeats = heartbeats.ok().expect(&rt, "memory");
     let two = node(&rt, 2);
@@ -310,7 +310,8 @@ fn only_another_state_is_news(rt: HostRuntime) {
     sure(&rt, heartbeats.hear(two, 0, 10));
     sure(&rt, heartbeats.hear(two, 0x7F, 20));
     sure(&rt, !heartbeats.hear(two, 0x7F, 30));
-    sure(&rt, !heartbeats.hear(two, 0xFF, 40));
+    sure(&rt, heartbeats.hear(two, 0xFF, 40));
+    sure(&rt, heartbeats.last(two) == Some((40, 0xFF)));
     sure(&rt, heartbeats.hear(two, 5, 50));
     sure(&rt, heartbeats.last(two) == Some((50, 5)));
     sure(&rt, heartbeats.last(node(&rt, 3)).is_none());

@@ -7,7 +7,7 @@ use crate::live::journal_file::make_journal;
 use crate::live::timed::Timed;
 use crate::live::{LiveEnds, LiveOptions, live_text};
 use crate::program::write_fault;
-use canboot_check::{CheckFault, LONGEST_LIST, read_fault, read_list, refuse};
+use canboot_check::{CheckFault, FAILED, LONGEST_LIST, fault_line, read_fault, read_list, refuse};
 use canboot_words::BusPaths;
 use cm_live::{Format, Outlet};
 use cm_text::{InputFault, read_input};
@@ -141,15 +141,16 @@ pub(crate) fn live_file<
         Ok(files) => files,
         Err(error) => return read_fault(err, error.kind()),
     };
-    let made = writers_to(rt.alloc(), &sent, options.workers + 1);
+    // One for each worker, one for error control, and one for the NMT messages.
+    let made = writers_to(rt.alloc(), &sent, options.workers + 2);
     let mut written = match made {
         Ok(writers) => writers,
         Err(error) => return write_fault(err, error.kind()),
     };
-    let mut messages = match written.pop() {
-        Some(writer) => Some(Outlet::new(writer, options.format)),
-        None => None,
+    let (Some(writer), Some(error_control)) = (written.pop(), written.pop()) else {
+        return fault_line(err, FAILED, "out of memory");
     };
+    let mut messages = Some(Outlet::new(writer, options.format));
     // Where the start will be refused, nothing is written.
     let path = if is_master { journal.path } else { None };
     let mut journal = match make_journal(rt, path, journal.is_synced, err) {
@@ -160,6 +161,7 @@ pub(crate) fn live_file<
         received,
         typed: rt.reader(),
         written,
+        error_control,
     };
     let _ = sent.write_all(channel_opening(options.format));
     let mut timed = Timed::new(rt, err, is_terminal);

@@ -112,7 +112,10 @@ impl fmt::Display for Unwatched {
 
     fn fmt<W: fmt::Write>(&self, f: &mut fmt::Formatter<W>) -> fmt::Result {
         let number = self.0.get();
-        write!(f, "node {number} isn't watched: it has no heartbeat time")
+        write!(
+            f,
+            "node {number} isn't watched: it has no heartbeat time and no guard time"
+        )
     }
 }
 

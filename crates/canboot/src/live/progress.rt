@@ -1,7 +1,8 @@
 //! How far a live run has come.
 
-ghost use Rattle.std.specs.Prelude.{◌≡◌, ◌<◌, ◌^◌, [], ◌∷◌, false, IfNone, IfSome, OnOk, Some};
+ghost use Rattle.std.specs.Prelude.{◌≡◌, ◌<◌, ◌^◌, [], ◌∷◌, ◌++◌, false, IfNone, IfSome, OnOk, Some};
 ghost use Rattle.cm_netlist.specs.Network.{Network as NetworkList};
+ghost use Rattle.cm_watch.specs.Guarding.{guard_of, heard_at};
 ghost use Rattle.cm_watch.specs.Pasts.{Past};
 ghost use Rattle.cm_watch.specs.Signals.{state_heard};
 ghost use Rattle.cm_watch.specs.Tried.{may_change_boots};
@@ -18,7 +19,7 @@ use cm_live::Heartbeats;
 use cm_netlist::Network;
 use cm_nmt::NodeId;
 use cm_sequential::frames;
-use cm_watch::{Happening, Settings, Tried, Waiting, Watch};
+use cm_watch::{Happening, Settings, Tried, Waiting, Watch, guard_of};
 use std::alloc::{AllocError, Global};
 use std::io::Write;
 
@@ -63,6 +64,15 @@ impl Progress<Entry> {
         }
     }
 
+    /// An error control message of a node came, with this byte.
+    pub(crate) fn hear(&mut self, network: &Network, id: NodeId, byte: u8, now: u64)
+        requires { now < 2 ^ 63 }
+        ensures { (s : WatchSettings) (past : Past) → Follows self.old network.now s past
+            → Follows self.new network.now s (heard_at network.now past now id byte ++ past) }
+    {
+        self.watch.hear(network, now, id, byte);
+    }
+
     /// The entry that comes next in the history, where it has come.
     pub(crate) fn next_entry(&mut self) -> Option<Entry>
         ensures next { (net : NetworkList) (s : WatchSettings) (past : Past) → Follows self.old net s past
@@ -93,13 +103,21 @@ impl Progress<Entry> {
 }
 
 /// The state in the error control message of a node that came last, where it came since the watch noted one and has the state
-/// that it noted last: another state, and a boot-up message, comes as a happening of its own.
-fn state_again(last: Option<(u64, u8)>, noted: Option<u64>, state_noted: Option<u8>) -> Option<u8>
-    ensures { result ≡ state_again last noted state_noted }
+/// that it noted last: another state, and a boot-up message, comes as a happening of its own, and so does each answer of a node
+/// that is guarded.
+fn state_again(
+    guard_ms: u16,
+    last: Option<(u64, u8)>,
+    noted: Option<u64>,
+    state_noted: Option<u8>,
+) -> Option<u8>
+    ensures again { result ≡ state_again guard_ms last noted state_noted }
+    ensures state { IfSome result (λ state. (guard_ms ≡ 0) × (state_noted ≡ Some state)) }
 {
-    let (at, state) = last?;
+    let (at, byte) = last?;
     let noted = noted?;
-    if state != 0 && state_noted == Some(state) && noted <= at {
+    let state = byte % 128;
+    if guard_ms == 0 && state != 0 && state_noted == Some(state) && noted <= at {
         Some(state)
     } else {
         None
@@ -107,11 +125,17 @@ fn state_again(last: Option<(u64, u8)>, noted: Option<u64>, state_noted: Option<
 }
 
 /// The state of a node that was heard again.
-fn heard_again(watch: &Watch, heartbeats: &Heartbeats, id: NodeId) -> Option<u8>
-    ensures { (net : NetworkList) (s : WatchSettings) (past : Past) → Watches watch.now net s past
-        → IfSome result (λ state. state_heard past id ≡ Some state) }
+fn heard_again(watch: &Watch, network: &Network, heartbeats: &Heartbeats, id: NodeId) -> Option<u8>
+    ensures { (s : WatchSettings) (past : Past) → Watches watch.now network.now s past
+        → IfSome result (λ state. (guard_of network.now id ≡ 0) × (state_heard past id ≡ Some state)) }
 {
-    state_again(heartbeats.last(id), watch.heard(id), watch.state_heard(id))
+    let last = heartbeats.last(id);
+    state_again(
+        guard_of(network, id),
+        last,
+        watch.heard(id),
+        watch.state_heard(id),
+    )
 }
 
 /// The slaves that were heard again are noted.
@@ -126,7 +150,7 @@ pub(crate) fn note_heartbeats(
         → HasHeardAgain watch.new network.now s past now }
 {
     for id in network.listed_ids().as_slice() {
-        if let Some(state) = heard_again(watch, heartbeats, *id) {
+        if let Some(state) = heard_again(watch, network, heartbeats, *id) {
             let _told = watch.take(network, now, &Happening::Heard(*id, state));
         }
     }

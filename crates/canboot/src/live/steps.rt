@@ -5,7 +5,8 @@ ghost use Rattle.canboot.specs.Steps.{call_for};
 use cm_history::Call;
 use cm_watch::Step;
 
-/// The call that a step is, if it is one: a boot is handed to a worker, what was left out is told, and the run ends.
+/// The call that a step is, if it is one: a boot is handed to a worker, what was left out is told, what is sent for error control
+/// is a frame, and the run ends.
 pub(crate) fn call_of(step: &Step) -> Option<Call>
     ensures call { result ≡ call_for step.now }
     ensures watched { IfSome result IsOfWatch }
@@ -20,6 +21,6 @@ pub(crate) fn call_of(step: &Step) -> Option<Call>
             Some(Call::Signal(*id, *byte))
         }
         Step::TimeOver(ms) | Step::AllTried(ms) => Some(Call::Elapsed(*ms)),
-        Step::Boot(_) | Step::LeftOut(_, _) | Step::End => None,
+        Step::Boot(_) | Step::LeftOut(_, _) | Step::Beat(_) | Step::Guard(_) | Step::End => None,
     }
 }

@@ -5,10 +5,11 @@ ghost use Rattle.std.specs.Prelude.{IfErr, IfNone, IfOk, IfSome, None, Some};
 ghost use Rattle.cm_netlist.specs.Network.{Network as NetworkList};
 ghost use Rattle.cm_netlist.specs.Workers.{worker_of};
 ghost use Rattle.cm_live.specs.Console.{IsOfWatch};
+ghost use Rattle.cm_watch.specs.Guarding.{heard_at};
 ghost use Rattle.cm_watch.specs.Pasts.{Past};
 ghost use Rattle.cm_watch.specs.Steps.{given, steps_at};
 ghost use Rattle.cm_watch.specs.Tried.{Tries, may_change_boots};
-ghost use Rattle.cm_watch.specs.declared.happening.Happening.TheVariants.{Ended, Heard};
+ghost use Rattle.cm_watch.specs.declared.happening.Happening.TheVariants.{Ended};
 ghost use Rattle.cm_watch.specs.declared.happening.Moment.TheVariants.{Gave, Happened};
 ghost use Rattle.cm_watch.specs.declared.settings.Settings.{Settings as WatchSettings};
 ghost use Rattle.canboot.specs.Ending.{is_ended_by};
@@ -25,7 +26,7 @@ use crate::live::setting::Setting;
 use crate::live::steps::call_of;
 use crate::live::telling::say;
 use cm_history::{Call, Entry};
-use cm_live::{BusName, Happening, TypedLine};
+use cm_live::{BusName, Happening, Outlet, TypedLine};
 use cm_netlist::{Network, worker_of};
 use cm_nmt::NodeId;
 use cm_register::{CallFault, RunName};
@@ -116,10 +117,11 @@ impl<'w, 'a, 'n, R: Wait + Clock + Drop, K: RunName, B: BusName, M: LiveRegister
         ensures operator { result.operator ≡ operator }
         ensures network { result.network ≡ setting.now.network }
         ensures follows { (net : NetworkList) → Follows result.progress net
-            (record { settle_ms = setting.now.options.settle_ms }) [] }
+            (record { settle_ms = setting.now.options.settle_ms; heartbeat_ms = setting.now.options.heartbeat_ms }) [] }
     {
         let settings = Settings {
             settle_ms: setting.options.settle_ms,
+            heartbeat_ms: setting.options.heartbeat_ms,
         };
         Watcher {
             setting,
@@ -223,14 +225,14 @@ impl<'w, 'a, 'n, R: Wait + Clock + Drop, K: RunName, B: BusName, M: LiveRegister
     }
 
     /// An error control message of a node came, which is news.
-    fn hear<E: Write>(&mut self, err: &mut E, id: NodeId, byte: u8, now: u64)
+    fn hear(&mut self, id: NodeId, byte: u8, now: u64)
         requires { now < 2 ^ 63 }
         ensures told { (s : WatchSettings) (past : Past) → Follows self.old.progress self.old.network.now s past
-            → Follows self.new.progress self.old.network.now s ((now, Happened (Heard id byte)) ∷ past) }
+            → Follows self.new.progress self.old.network.now s (heard_at self.old.network.now past now id byte ++ past) }
         ensures calls { self.new.operator ≡ self.old.operator }
         ensures network { self.new.network ≡ self.old.network }
     {
-        self.note(err, &Watched::Heard(id, byte), now);
+        self.progress.hear(self.network, id, byte, now);
     }
 
     /// Takes one thing that has happened.
@@ -244,7 +246,7 @@ impl<'w, 'a, 'n, R: Wait + Clock + Drop, K: RunName, B: BusName, M: LiveRegister
         match happening {
             Happening::Entered(position, entry) => self.enter(position, entry, now)?,
             Happening::Ended(id, fault) => self.end(err, id, fault, now)?,
-            Happening::Told(id, byte) => self.hear(err, id, byte, now),
+            Happening::Told(id, byte) => self.hear(id, byte, now),
             Happening::Typed => self.obey_next(err, now)?,
             Happening::NoMoreTyped => {
                 let rest_ms = u64::from(self.setting.options.seconds) * 1000;
@@ -332,11 +334,13 @@ impl<'w, 'a, 'n, R: Wait + Clock + Drop, K: RunName, B: BusName, M: LiveRegister
         Ok(is_ended_by(steps.as_slice()))
     }
 
-    /// One turn: takes what has happened, and looks at the time once that was all that was received.
-    fn turn<E: Write>(
+    /// One turn: takes what has happened, sends what is to be sent for error control, and looks at the time once that was all that
+    /// was received.
+    fn turn<E: Write, W: Write + Drop>(
         &mut self,
         err: &mut E,
         happenings: &Receiver<Happening>,
+        outlet: &mut Outlet<W>,
     ) -> Result<(), Ending>
         ensures goes_on { IfOk result
             (λ _. GoesOn self.old.network.now self.old.progress self.new.network.now self.new.progress) }
@@ -346,6 +350,7 @@ impl<'w, 'a, 'n, R: Wait + Clock + Drop, K: RunName, B: BusName, M: LiveRegister
         let heartbeats = &self.setting.heartbeats;
         note_heartbeats(&mut self.progress.watch, self.network, heartbeats, now);
         self.tell(err, false);
+        self.send_error_control(outlet, now)?;
         let is_broken = is_set(&self.setting.broken);
         let is_untold = is_set(&self.setting.untold);
         can_go_on(is_broken, is_untold)?;
@@ -358,14 +363,15 @@ impl<'w, 'a, 'n, R: Wait + Clock + Drop, K: RunName, B: BusName, M: LiveRegister
         Ok(())
     }
 
-    /// Watches the network until the run is to end.
-    pub(crate) fn watch<E: Write>(
+    /// Watches the network until the run is to end. What is sent for error control is written to this outlet.
+    pub(crate) fn watch<E: Write, W: Write + Drop>(
         &mut self,
         err: &mut E,
         happenings: &Receiver<Happening>,
+        outlet: &mut Outlet<W>,
     ) -> Ending {
         for _ in self.setting.rt.forever() {
-            if let Err(ending) = self.turn(err, happenings) {
+            if let Err(ending) = self.turn(err, happenings, outlet) {
                 self.tell_rest(err, happenings);
                 return ending;
             }

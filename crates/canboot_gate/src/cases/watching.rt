@@ -24,6 +24,8 @@ struct Story<'a> {
 #[derive(Clone, Copy)]
 enum Line {
     Happened(Happening),
+    /// An error control message of the node came, with this byte.
+    Heard(NodeId, u8),
     Turn,
 }
 
@@ -63,7 +65,7 @@ impl<'a> Story<'a> {
             "ends" => Some(Line::Happened(Happening::Ends(first?.parse::<u64>().ok()?))),
             "heard" => {
                 let byte = u8::from_str_radix(second?, 16).ok()?;
-                Some(Line::Happened(Happening::Heard(story_node(first)?, byte)))
+                Some(Line::Heard(story_node(first)?, byte))
             }
             _ => None,
         }
@@ -84,7 +86,11 @@ impl<'a> Story<'a> {
                 let told = self.watch.take(network, now_ms, &happening);
                 put_told(now_ms, told, out)?;
             }
+            Some(Line::Heard(id, byte)) => self.watch.hear(network, now_ms, id, byte),
             Some(Line::Turn) => {
+                for step in &self.watch.error_control(alloc, network, now_ms)? {
+                    put_step(now_ms, *step, out)?;
+                }
                 for step in &self.watch.turn(alloc, network, now_ms)? {
                     put_step(now_ms, *step, out)?;
                 }
@@ -104,6 +110,8 @@ fn put_step<W: Write>(now_ms: u64, step: Step, out: &mut W) -> io::Result<()> {
         Step::Signal(id, byte) => writeln!(out, "{now_ms} signal {} {byte:02X}", id.get()),
         Step::TimeOver(ms) => writeln!(out, "{now_ms} time-over {ms}"),
         Step::AllTried(ms) => writeln!(out, "{now_ms} all-tried {ms}"),
+        Step::Beat(byte) => writeln!(out, "{now_ms} beat {byte:02X}"),
+        Step::Guard(id) => writeln!(out, "{now_ms} guard {}", id.get()),
         Step::End => writeln!(out, "{now_ms} end"),
     }
 }
@@ -138,8 +146,23 @@ fn put_told<W: Write>(now_ms: u64, told: Told, out: &mut W) -> io::Result<()> {
     put_node(now_ms, "given-up", told.given_up, out)
 }
 
+/// What the first line behind a journal says: `settle MS`, and `heartbeat MS` behind it where the manager sends its own.
+fn read_settings(line: &str) -> Option<Settings> {
+    let mut fields = line.strip_prefix("settle ")?.split(' ');
+    let settle_ms = fields.next()?.parse::<u32>().ok()?;
+    let heartbeat_ms = match fields.next() {
+        Some("heartbeat") => fields.next()?.parse::<u16>().ok()?,
+        Some(_) => return None,
+        None => 0,
+    };
+    Some(Settings {
+        settle_ms,
+        heartbeat_ms,
+    })
+}
+
 /// Tells the story of these bytes; what is told of it and the steps of its turns are written. The first
-/// line behind the journal is the settle time. `false` where something isn't as it has to be.
+/// line behind the journal has the settings. `false` where something isn't as it has to be.
 pub fn tell_story<W: Write>(alloc: Global, bytes: &[u8], out: &mut W) -> io::Result<bool> {
     let Some((journal, rest)) = split_story(bytes) else {
         return Ok(false);
@@ -148,12 +171,11 @@ pub fn tell_story<W: Write>(alloc: Global, bytes: &[u8], out: &mut W) -> io::Res
         return Err(io::Error::from(ErrorKind::InvalidData));
     };
     let mut lines = rest.lines();
-    let settle = lines.next().and_then(|line| line.strip_prefix("settle "));
-    let Some(settle_ms) = settle.and_then(|field| field.parse::<u32>().ok()) else {
+    let Some(settings) = lines.next().and_then(read_settings) else {
         return Ok(false);
     };
     let mut story = Story {
-        watch: Watch::new(Settings { settle_ms }),
+        watch: Watch::new(settings),
         journal: &journal,
         told: 0,
     };

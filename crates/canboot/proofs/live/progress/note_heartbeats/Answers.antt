@@ -14,7 +14,7 @@ loop-id-preserved c =
           let t = c.loop-id.invariant s past h in
           record {
             more = (c.args.now, Happened (Heard c.id-item.result w.in-Some.state)) ∷ t.more;
-            again = (refl, w.in-Some.ensures c.args.network.now s (t.more ++ past) t.watches, t.again);
+            again = (refl, w.in-Some.ensures s (t.more ++ past) t.watches, t.again);
             watches = w.take-told.ensures.taken s (t.more ++ past) t.watches;
           })
       | in_default w ↦ rw (w.watch-is) c.loop-id.invariant

@@ -1,31 +1,42 @@
 use Rattle.std.proofs.Common.{ap, refl}
 use Rattle.cm_history.specs.declared.call.Entry.{Entry}
-use Rattle.canboot.specs.Going.{GoesOn}
+use Rattle.canboot.specs.Going.{Follows, GoesOn}
 use Rattle.canboot.specs.declared.live.progress.Progress.{Progress}
+use Rattle.cm_watch.specs.ErrorControl.{error_control_at}
+use Rattle.cm_watch.specs.Pasts.{Past}
+use Rattle.cm_watch.specs.Steps.{given, steps_at}
+use Rattle.cm_watch.specs.declared.settings.Settings.{Settings}
 use Rattle.canboot.proofs.Going.{heard_on, on_and_on, steps_on, still}
 use Rattle.canboot.proofs.live.watching.Watcher.turn.Goals as goal
-use Rattle.canboot.proofs.live.watching.Watcher.turn.Goals.{After-tell}
+use Rattle.canboot.proofs.live.watching.Watcher.turn.Goals.{After-send_error_control}
 
--- what happened was taken, and told
-so_far : (g : _) (c : After-tell g) → GoesOn c.args.self.now.network.now c.args.self.now.progress c.tell.new.self.network.now c.tell.new.self.progress
-so_far g c =
+-- what happened was taken, and told, and what is sent for error control was sent
+so_far : (g : _) (c : After-send_error_control g)
+    → ((s : Settings) (past : Past) → Follows c.tell.new.self.progress c.tell.new.self.network.now s past
+    → Follows c.send_error_control.new.self.progress c.tell.new.self.network.now s (given c.now-now.result (error_control_at c.tell.new.self.network.now s past c.now-now.result) past))
+    → GoesOn c.args.self.now.network.now c.args.self.now.progress c.send_error_control.new.self.network.now c.send_error_control.new.self.progress
+so_far g c sends =
     let taken = c.take_all.new.self in
     let heard : Progress Entry = record { watch = c.note_heartbeats.new.watch; waiting = taken.progress.waiting; tried = taken.progress.tried } in
     let told = c.tell.new.self in
-    on_and_on c.args.self.now.network.now c.args.self.now.progress taken.network.now heard told.network.now told.progress
+    let sent = c.send_error_control.new.self in
+    on_and_on c.args.self.now.network.now c.args.self.now.progress told.network.now told.progress sent.network.now sent.progress
+    (on_and_on c.args.self.now.network.now c.args.self.now.progress taken.network.now heard told.network.now told.progress
     (on_and_on c.args.self.now.network.now c.args.self.now.progress taken.network.now taken.progress taken.network.now heard c.in_ok-take_all.ensures.goes_on
     (heard_on taken.network.now taken.progress heard c.now-now.result refl refl c.note_heartbeats.ensures.told))
-    (still taken.network.now heard told.network.now told.progress (ap (λ n. n.now) c.tell.ensures.network) c.tell.ensures.follows)
+    (still taken.network.now heard told.network.now told.progress (ap (λ n. n.now) c.tell.ensures.network) c.tell.ensures.follows))
+    (steps_on (λ s past. error_control_at told.network.now s past c.now-now.result) told.network.now told.progress sent.network.now sent.progress c.now-now.result
+    (ap (λ n. n.now) c.send_error_control.ensures.network) sends)
 
 pub returns-then-not-look : goal.returns-then-not-look
-returns-then-not-look g c = record { goes_on = so_far g (goal.at.returns-then-not-look g c).After-tell }
+returns-then-not-look g c = record { goes_on = so_far g (goal.at.returns-then-not-look g c).After-send_error_control c.in_ok-send_error_control.ensures.given }
 
 pub returns : goal.returns
 returns g c =
-    let told = c.tell.new.self in
+    let sent = c.send_error_control.new.self in
     let turned = c.make_steps.new.self in
     record {
-      goes_on = on_and_on c.args.self.now.network.now c.args.self.now.progress told.network.now told.progress turned.network.now turned.progress
-          (so_far g (goal.at.returns g c).After-tell)
-          (steps_on told.network.now told.progress turned.network.now turned.progress c.now-now.result (ap (λ n. n.now) c.make_steps.ensures.network) c.in_ok-make_steps.ensures.given);
+      goes_on = on_and_on c.args.self.now.network.now c.args.self.now.progress sent.network.now sent.progress turned.network.now turned.progress
+          (so_far g (goal.at.returns g c).After-send_error_control c.in_ok-send_error_control.ensures.given)
+          (steps_on (λ s past. steps_at sent.network.now s past c.now-now.result) sent.network.now sent.progress turned.network.now turned.progress c.now-now.result (ap (λ n. n.now) c.make_steps.ensures.network) c.in_ok-make_steps.ensures.given);
     }

@@ -3,10 +3,10 @@ use Rattle.cm_watch.specs.Pasts.{Past}
 use Rattle.cm_watch.specs.Steps.{given}
 use Rattle.cm_watch.specs.Watches.{Watches}
 use Rattle.cm_watch.specs.declared.settings.Settings.{Settings}
-use Rattle.cm_watch.proofs.watch.Watch.turn.Given as goal
+use Rattle.cm_watch.proofs.watch.Watch.give.Given as goal
 
 -- the steps so far were given
 abbrev pub invariant-loop-step : goal.invariant-loop-step
 invariant-loop-step l =
     (s : Settings) (past : Past) → Watches l.initial.self l.network s past
-    → Watches l.self l.network s (given l.now_ms (take l.step-index l.step-items) past)
+    → Watches l.self l.network s (given l.now_ms (take l.step-index l.steps) past)
