@@ -23,7 +23,7 @@ use Rattle.cm_watch.specs.declared.tried.Tried.{Tried}
 use Rattle.cm_watch.specs.declared.waiting.Untold.{Untold}
 use Rattle.cm_watch.specs.declared.waiting.Waiting.{Waiting}
 use Rattle.canboot.specs.Again.{AreHeardAgain, HasHeardAgain, IsHeardAgain}
-use Rattle.canboot.specs.Going.{Follows, GoesOn, HasGoneOn, HasObeyedLine, HasTaken, called_at, counts_by, counts_in, placed_by, placed_in}
+use Rattle.canboot.specs.Going.{Follows, GoesOn, HasGoneOn, HasObeyedLine, HasTaken, called_at, counts_by, counts_in, ends_behind, placed_by, placed_in}
 use Rattle.canboot.specs.declared.live.progress.Progress.{Progress}
 
 -- ---- what a clause says where nothing came
@@ -176,13 +176,13 @@ typed_on typed p net s past now old new (inl none) = record { more = []; follows
 typed_on typed p net s past now old new (inr line) = record { more = _; follows = line.follows }
 
 -- what was taken goes on
-pub taken_on : (h : Happening) (seconds : ℕ) (typed : Option (List ℕ)) (p : Progress Entry) (net : Network) (s : Settings) (past : Past) (now : ℕ) (old new : SeatView)
+pub taken_on : (h : Happening) (seconds : Option ℕ) (typed : Option (List ℕ)) (p : Progress Entry) (net : Network) (s : Settings) (past : Past) (now : ℕ) (old new : SeatView)
     → HasTaken h seconds typed p net s past now old new → HasGoneOn p net s past
 taken_on (live.Told i byte) seconds typed p net s past now old new t = record { more = heard_at net past now i byte; follows = t.1 }
 taken_on (live.Ended i fault) seconds typed p net s past now old new t = record { more = (now, _) ∷ []; follows = t.1 }
 taken_on (live.Entered position e) seconds typed p net s past now old new t = record { more = called_at now t.1.entries; follows = t.1.follows }
 taken_on live.Typed seconds typed p net s past now old new t = typed_on typed p net s past now old new t
-taken_on live.NoMoreTyped seconds typed p net s past now old new t = record { more = (now, _) ∷ []; follows = t.1 }
+taken_on live.NoMoreTyped seconds typed p net s past now old new t = record { more = ends_behind seconds now; follows = t.1 }
 taken_on _ seconds typed p net s past now old new t = record { more = []; follows = t.1 }
 
 pub given_on : (p : Progress Entry) (net : Network) (s : Settings) (past : Past) (now : ℕ) (steps : List Step) → Follows p net s (given now steps past) → HasGoneOn p net s past
@@ -200,7 +200,7 @@ steps_on steps net old now new at same turned = record {
 }
 
 -- what has happened was taken
-pub happened_on : (h : Happening) (seconds : ℕ) (typed : Option (List ℕ)) (net : Network) (old : Progress Entry) (now : Network) (new : Progress Entry) (at : ℕ) (was is : SeatView) → now ≡ net
+pub happened_on : (h : Happening) (seconds : Option ℕ) (typed : Option (List ℕ)) (net : Network) (old : Progress Entry) (now : Network) (new : Progress Entry) (at : ℕ) (was is : SeatView) → now ≡ net
     → ((s : Settings) (past : Past) → Follows old net s past → HasTaken h seconds typed new net s past at was is) → GoesOn net old now new
 happened_on h seconds typed net old now new at was is same told = record {
   network = same;

@@ -1,5 +1,5 @@
 -- How what is kept of a live run goes on with what happens (own).
-use Rattle.std.specs.Prelude.{◌≡◌, ◌⊎◌, ◌+◌, ◌*◌, ◌++◌, ◌∷◌, [], ℕ, List, length, map, Option}
+use Rattle.std.specs.Prelude.{◌≡◌, ◌⊎◌, ◌+◌, ◌*◌, ◌++◌, ◌∷◌, [], ℕ, List, length, map, Option, Some, None}
 use Rattle.cm_history.specs.OrderFrames.{frames_of}
 use Rattle.cm_history.specs.declared.call.Entry.{Entry}
 use Rattle.cm_live.specs.Console.{asked_by}
@@ -92,10 +92,15 @@ pub record HasObeyedLine (typed : Option (List ℕ)) (p : Progress Entry) (net :
   pub follows : Follows p net s (asked_of (asked_by line) net past now ++ past)
   pub made : HasObeyedIf (asked_by line) old new
 
+-- the run is to end so many seconds behind the time at which nothing is typed any more, where it was said how many
+abbrev pub ends_behind : Option ℕ → ℕ → Past
+ends_behind None now = []
+ends_behind (Some seconds) now = (now, moment.Happened (happening.Ends (now + seconds * 1000))) ∷ []
+
 -- what comes, at its time, of what has happened in a live run that goes on so many seconds once nothing is typed any more: the watch is
 -- told of an error control message, where it counts, the end of a worker's attempts, the entries that come next in the history, when the
 -- run is to end; a line that was typed is obeyed, if there is one; of what else comes it is told nothing, and no call is made
-abbrev pub HasTaken : Happening → ℕ → Option (List ℕ) → Progress Entry → Network → Settings → Past → ℕ → SeatView → SeatView → Type 0
+abbrev pub HasTaken : Happening → Option ℕ → Option (List ℕ) → Progress Entry → Network → Settings → Past → ℕ → SeatView → SeatView → Type 0
 HasTaken (live.Told i byte) seconds typed p net s past now old new =
     (new ≡ old) × Follows p net s (heard_at net past now i byte ++ past)
 HasTaken (live.Ended i fault) seconds typed p net s past now old new =
@@ -104,5 +109,5 @@ HasTaken (live.Entered position e) seconds typed p net s past now old new = (new
 HasTaken live.Typed seconds typed p net s past now old new =
     ((new ≡ old) × Follows p net s past) ⊎ HasObeyedLine typed p net s past now old new
 HasTaken live.NoMoreTyped seconds typed p net s past now old new =
-    (new ≡ old) × Follows p net s ((now, moment.Happened (happening.Ends (now + seconds * 1000))) ∷ past)
+    (new ≡ old) × Follows p net s (ends_behind seconds now ++ past)
 HasTaken _ seconds typed p net s past now old new = (new ≡ old) × Follows p net s past

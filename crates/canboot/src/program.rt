@@ -140,7 +140,7 @@ pub fn run_words<
                 answer_ms,
                 settle_ms,
                 heartbeat_ms,
-                seconds: seconds.unwrap_or(0),
+                seconds,
                 format: format_of(&bus),
             };
             let journal = JournalPath {

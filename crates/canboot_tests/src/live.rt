@@ -307,7 +307,7 @@ fn four_workers() -> LiveOptions
         answer_ms: 2000,
         settle_ms: 60_000,
         heartbeat_ms: 0,
-        seconds: 0,
+        seconds: Some(0),
         format: Format::CanUtils,
     }
 }

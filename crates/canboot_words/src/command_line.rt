@@ -55,7 +55,7 @@ pub enum Action<'a> {
         /// How often the manager sends its own heartbeat, in ms, 10 to 65,535; 0: it sends none.
         heartbeat_ms: u16,
         /// How long the run goes on behind the end of the operator's input, in seconds, up to
-        /// 31,536,000; none: it ends there.
+        /// 31,536,000; none: until it ends otherwise.
         seconds: Option<u32>,
         journal: Option<&'a str>,
         /// Whether each line of the journal is put on the disk before its frames are sent.

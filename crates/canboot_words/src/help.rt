@@ -294,10 +294,11 @@ as 'node 5: begun 1', 'node 5: status Ok, started' and 'network ready'. It says 
 status means and which value differed, as in 'node 7: status M (product code 00000457, expected \
 00000456)'.
 
-The run ends with 'quit'; at the end of the operator's input, or --for SECONDS behind it; or \
-where no more frames can be received or sent. Then the workers finish, the report is printed on \
-standard output, and the last line of the journal is written, if --journal names a FILE. 'canboot \
-replay < FILE' accepts the journal, and prints the same report.
+The run ends with 'quit'; --for SECONDS behind the end of the operator's input, where that is \
+given; or where no more frames can be received or sent. Without an operator and --for it goes on. \
+At its end the workers finish, the report is printed on standard output, and the last line of the \
+journal is written, if --journal names a FILE. 'canboot replay < FILE' accepts the journal, and \
+prints the same report.
 
 The journal is written while the run goes on: the line of each call before the frames that follow \
 from it are sent. So where the run is killed, FILE has each call whose frames left, and 'canboot mend' \

@@ -13,7 +13,7 @@ ghost use Rattle.cm_watch.specs.declared.happening.Happening.TheVariants.{Ended}
 ghost use Rattle.cm_watch.specs.declared.happening.Moment.TheVariants.{Gave, Happened};
 ghost use Rattle.cm_watch.specs.declared.settings.Settings.{Settings as WatchSettings};
 ghost use Rattle.canboot.specs.Ending.{is_ended_by};
-ghost use Rattle.canboot.specs.Going.{Follows, GoesOn, HasTaken, HasToldEntries};
+ghost use Rattle.canboot.specs.Going.{Follows, GoesOn, HasTaken, HasToldEntries, ends_behind};
 ghost use Rattle.canboot.specs.Steps.{HasMade, calls_made};
 
 use crate::live::ending::{Ending, can_go_on, is_ended_by};
@@ -235,6 +235,24 @@ impl<'w, 'a, 'n, R: Wait + Clock + Drop, K: RunName, B: BusName, M: LiveRegister
         self.progress.hear(self.network, id, byte, now);
     }
 
+    /// The operator types no more: the run is to end so many seconds later, if it was said how many.
+    fn end_behind<E: Write>(&mut self, err: &mut E, now: u64)
+        requires { now < 2 ^ 63 }
+        ensures told { (s : WatchSettings) (past : Past) → Follows self.old.progress self.old.network.now s past
+            → Follows self.new.progress self.old.network.now s
+            (ends_behind self.old.setting.now.options.seconds now ++ past) }
+        ensures calls { self.new.operator ≡ self.old.operator }
+        ensures network { self.new.network ≡ self.old.network }
+    {
+        match self.setting.options.seconds {
+            Some(seconds) => {
+                let rest_ms = u64::from(seconds) * 1000;
+                self.note(err, &Watched::Ends(now + rest_ms), now);
+            }
+            None => {}
+        }
+    }
+
     /// Takes one thing that has happened.
     fn take<E: Write>(&mut self, err: &mut E, happening: Happening, now: u64) -> Result<(), Ending>
         requires { now < 2 ^ 63 }
@@ -248,10 +266,7 @@ impl<'w, 'a, 'n, R: Wait + Clock + Drop, K: RunName, B: BusName, M: LiveRegister
             Happening::Ended(id, fault) => self.end(err, id, fault, now)?,
             Happening::Told(id, byte) => self.hear(id, byte, now),
             Happening::Typed => self.obey_next(err, now)?,
-            Happening::NoMoreTyped => {
-                let rest_ms = u64::from(self.setting.options.seconds) * 1000;
-                self.note(err, &Watched::Ends(now + rest_ms), now);
-            }
+            Happening::NoMoreTyped => self.end_behind(err, now),
             Happening::NoFrames => {
                 let _ = say(err, &NoFrames(self.setting.options.format));
             }
