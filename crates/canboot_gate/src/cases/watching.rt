@@ -1,5 +1,7 @@
 //! Stories of a watch. A story is a journal, and behind it when what of it happened.
 
+ghost use Rattle.std.specs.Prelude.{◌<◌, ◌^◌};
+
 use cm_history::Entry;
 use cm_journal::{Journal, journal_read};
 use cm_nmt::NodeId;
@@ -24,8 +26,6 @@ struct Story<'a> {
 #[derive(Clone, Copy)]
 enum Line {
     Happened(Happening),
-    /// An error control message of the node came, with this byte.
-    Heard(NodeId, u8),
     Turn,
 }
 
@@ -65,9 +65,31 @@ impl<'a> Story<'a> {
             "ends" => Some(Line::Happened(Happening::Ends(first?.parse::<u64>().ok()?))),
             "heard" => {
                 let byte = u8::from_str_radix(second?, 16).ok()?;
-                Some(Line::Heard(story_node(first)?, byte))
+                Some(Line::Happened(Happening::Heard(story_node(first)?, byte)))
             }
             _ => None,
+        }
+    }
+
+    /// This happened: it is told to the watch, an error control message where it counts.
+    fn happen<W: Write>(
+        &mut self,
+        now_ms: u64,
+        happening: &Happening,
+        out: &mut W,
+    ) -> io::Result<()>
+        requires { now_ms < 2 ^ 63 }
+    {
+        let network = &self.journal.network;
+        match happening {
+            Happening::Heard(id, byte) => {
+                self.watch.hear(network, now_ms, *id, *byte);
+                Ok(())
+            }
+            _ => {
+                let told = self.watch.take(network, now_ms, happening);
+                put_told(now_ms, told, out)
+            }
         }
     }
 
@@ -82,11 +104,7 @@ impl<'a> Story<'a> {
         };
         let network = &self.journal.network;
         match self.read_line(word, first, second) {
-            Some(Line::Happened(happening)) => {
-                let told = self.watch.take(network, now_ms, &happening);
-                put_told(now_ms, told, out)?;
-            }
-            Some(Line::Heard(id, byte)) => self.watch.hear(network, now_ms, id, byte),
+            Some(Line::Happened(happening)) => self.happen(now_ms, &happening, out)?,
             Some(Line::Turn) => {
                 for step in &self.watch.error_control(alloc, network, now_ms)? {
                     put_step(now_ms, *step, out)?;
