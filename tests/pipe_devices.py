@@ -67,7 +67,7 @@ class Device:
             answer = (0x80, 0x06020000) if known is None else (0x43, known)
         elif command in (0x23, 0x2B, 0x2F):
             self.objects[index, sub] = int.from_bytes(data[4:], 'little')
-            if (index, sub) == HEARTBEAT and known is None:
+            if (index, sub) == HEARTBEAT and known is None and self.objects[HEARTBEAT]:
                 self.later(self.objects[HEARTBEAT] / 1000, self.beat)
             answer = 0x60, 0
         else:
