@@ -1,5 +1,5 @@
 -- Two frames of one text are the same.
-use Rattle.std.proofs.Common.{◌≡◌, ◌<◌, ◌/◌, ℕ, List, [], ◌∷◌, ◌++◌, sym, ◌∙◌, arith}
+use Rattle.std.proofs.Common.{◌≡◌, ◌<◌, ◌/◌, ℕ, List, [], ◌∷◌, ◌++◌, codes, sym, ◌∙◌, arith}
 use Rattle.cm_text.specs.Hex.{glyph}
 use mathlib.Core.Logic.{inl, inr}
 use Rattle.cm_can.specs.declared.frame.CanFrame.{CanFrame}
@@ -47,3 +47,7 @@ same_text text f g bf bg (inr x) (inr y) =
     let h = heads f.id.number g.id.number tail.0 other.0 f.id.in_range g.id.in_range (sym tail.2 ∙ other.2) in
     let kinds : f.kind ≡ g.kind = x.0 ∙ sym y.0 in
     record { kind = kinds; id = h.0; carried = λ k. let no_data = sym x.0 ∙ k in absurd (cc) }
+
+-- behind the same digits
+pub same_rest : (xs ys : List ℕ) → codes "20000" ++ xs ≡ codes "20000" ++ ys → xs ≡ ys
+same_rest xs ys e = cc

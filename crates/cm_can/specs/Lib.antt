@@ -3,3 +3,7 @@ pub mod Sdo
 pub mod Control
 pub mod Questions
 pub mod Lines
+pub mod Emergencies
+pub mod Errors
+pub mod Remarks
+pub mod ErrorLines

@@ -50,15 +50,17 @@ pub record IsTime (text : List ℕ) : Type 0 where
   pub opens : slice_index text 0 ≡ 40
   pub closes : slice_index text (length text - 1) ≡ 41
 
--- a line of `candump -L`: a time in parentheses, an interface, and the frame, with one space between two of them
-pub record IsLogLine (line : List ℕ) (f : CanFrame) : Type 0 where
+-- a line of `candump -L`: a time in parentheses, an interface, and what stands for the frame, with one space between two of them
+pub record IsLog (line text : List ℕ) : Type 0 where
   pub time : List ℕ
   pub interface : List ℕ
-  pub text : List ℕ
   pub parts : line ≡ time ++ 32 ∷ (interface ++ 32 ∷ text)
   pub unspaced : HasNoSpace time × HasNoSpace interface
   pub timed : IsTime time
-  pub frame : IsFrameText text f
+
+-- such a line of a frame
+abbrev pub IsLogLine : List ℕ → CanFrame → Type 0
+IsLogLine line f = (text : List ℕ) × IsLog line text × IsFrameText text f
 
 -- a data frame as a serial adapter has it (SLCAN): `t`, identifier, the number of bytes, the bytes
 abbrev pub IsAdapterData : List ℕ → CanFrame → Type 0

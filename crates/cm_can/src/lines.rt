@@ -3,7 +3,7 @@
 
 ghost use Rattle.std.specs.Prelude.{◌≡◌, ◌≢◌, ◌↔◌, ◌<◌, ◌≤◌, ◌++◌, ◌∷◌, ℕ, List, All, IfNone, IfSome, IsFalse, IsTrue, length};
 ghost use Rattle.cm_can.specs.Frames.{IsData, data_of};
-ghost use Rattle.cm_can.specs.Lines.{AreBytes, HasNoSpace, IsFrameText, IsLogLine, IsRemoteTail, IsSameFrame, IsTime, byte_digits};
+ghost use Rattle.cm_can.specs.Lines.{AreBytes, HasNoSpace, IsFrameText, IsLog, IsLogLine, IsRemoteTail, IsSameFrame, IsTime, byte_digits};
 
 use crate::frame::{CanFrame, CanId, Kind};
 use crate::text::{id_text, push_bytes, read_bytes, read_id};
@@ -83,12 +83,12 @@ fn is_time(text: &[u8]) -> bool
     text.len() >= 2 && text[0] == b'(' && text[text.len() - 1] == b')'
 }
 
-/// Reads a line of `candump -L`, which ends before its line feed: a time in parentheses, an interface, and a frame.
-/// `None` exactly where it is no such line, or one of a frame that [`read_frame`] doesn't read.
-pub fn read_log_line(line: &[u8]) -> Option<CanFrame>
-    ensures some { IfSome result (IsLogLine line.now) }
-    ensures none { IfNone result ((f : CanFrame) → AreBytes (data_of f)
-        → IsLogLine line.now f → ⊥) }
+/// What stands for the frame in a line of `candump -L`: a time in parentheses, an interface, and that. `None` exactly where it is no
+/// such line.
+pub(crate) fn log_text(line: &[u8]) -> Option<&[u8]>
+    ensures some { IfSome result (λ text. IsLog line.now text.now) }
+    ensures none { IfNone result ((text : List ℕ) → IsLog line.now text → ⊥) }
+    ensures only { IfSome result (λ text. (other : List ℕ) → IsLog line.now other → other ≡ text.now) }
 {
     let Some((time, rest)) = cut(line) else {
         return None;
@@ -99,6 +99,19 @@ pub fn read_log_line(line: &[u8]) -> Option<CanFrame>
     if !is_time(time) {
         return None;
     }
+    Some(text)
+}
+
+/// Reads a line of `candump -L`, which ends before its line feed: a time in parentheses, an interface, and a frame.
+/// `None` exactly where it is no such line, or one of a frame that [`read_frame`] doesn't read.
+pub fn read_log_line(line: &[u8]) -> Option<CanFrame>
+    ensures some { IfSome result (IsLogLine line.now) }
+    ensures none { IfNone result ((f : CanFrame) → AreBytes (data_of f)
+        → IsLogLine line.now f → ⊥) }
+{
+    let Some(text) = log_text(line) else {
+        return None;
+    };
     let Some(frame) = read_frame(text) else {
         return None;
     };

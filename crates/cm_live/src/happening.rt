@@ -1,3 +1,4 @@
+use cm_can::Remark;
 use cm_history::Entry;
 use cm_nmt::NodeId;
 use cm_seat::CallFault;
@@ -12,6 +13,8 @@ pub enum Happening {
     /// An error control message of a listed node: a boot-up message, or another byte than the last one's, since its
     /// state is another or its toggle bit is turned. The byte is the message's.
     Told(NodeId, u8),
+    /// The bus said this, beside the answers and the states of listed nodes.
+    Said(Remark),
     /// The operator typed a line, which was sent before this is told.
     Typed,
     /// The operator types no more.

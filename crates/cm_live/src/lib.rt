@@ -46,7 +46,7 @@ pub use live_port::LivePort;
 pub use outlet::{Format, Outlet};
 pub use port::Port;
 pub use received::Received;
-pub use receiving::{FrameCutter, Source};
+pub use receiving::{FrameCutter, Heard, Source};
 pub use routes::Routes;
 pub use telling::Telling;
 pub use typed_line::TypedLine;

@@ -1,6 +1,7 @@
 //! What is received of a bus.
-ghost use Rattle.std.specs.Prelude.{◌≡◌, ◌+◌, ◌<◌, ◌^◌, ◌∷◌, [], IfSome, length};
-ghost use Rattle.cm_live.specs.Places.{IsFrameLine};
+ghost use Rattle.std.specs.Prelude.{◌≡◌, ◌+◌, ◌<◌, ◌^◌, ◌∷◌, [], IfNone, IfSome, length};
+ghost use Rattle.cm_can.specs.declared.can_error.CanError.{CanError as Error};
+ghost use Rattle.cm_live.specs.Places.{IsErrorIn, IsFrameLine};
 ghost use Rattle.cm_live.specs.Cutting.{ComeNext, IsLeft};
 
 use crate::bus_name::BusName;
@@ -10,7 +11,7 @@ use crate::outlet::Format;
 use crate::received::Received;
 use crate::routes::Routes;
 use crate::strangers::Strangers;
-use cm_can::{CanFrame, read_adapter_line, read_log_line};
+use cm_can::{CanError, CanFrame, read_adapter_line, read_error_line, read_log_line};
 use std::io::Read;
 use std::marker::{Model, PhantomData};
 use std::sync::Wait;
@@ -27,6 +28,26 @@ fn read_line(format: Format, line: &[u8]) -> Option<CanFrame>
         Format::CanUtils => read_log_line(line),
         Format::Adapter => read_adapter_line(line),
     }
+}
+
+/// Reads a line as an error frame. A serial adapter writes none.
+fn read_error(format: Format, line: &[u8]) -> Option<CanError>
+    ensures some { IfSome result (IsErrorIn format line.now) }
+    ensures none { IfNone result ((e : Error) → IsErrorIn format line.now e → ⊥) }
+{
+    match format {
+        Format::CanUtils => read_error_line(line),
+        Format::Adapter => None,
+    }
+}
+
+/// What the end of a line brings.
+#[derive(Drop)]
+pub enum Heard<B: BusName> {
+    /// A frame, with its place.
+    Frame(Received<B>),
+    /// What the interface says of the bus.
+    Error(CanError),
 }
 
 /// Cuts what is received into frames, each with its place. Contracts see how many bytes it has taken.
@@ -62,15 +83,28 @@ impl<B: BusName> FrameCutter<B> {
         }
     }
 
-    /// Takes the next byte, and gives the frame whose line it ends.
-    pub fn take(&mut self, byte: u8) -> Option<Received<B>>
+    /// Takes the next byte, and gives the frame whose line it ends, or what the interface says in that line.
+    pub fn take(&mut self, byte: u8) -> Option<Heard<B>>
         requires room { self.old < 2 ^ 63 }
         requires next { ComeNext B.text self.old (byte ∷ []) }
         ensures { self.new ≡ self.old + 1 }
     {
         let place = self.lines.take(byte)?;
-        let frame = read_line(self.format, self.lines.line())?;
-        Some(Received::new(place, frame))
+        match read_line(self.format, self.lines.line()) {
+            Some(frame) => Some(Heard::Frame(Received::new(place, frame))),
+            None => {
+                let error = read_error(self.format, self.lines.line())?;
+                Some(Heard::Error(error))
+            }
+        }
+    }
+}
+
+/// Gives what was heard to all that it is for.
+fn give<B: BusName, R: Wait + Clock>(rt: &R, heard: Heard<B>, routes: &Routes<B>) {
+    match heard {
+        Heard::Frame(received) => routes.take(rt, received),
+        Heard::Error(error) => routes.take_error(rt, error),
     }
 }
 
@@ -87,12 +121,12 @@ fn take_bytes<B: BusName, R: Wait + Clock>(
     ensures { cutter.new ≡ cutter.old + length bytes.now }
 {
     for byte in bytes {
-        let received = cutter.take(*byte);
-        if strangers.take(*byte, received.is_some()) {
+        let heard = cutter.take(*byte);
+        if strangers.take(*byte, heard.is_some()) {
             let _ = routes.happenings.send(rt, Happening::NoFrames);
         }
-        if let Some(received) = received {
-            routes.take(rt, received);
+        if let Some(heard) = heard {
+            give(rt, heard, routes);
         }
     }
 }

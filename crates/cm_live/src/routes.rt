@@ -13,7 +13,7 @@ use crate::happening::Happening;
 use crate::heartbeats::Heartbeats;
 use crate::listening::{Listening, sender_of};
 use crate::received::Received;
-use cm_can::{CanFrame, error_control};
+use cm_can::{CanError, CanFrame, Remark, error_control, read_remark};
 use cm_netlist::{place_of, worker_of};
 use cm_nmt::NodeId;
 use crossbeam_channel::Sender;
@@ -94,5 +94,15 @@ impl<B: BusName> Routes<B> {
         if let Some(news) = self.news_in(rt, &frame) {
             let _ = self.happenings.send(rt, news);
         }
+        if let Some(remark) = read_remark(&frame) {
+            let _ = self.happenings.send(rt, Happening::Said(remark));
+        }
+    }
+
+    /// Tells an error of the bus.
+    pub(crate) fn take_error<R: Wait + Clock>(&self, rt: &R, error: CanError) {
+        let _ = self
+            .happenings
+            .send(rt, Happening::Said(Remark::Error(error)));
     }
 }

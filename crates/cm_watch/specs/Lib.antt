@@ -18,3 +18,7 @@ pub mod Waiting
 pub mod Tried
 pub mod Telling
 pub mod Paces
+pub mod Limiting
+pub mod Echoes
+pub mod BusErrors
+pub mod Notices

@@ -7,10 +7,12 @@
 //! was given so far, its past. That each slave is given as lost once, that none is forgotten, and that one
 //! which babbles causes at most one step in 10 s, are laws of every past. What an operator is told behind a happening is
 //! [`Told`]; in the order of the history it comes by [`InOrder`]; and when the time may be looked at, [`Pace`] says. What waits
-//! until its frames were handed to the wire is [`Waiting`], and what came of the boots so far [`Tried`].
+//! until its frames were handed to the wire is [`Waiting`], and what came of the boots so far [`Tried`]. Which of the remarks of a
+//! bus are told, emergency messages, other masters, errors of the bus and nodes that aren't listed, decide [`Notices`].
 #![tactic(auto)]
 
 mod beats;
+mod bus_told;
 mod course;
 mod ends;
 mod error_control;
@@ -18,9 +20,12 @@ mod guarding;
 mod happening;
 mod in_order;
 mod laws;
+mod limit;
 mod looking;
+mod notices;
 mod pace;
 mod schedule;
+mod sent;
 mod settings;
 mod signals;
 mod slave;
@@ -30,13 +35,17 @@ mod tried;
 mod waiting;
 mod watch;
 
+pub use bus_told::{BusTold, ErrorNotice};
 pub use course::Course;
 pub use guarding::guard_of;
 pub use happening::{Happening, Moment, Step};
 pub use in_order::{InOrder, Placed};
 pub use laws::{beats_at_multiples, lost_once, none_forgotten, one_in_ten_seconds, told_in_time};
+pub use limit::Limit;
+pub use notices::{Notice, Notices};
 pub use pace::Pace;
 pub use schedule::{Again, Cause, Due, Schedule};
+pub use sent::Sent;
 pub use settings::Settings;
 pub use signals::{Budget, News};
 pub use slave::Slave;

@@ -4,7 +4,7 @@
 use crate::support::{node, sure};
 use cm_boot::{Answer, Bus, Question};
 use cm_can::{CanFrame, read_frame};
-use cm_live::{Event, Format, FrameCutter, Heartbeats, LineCutter, LiveBus, Port, Received};
+use cm_live::{Event, Format, FrameCutter, Heard, Heartbeats, LineCutter, LiveBus, Port, Received};
 use cm_netlist::Network;
 use cm_nmt::{NmtState, NodeId, Startup, Write};
 use std::alloc::{AllocError, Global};
@@ -41,7 +41,7 @@ fn frames_in(alloc: Global, text: &[u8]) -> Result<VecDeque<Received<Brand>>, Al
     }
     let mut cutter = FrameCutter::<Brand>::new(Format::CanUtils);
     for byte in text {
-        if let Some(received) = cutter.take(*byte) {
+        if let Some(Heard::Frame(received)) = cutter.take(*byte) {
             frames.push_back(received)?;
         }
     }

@@ -1,0 +1,89 @@
+-- What is told of what a bus says beside the answers and the states of slaves (own; what is said is of CiA 301 and of Linux).
+use Rattle.std.specs.Prelude.{ℕ, ◌+◌, ◌%◌, ◌==◌, ◌||◌, ◌&&◌, Bool, true, false, not, if◌then◌else◌, slice_index_or}
+use Rattle.std.specs.Prelude.{Option, Some, None, option_map}
+use Rattle.cm_can.specs.declared.remark.Remark.{Remark}
+use Rattle.cm_can.specs.declared.remark.Remark.TheVariants as remark
+use Rattle.cm_netlist.specs.Network.{Network, is_listed}
+use Rattle.cm_watch.specs.BusErrors.{behind_error, error_notice}
+use Rattle.cm_watch.specs.Echoes.{behind_heard, is_ours}
+use Rattle.cm_watch.specs.Limiting.{behind_message, is_told, left_out_now, none_told}
+use Rattle.cm_watch.specs.declared.bus_told.BusTold.{BusTold}
+use Rattle.cm_watch.specs.declared.bus_told.ErrorNotice.{ErrorNotice}
+use Rattle.cm_watch.specs.declared.limit.Limit.{Limit}
+use Rattle.cm_watch.specs.declared.notices.Notice.{Notice}
+use Rattle.cm_watch.specs.declared.notices.Notice.TheVariants as notice
+use Rattle.cm_watch.specs.declared.notices.Notices.{Notices}
+
+-- ---- what is kept
+
+-- the limit at a place: 0 is that of other masters, i that of node i
+abbrev pub limit_at : Notices → ℕ → Limit
+limit_at n i = slice_index_or n.limits i none_told
+
+-- it was told of i that it isn't listed
+abbrev pub is_stranger_told : Notices → ℕ → Bool
+is_stranger_told n i = slice_index_or n.strangers i false
+
+-- the first of two where the places are the same
+abbrev pub if_place : {A : Type 0} → ℕ → ℕ → A → A → A
+if_place place i here other = if place == i then here else other
+
+-- ---- what is told
+
+-- the notice, if it is told
+abbrev pub notice_if : Bool → Notice → Option Notice
+notice_if told x = if told then Some x else None
+
+-- i isn't listed, and isn't the manager itself
+abbrev pub is_stranger : Network → ℕ → Bool
+is_stranger net i = not (is_listed net i || (i == net.own))
+
+-- that is told of i when it boots up: it wasn't before
+abbrev pub is_news_of : Notices → Network → ℕ → Bool
+is_news_of n net i = is_stranger net i && not (is_stranger_told n i)
+
+-- an emergency message within the limit of its node; a boot-up message of a node that isn't listed, once; an NMT message that isn't
+-- one of ours come back, within the limit of other masters; an error of the bus, once until it changes
+abbrev pub notice_by : Notices → Network → ℕ → Remark → Option Notice
+notice_by n net now (remark.Emergency i e) = notice_if (is_told (limit_at n i) now) (notice.Emergency i e)
+notice_by n net now (remark.BootUp i) = notice_if (is_news_of n net i) (notice.Unlisted i)
+notice_by n net now (remark.Message m) = notice_if (not (is_ours n.sent m) && is_told (limit_at n 0) now) (notice.Master m)
+notice_by n net now (remark.Error e) = option_map (λ x. notice.Bus x) (error_notice n.bus e)
+
+-- how many were left out, of other masters or of a node
+abbrev pub left_out_notice : ℕ → ℕ → Notice
+left_out_notice place count = if place == 0 then notice.MastersLeftOut count else notice.EmergenciesLeftOut place count
+
+-- what a turn tells of the limit that is looked at next
+abbrev pub left_out_by : Notices → ℕ → Option Notice
+left_out_by n now = option_map (left_out_notice n.next) (left_out_now (limit_at n n.next) now)
+
+-- the next place
+abbrev pub next_place : ℕ → ℕ
+next_place place = (place + 1) % 128
+
+-- ---- what is kept behind it
+
+-- the limit at place i behind a remark
+abbrev pub limit_by : Notices → Remark → ℕ → ℕ → Limit → Limit
+limit_by n (remark.Emergency j e) now i l = if_place j i (behind_message l now) l
+limit_by n (remark.Message m) now i l = if is_ours n.sent m then l else if_place 0 i (behind_message l now) l
+limit_by n r now i l = l
+
+-- how often the message of place k was sent and hasn't come back
+abbrev pub count_by : Remark → ℕ → ℕ → ℕ
+count_by (remark.Message m) k count = behind_heard m k count
+count_by r k count = count
+
+-- whether it was told of i that it isn't listed, where j boots up
+abbrev pub stranger_by : Network → ℕ → ℕ → Bool → Bool
+stranger_by net j i told = if j == i && is_stranger net i then true else told
+
+abbrev pub strangers_by : Network → Remark → ℕ → Bool → Bool
+strangers_by net (remark.BootUp j) i told = stranger_by net j i told
+strangers_by net r i told = told
+
+-- what was told of the errors of the bus
+abbrev pub bus_by : Remark → BusTold → BusTold
+bus_by (remark.Error e) b = behind_error b e
+bus_by r b = b

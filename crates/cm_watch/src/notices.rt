@@ -1,0 +1,196 @@
+//! What is told of what a bus says, beside the answers and the states of slaves.
+
+ghost use Rattle.std.specs.Prelude.{◌≡◌, ◌<◌, ℕ, false};
+ghost use Rattle.cm_watch.specs.BusErrors.{nothing_told};
+ghost use Rattle.cm_watch.specs.Echoes.{behind_sent_all, count_at};
+ghost use Rattle.cm_watch.specs.Limiting.{behind_message, behind_turn, is_told, none_told};
+ghost use Rattle.cm_watch.specs.Notices.{bus_by, count_by, if_place, is_news_of, is_stranger_told, left_out_by, left_out_notice, limit_at};
+ghost use Rattle.cm_watch.specs.Notices.{limit_by, next_place, notice_by, stranger_by, strangers_by};
+
+use crate::bus_told::{BusTold, ErrorNotice};
+use crate::limit::Limit;
+use crate::sent::Sent;
+use cm_can::{Emergency, Remark};
+use cm_netlist::Network;
+use cm_nmt::{Frame, NodeId};
+
+/// The place of the limit of messages of other masters; each node's is at the place of its node-ID.
+const MASTERS: u8 = 0;
+
+/// What is told of what a bus says.
+#[derive(Clone, Copy, Debug, PartialEq, Eq)]
+pub enum Notice {
+    /// The node sent this emergency message.
+    Emergency(NodeId, Emergency),
+    /// So many emergency messages of the node were left out.
+    EmergenciesLeftOut(NodeId, u32),
+    /// Another NMT master sent this message.
+    Master(Frame),
+    /// So many messages of other masters were left out.
+    MastersLeftOut(u32),
+    /// The node isn't listed, and has booted up. This is told once of each.
+    Unlisted(NodeId),
+    /// The interface said this of the bus.
+    Bus(ErrorNotice),
+}
+
+/// What decides which of the remarks of a bus are told (own): of one node at most ten emergency messages in any second, and of
+/// other masters as many messages; each error of the bus once until it changes; each node that isn't listed once.
+#[derive(Clone, Copy)]
+pub struct Notices {
+    /// How often what is told, of other masters at first, and then of each node.
+    limits: [Limit; 128],
+    /// The place of the limit that is looked at in the next turn.
+    next: u8,
+    sent: Sent,
+    /// Of each node, whether it was told that it isn't listed.
+    strangers: [bool; 128],
+    bus: BusTold,
+    ghost inside: { next < 128 },
+}
+
+/// What is told of a count of what was left out, by the place of its limit.
+fn left_out_notice(place: u8, count: u32) -> Notice
+    requires { place < 128 }
+    ensures { result ≡ left_out_notice place count }
+{
+    match NodeId::new(place) {
+        Some(id) => Notice::EmergenciesLeftOut(id, count),
+        None => Notice::MastersLeftOut(count),
+    }
+}
+
+impl Notices {
+    /// Nothing was heard, sent or told.
+    pub fn new() -> Notices
+        ensures limits { (i : ℕ) → i < 128 → limit_at result i ≡ none_told }
+        ensures next { result.next ≡ 0 }
+        ensures sent { (k : ℕ) → k < 640 → count_at result.sent k ≡ 0 }
+        ensures strangers { (i : ℕ) → i < 128 → is_stranger_told result i ≡ false }
+        ensures bus { result.bus ≡ nothing_told }
+    {
+        Notices {
+            limits: [Limit::new(); 128],
+            next: 0,
+            sent: Sent::new(),
+            strangers: [false; 128],
+            bus: BusTold::new(),
+        }
+    }
+
+    /// A message of the limit at this place comes: whether it is told.
+    fn take(&mut self, place: u8, now: u64) -> bool
+        requires { place < 128 }
+        ensures told { result ≡ is_told (limit_at self.old place) now }
+        ensures limits { (i : ℕ) → i < 128
+            → limit_at self.new i ≡ if_place place i (behind_message (limit_at self.old i) now) (limit_at self.old i) }
+        ensures next { self.new.next ≡ self.old.next }
+        ensures sent { self.new.sent ≡ self.old.sent }
+        ensures strangers { self.new.strangers ≡ self.old.strangers }
+        ensures bus { self.new.bus ≡ self.old.bus }
+    {
+        let mut limit = self.limits[usize::from(place)];
+        let is_told = limit.take(now);
+        self.limits[usize::from(place)] = limit;
+        is_told
+    }
+
+    /// A node has booted up: whether it is told that it isn't listed. The manager's own boot-up message, which comes back, isn't
+    /// another's.
+    fn meet(&mut self, network: &Network, id: NodeId) -> bool
+        ensures told { result ≡ is_news_of self.old network.now id }
+        ensures strangers { (i : ℕ) → i < 128
+            → is_stranger_told self.new i ≡ stranger_by network.now id i (is_stranger_told self.old i) }
+        ensures limits { self.new.limits ≡ self.old.limits }
+        ensures next { self.new.next ≡ self.old.next }
+        ensures sent { self.new.sent ≡ self.old.sent }
+        ensures bus { self.new.bus ≡ self.old.bus }
+    {
+        if network.entry(id).is_some() || id == network.own_id() {
+            return false;
+        }
+        let place = usize::from(id.get());
+        let is_known = self.strangers[place];
+        self.strangers[place] = true;
+        !is_known
+    }
+
+    /// We send these NMT messages: each comes back at most once.
+    pub fn send(&mut self, messages: &[Frame])
+        ensures sent { (k : ℕ) → k < 640
+            → count_at self.new.sent k ≡ behind_sent_all messages.now k (count_at self.old.sent k) }
+        ensures limits { self.new.limits ≡ self.old.limits }
+        ensures next { self.new.next ≡ self.old.next }
+        ensures strangers { self.new.strangers ≡ self.old.strangers }
+        ensures bus { self.new.bus ≡ self.old.bus }
+    {
+        let mut sent = self.sent;
+        for message in messages {
+            sent.send(*message);
+        }
+        self.sent = sent;
+    }
+
+    /// The bus says this, at this time in ms: what is told of it.
+    pub fn hear(&mut self, network: &Network, now_ms: u64, remark: &Remark) -> Option<Notice>
+        ensures told { result ≡ notice_by self.old network.now now_ms remark.now }
+        ensures limits { (i : ℕ) → i < 128
+            → limit_at self.new i ≡ limit_by self.old remark.now now_ms i (limit_at self.old i) }
+        ensures sent { (k : ℕ) → k < 640
+            → count_at self.new.sent k ≡ count_by remark.now k (count_at self.old.sent k) }
+        ensures strangers { (i : ℕ) → i < 128
+            → is_stranger_told self.new i ≡ strangers_by network.now remark.now i (is_stranger_told self.old i) }
+        ensures bus { self.new.bus ≡ bus_by remark.now self.old.bus }
+        ensures next { self.new.next ≡ self.old.next }
+    {
+        match remark {
+            Remark::Emergency(id, emergency) => {
+                if self.take(id.get(), now_ms) {
+                    Some(Notice::Emergency(*id, *emergency))
+                } else {
+                    None
+                }
+            }
+            Remark::BootUp(id) => {
+                if self.meet(network, *id) {
+                    Some(Notice::Unlisted(*id))
+                } else {
+                    None
+                }
+            }
+            Remark::Message(message) => {
+                if self.sent.hear(*message) || !self.take(MASTERS, now_ms) {
+                    None
+                } else {
+                    Some(Notice::Master(*message))
+                }
+            }
+            Remark::Error(error) => match self.bus.take(error) {
+                Some(notice) => Some(Notice::Bus(notice)),
+                None => None,
+            },
+        }
+    }
+
+    /// A turn, at this time in ms: the next limit is looked at, and what was left out of it is told, if it may be. So each is within
+    /// 128 turns.
+    pub fn turn(&mut self, now_ms: u64) -> Option<Notice>
+        ensures told { result ≡ left_out_by self.old now_ms }
+        ensures limits { (i : ℕ) → i < 128
+            → limit_at self.new i ≡ if_place self.old.next i (behind_turn (limit_at self.old i) now_ms) (limit_at self.old i) }
+        ensures next { self.new.next ≡ next_place self.old.next }
+        ensures sent { self.new.sent ≡ self.old.sent }
+        ensures strangers { self.new.strangers ≡ self.old.strangers }
+        ensures bus { self.new.bus ≡ self.old.bus }
+    {
+        let place = self.next;
+        self.next = (place + 1) % 128;
+        let mut limit = self.limits[usize::from(place)];
+        let count = limit.turn(now_ms);
+        self.limits[usize::from(place)] = limit;
+        match count {
+            Some(count) => Some(left_out_notice(place, count)),
+            None => None,
+        }
+    }
+}
