@@ -15,3 +15,4 @@ pub use Rattle.canboot_check.specs.Check
 pub mod JournalNames
 pub mod Words
 pub mod ToldLines
+pub mod NoticeWords

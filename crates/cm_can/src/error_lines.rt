@@ -30,7 +30,7 @@ fn error_of(frame: &CanFrame) -> Option<CanError>
 }
 
 /// Reads an error frame as can-utils writes it: eight digits, `#`, and eight bytes. `None` exactly where the text is that of none.
-fn read_error(text: &[u8]) -> Option<CanError>
+pub fn read_error(text: &[u8]) -> Option<CanError>
     ensures some { IfSome result (IsErrorText text.now) }
     ensures none { IfNone result ((e : Error) → IsErrorText text.now e → ⊥) }
 {

@@ -23,7 +23,7 @@ pub use adapter::{adapter_text, read_adapter_line};
 pub use can_error::{BusState, CanError, ControllerError, ErrorClass};
 pub use control::{ErrorControl, error_control, error_control_frame, guard_request, nmt_frame};
 pub use emergency::{Emergency, read_emergency};
-pub use error_lines::read_error_line;
+pub use error_lines::{read_error, read_error_line};
 pub use frame::{CanFrame, CanId, Kind};
 pub use lines::{frame_text, one_frame, read_frame, read_log_line};
 pub use node::{answered_by, request_of};

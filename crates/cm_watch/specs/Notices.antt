@@ -1,5 +1,5 @@
 -- What is told of what a bus says beside the answers and the states of slaves (own; what is said is of CiA 301 and of Linux).
-use Rattle.std.specs.Prelude.{ℕ, ◌+◌, ◌%◌, ◌==◌, ◌||◌, ◌&&◌, Bool, true, false, not, if◌then◌else◌, slice_index_or}
+use Rattle.std.specs.Prelude.{ℕ, ◌%◌, ◌==◌, ◌||◌, ◌&&◌, Bool, true, false, not, if◌then◌else◌, slice_index_or}
 use Rattle.std.specs.Prelude.{Option, Some, None, option_map}
 use Rattle.cm_can.specs.declared.remark.Remark.{Remark}
 use Rattle.cm_can.specs.declared.remark.Remark.TheVariants as remark
@@ -54,13 +54,13 @@ notice_by n net now (remark.Error e) = option_map (λ x. notice.Bus x) (error_no
 abbrev pub left_out_notice : ℕ → ℕ → Notice
 left_out_notice place count = if place == 0 then notice.MastersLeftOut count else notice.EmergenciesLeftOut place count
 
--- what a turn tells of the limit that is looked at next
-abbrev pub left_out_by : Notices → ℕ → Option Notice
-left_out_by n now = option_map (left_out_notice n.next) (left_out_now (limit_at n n.next) now)
+-- the place of the limit that a turn looks at
+abbrev pub place_of_turn : Notices → ℕ
+place_of_turn n = n.next % 128
 
--- the next place
-abbrev pub next_place : ℕ → ℕ
-next_place place = (place + 1) % 128
+-- what a turn tells of that limit
+abbrev pub left_out_by : Notices → ℕ → Option Notice
+left_out_by n now = option_map (left_out_notice (place_of_turn n)) (left_out_now (limit_at n (place_of_turn n)) now)
 
 -- ---- what is kept behind it
 

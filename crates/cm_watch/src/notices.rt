@@ -1,11 +1,11 @@
 //! What is told of what a bus says, beside the answers and the states of slaves.
 
-ghost use Rattle.std.specs.Prelude.{◌≡◌, ◌<◌, ℕ, false};
+ghost use Rattle.std.specs.Prelude.{◌≡◌, ◌<◌, ◌+◌, ◌%◌, ℕ, false};
 ghost use Rattle.cm_watch.specs.BusErrors.{nothing_told};
 ghost use Rattle.cm_watch.specs.Echoes.{behind_sent_all, count_at};
 ghost use Rattle.cm_watch.specs.Limiting.{behind_message, behind_turn, is_told, none_told};
 ghost use Rattle.cm_watch.specs.Notices.{bus_by, count_by, if_place, is_news_of, is_stranger_told, left_out_by, left_out_notice, limit_at};
-ghost use Rattle.cm_watch.specs.Notices.{limit_by, next_place, notice_by, stranger_by, strangers_by};
+ghost use Rattle.cm_watch.specs.Notices.{limit_by, notice_by, place_of_turn, stranger_by, strangers_by};
 
 use crate::bus_told::{BusTold, ErrorNotice};
 use crate::limit::Limit;
@@ -40,13 +40,12 @@ pub enum Notice {
 pub struct Notices {
     /// How often what is told, of other masters at first, and then of each node.
     limits: [Limit; 128],
-    /// The place of the limit that is looked at in the next turn.
+    /// The place of the limit that is looked at in the next turn, modulo 128.
     next: u8,
     sent: Sent,
     /// Of each node, whether it was told that it isn't listed.
     strangers: [bool; 128],
     bus: BusTold,
-    ghost inside: { next < 128 },
 }
 
 /// What is told of a count of what was left out, by the place of its limit.
@@ -177,13 +176,13 @@ impl Notices {
     pub fn turn(&mut self, now_ms: u64) -> Option<Notice>
         ensures told { result ≡ left_out_by self.old now_ms }
         ensures limits { (i : ℕ) → i < 128
-            → limit_at self.new i ≡ if_place self.old.next i (behind_turn (limit_at self.old i) now_ms) (limit_at self.old i) }
-        ensures next { self.new.next ≡ next_place self.old.next }
+            → limit_at self.new i ≡ if_place (place_of_turn self.old) i (behind_turn (limit_at self.old i) now_ms) (limit_at self.old i) }
+        ensures next { self.new.next ≡ (place_of_turn self.old + 1) % 128 }
         ensures sent { self.new.sent ≡ self.old.sent }
         ensures strangers { self.new.strangers ≡ self.old.strangers }
         ensures bus { self.new.bus ≡ self.old.bus }
     {
-        let place = self.next;
+        let place = self.next % 128;
         self.next = (place + 1) % 128;
         let mut limit = self.limits[usize::from(place)];
         let count = limit.turn(now_ms);

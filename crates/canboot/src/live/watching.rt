@@ -1,9 +1,7 @@
 //! How a live run goes on: what happens is told to the watch, and the steps that it gives are made.
 
-ghost use Rattle.std.specs.Prelude.{◌≡◌, ℕ, ◌<◌, ◌^◌, ◌++◌, ◌∷◌, [], false, length, slice_index_or};
-ghost use Rattle.std.specs.Prelude.{IfErr, IfNone, IfOk, IfSome, None, Some};
+ghost use Rattle.std.specs.Prelude.{◌≡◌, ℕ, ◌<◌, ◌^◌, ◌++◌, ◌∷◌, [], false, IfOk};
 ghost use Rattle.cm_netlist.specs.Network.{Network as NetworkList};
-ghost use Rattle.cm_netlist.specs.Workers.{worker_of};
 ghost use Rattle.cm_live.specs.Console.{IsOfWatch};
 ghost use Rattle.cm_watch.specs.Guarding.{heard_at};
 ghost use Rattle.cm_watch.specs.Pasts.{Past};
@@ -23,14 +21,14 @@ use crate::live::operator_seat::OperatorSeat;
 use crate::live::progress::{Progress, note_heartbeats};
 use crate::live::register::LiveRegister;
 use crate::live::setting::Setting;
-use crate::live::steps::call_of;
+use crate::live::steps::{call_of, jobs_of};
 use crate::live::telling::say;
 use cm_history::{Call, Entry};
 use cm_live::{BusName, Happening, Outlet, TypedLine};
-use cm_netlist::{Network, worker_of};
+use cm_netlist::Network;
 use cm_nmt::NodeId;
 use cm_register::{CallFault, RunName};
-use cm_watch::{Happening as Watched, Pace, Settings, Step};
+use cm_watch::{Happening as Watched, Notices, Pace, Settings, Step};
 use crossbeam_channel::{Receiver, Sender};
 use std::io::Write;
 use std::sync::Wait;
@@ -63,6 +61,7 @@ pub(crate) struct Watcher<
     /// The slaves that each worker is to boot.
     jobs: Vec<Sender<NodeId>>,
     pub(crate) progress: Progress<Entry>,
+    pub(crate) notices: Notices,
     pace: Pace,
     /// It was told that a line of the journal couldn't be written.
     pub(crate) is_unrecorded_told: bool,
@@ -81,20 +80,6 @@ pub(crate) fn since<R: Clock>(rt: &R, start: Instant) -> u64
         Ok(time) => u64::try_from(time.as_millis()).unwrap_or(0).min(1 << 62),
         Err(_) => 0,
     }
-}
-
-/// What the worker that boots the slave is told its slaves by.
-fn jobs_of<'j>(
-    listed: &[NodeId],
-    jobs: &'j [Sender<NodeId>],
-    id: NodeId,
-) -> Option<&'j Sender<NodeId>>
-    ensures some { IfSome result (λ j. (d : _) → IfSome (worker_of listed.now (length jobs.now) id)
-        (λ worker. j.now ≡ slice_index_or jobs.now worker d)) }
-    ensures none { IfNone result (worker_of listed.now (length jobs.now) id ≡ None) }
-{
-    let worker = worker_of(listed, jobs.len(), id)?;
-    Some(&jobs[worker])
 }
 
 impl<'w, 'a, 'n, R: Wait + Clock + Drop, K: RunName, B: BusName, M: LiveRegister<K, R>> Watcher<
@@ -131,6 +116,7 @@ impl<'w, 'a, 'n, R: Wait + Clock + Drop, K: RunName, B: BusName, M: LiveRegister
             typed,
             jobs,
             progress: Progress::new(setting.alloc, settings),
+            notices: Notices::new(),
             pace: Pace::new(),
             is_unrecorded_told: false,
         }
@@ -262,9 +248,15 @@ impl<'w, 'a, 'n, R: Wait + Clock + Drop, K: RunName, B: BusName, M: LiveRegister
         ensures network { IfOk result (λ _. self.new.network ≡ self.old.network) }
     {
         match happening {
-            Happening::Entered(position, entry) => self.enter(position, entry, now)?,
+            Happening::Entered(position, entry) => {
+                self.count_sent(&entry);
+                self.enter(position, entry, now)?;
+            }
             Happening::Ended(id, fault) => self.end(err, id, fault, now)?,
             Happening::Told(id, byte) => self.hear(id, byte, now),
+            Happening::Said(remark) => {
+                let _ = self.tell_remark(err, &remark, now);
+            }
             Happening::Typed => self.obey_next(err, now)?,
             Happening::NoMoreTyped => self.end_behind(err, now),
             Happening::NoFrames => {
@@ -365,6 +357,7 @@ impl<'w, 'a, 'n, R: Wait + Clock + Drop, K: RunName, B: BusName, M: LiveRegister
         let heartbeats = &self.setting.heartbeats;
         note_heartbeats(&mut self.progress.watch, self.network, heartbeats, now);
         self.tell(err, false);
+        let _ = self.tell_left_out(err, now);
         self.send_error_control(outlet, now)?;
         let is_broken = is_set(&self.setting.broken);
         let is_untold = is_set(&self.setting.untold);

@@ -2,10 +2,12 @@
 
 ghost use Rattle.std.specs.Prelude.{◌<◌, ◌^◌};
 
+use cm_can::{BusState, Remark, read_error, read_frame, read_remark};
 use cm_history::Entry;
 use cm_journal::{Journal, journal_read};
 use cm_nmt::NodeId;
-use cm_watch::{Happening, Settings, Step, Told, Watch};
+use cm_sequential::frames;
+use cm_watch::{ErrorNotice, Happening, Notice, Notices, Settings, Step, Told, Watch};
 use std::alloc::Global;
 use std::io::{self, ErrorKind, Write};
 use std::str;
@@ -17,6 +19,7 @@ const LATEST: u64 = 1 << 63;
 #[derive(Drop)]
 struct Story<'a> {
     watch: Watch,
+    notices: Notices,
     journal: &'a Journal,
     /// How many entries were told.
     told: usize,
@@ -26,7 +29,22 @@ struct Story<'a> {
 #[derive(Clone, Copy)]
 enum Line {
     Happened(Happening),
+    /// The bus says this; a frame that says nothing of its kind is told to nobody.
+    Said(Option<Remark>),
     Turn,
+    /// So many turns as each limit of what is told is looked at in.
+    Round,
+}
+
+/// How many turns a round has.
+const TURNS: u8 = 128;
+
+/// What a frame says, or an error frame.
+fn read_said(text: &[u8]) -> Option<Remark> {
+    match read_frame(text) {
+        Some(frame) => read_remark(&frame),
+        None => Some(Remark::Error(read_error(text)?)),
+    }
 }
 
 /// The journal of a story, to the end of its `end` line, and the lines behind it.
@@ -59,6 +77,8 @@ impl<'a> Story<'a> {
     fn read_line(&mut self, word: &str, first: Option<&str>, second: Option<&str>) -> Option<Line> {
         match word {
             "turn" => Some(Line::Turn),
+            "round" => Some(Line::Round),
+            "said" => Some(Line::Said(read_said(first?.as_bytes()))),
             "entry" => Some(Line::Happened(Happening::Called(self.next_entry()?))),
             "ended" => Some(Line::Happened(Happening::Ended(story_node(first)?))),
             "asked" => Some(Line::Happened(Happening::Asked(story_node(first)?))),
@@ -87,10 +107,32 @@ impl<'a> Story<'a> {
                 Ok(())
             }
             _ => {
+                if let Happening::Called(entry) = happening {
+                    let sent = frames(network, entry.orders);
+                    self.notices.send(sent.as_slice());
+                }
                 let told = self.watch.take(network, now_ms, happening);
                 put_told(now_ms, told, out)
             }
         }
+    }
+
+    /// The bus says this.
+    fn hear<W: Write>(&mut self, now_ms: u64, remark: &Remark, out: &mut W) -> io::Result<()> {
+        match self.notices.hear(&self.journal.network, now_ms, remark) {
+            Some(notice) => put_notice(now_ms, notice, out),
+            None => Ok(()),
+        }
+    }
+
+    /// What was left out by now is told, where it is to be.
+    fn count_left_out<W: Write>(&mut self, now_ms: u64, out: &mut W) -> io::Result<()> {
+        for _turn in 0..TURNS {
+            if let Some(notice) = self.notices.turn(now_ms) {
+                put_notice(now_ms, notice, out)?;
+            }
+        }
+        Ok(())
     }
 
     /// Tells the watch a line; of a turn the steps are written.
@@ -105,6 +147,9 @@ impl<'a> Story<'a> {
         let network = &self.journal.network;
         match self.read_line(word, first, second) {
             Some(Line::Happened(happening)) => self.happen(now_ms, &happening, out)?,
+            Some(Line::Said(Some(remark))) => self.hear(now_ms, &remark, out)?,
+            Some(Line::Said(None)) => {}
+            Some(Line::Round) => self.count_left_out(now_ms, out)?,
             Some(Line::Turn) => {
                 for step in &self.watch.error_control(alloc, network, now_ms)? {
                     put_step(now_ms, *step, out)?;
@@ -131,6 +176,43 @@ fn put_step<W: Write>(now_ms: u64, step: Step, out: &mut W) -> io::Result<()> {
         Step::Beat(byte) => writeln!(out, "{now_ms} beat {byte:02X}"),
         Step::Guard(id) => writeln!(out, "{now_ms} guard {}", id.get()),
         Step::End => writeln!(out, "{now_ms} end"),
+    }
+}
+
+/// The word of a state of the CAN controller.
+fn state_word(state: BusState) -> &'static str {
+    match state {
+        BusState::Active => "active",
+        BusState::Warning => "warning",
+        BusState::Passive => "passive",
+        BusState::Off => "off",
+        BusState::Restarted => "restarted",
+    }
+}
+
+/// Writes what is told of what the bus says, in words.
+fn put_notice<W: Write>(now_ms: u64, notice: Notice, out: &mut W) -> io::Result<()> {
+    match notice {
+        Notice::Emergency(id, emergency) => {
+            let (code, register) = (emergency.code, emergency.register);
+            let id = id.get();
+            writeln!(out, "{now_ms} emergency {id} {code:04X} {register:02X}")
+        }
+        Notice::EmergenciesLeftOut(id, count) => {
+            writeln!(out, "{now_ms} emergencies-left-out {} {count}", id.get())
+        }
+        Notice::Master(message) => {
+            let [specifier, node] = message.bytes();
+            writeln!(out, "{now_ms} master {specifier:02X} {node:02X}")
+        }
+        Notice::MastersLeftOut(count) => writeln!(out, "{now_ms} masters-left-out {count}"),
+        Notice::Unlisted(id) => writeln!(out, "{now_ms} unlisted {}", id.get()),
+        Notice::Bus(ErrorNotice::Unacknowledged) => writeln!(out, "{now_ms} unacknowledged"),
+        Notice::Bus(ErrorNotice::State(state)) => writeln!(
+            out,
+            "{now_ms} bus {}",
+            state_word(state)
+        ),
     }
 }
 
@@ -194,6 +276,7 @@ pub fn tell_story<W: Write>(alloc: Global, bytes: &[u8], out: &mut W) -> io::Res
     };
     let mut story = Story {
         watch: Watch::new(settings),
+        notices: Notices::new(),
         journal: &journal,
         told: 0,
     };

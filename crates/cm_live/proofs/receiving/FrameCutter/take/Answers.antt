@@ -8,8 +8,8 @@ pub invariant_of-self : goal.invariant_of-self
 invariant_of-self g c =
     (c.self.invariant.0, counted_more g.B.BusName.text c.args.self.now c.args.byte c.self.inside.lines c.take.new.self c.self.view_is c.requires.next c.take.ensures.counting c.self.invariant.1)
 
-pub invariant_of-self-in_err-frame : goal.invariant_of-self-in_err-frame
-invariant_of-self-in_err-frame g c =
+pub invariant_of-self-in_err-error-in-None : goal.invariant_of-self-in_err-error-in-None
+invariant_of-self-in_err-error-in-None g c =
     (c.self.invariant.0, counted_more g.B.BusName.text c.args.self.now c.args.byte c.self.inside.lines c.take.new.self c.self.view_is c.requires.next c.take.ensures.counting c.self.invariant.1)
 
 pub invariant_of-self-2 : goal.invariant_of-self-2
@@ -21,6 +21,6 @@ new-requires g c = λ t e. record {
   line = c.take.new.self.lines.line.items;
   at = counted_line g.B.BusName.text c.args.self.now c.args.byte c.in_ok-place.place c.take.new.self.lines.line.items c.self.inside.lines c.self.view_is c.requires.next c.in_ok-place.ensures.line c.self.invariant.1 t e;
   frame =
-      subst (λ (f : Format). IsFrameLine f c.take.new.self.lines.line.items c.in_ok-frame.frame) c.self.invariant.0
-      (subst (λ (l : List ℕ). IsFrameLine c.self.inside.format l c.in_ok-frame.frame) c.line.ensures c.in_ok-frame.ensures);
+      subst (λ (f : Format). IsFrameLine f c.take.new.self.lines.line.items c.in-Some.frame) c.self.invariant.0
+      (subst (λ (l : List ℕ). IsFrameLine c.self.inside.format l c.in-Some.frame) c.line.ensures c.in-Some.ensures);
 }

@@ -1,4 +1,4 @@
-use Rattle.std.proofs.Common.{ap, refl}
+use Rattle.std.proofs.Common.{◌∙◌, ap, refl, subst, sym}
 use Rattle.cm_history.specs.declared.call.Entry.{Entry}
 use Rattle.canboot.specs.Going.{Follows, GoesOn}
 use Rattle.canboot.specs.declared.live.progress.Progress.{Progress}
@@ -12,19 +12,20 @@ use Rattle.canboot.proofs.live.watching.Watcher.turn.Goals.{After-send_error_con
 
 -- what happened was taken, and told, and what is sent for error control was sent
 so_far : (g : _) (c : After-send_error_control g)
-    → ((s : Settings) (past : Past) → Follows c.tell.new.self.progress c.tell.new.self.network.now s past
-    → Follows c.send_error_control.new.self.progress c.tell.new.self.network.now s (given c.now-now.result (error_control_at c.tell.new.self.network.now s past c.now-now.result) past))
+    → ((s : Settings) (past : Past) → Follows c.tell_left_out.new.self.progress c.tell_left_out.new.self.network.now s past
+    → Follows c.send_error_control.new.self.progress c.tell_left_out.new.self.network.now s (given c.now-now.result (error_control_at c.tell_left_out.new.self.network.now s past c.now-now.result) past))
     → GoesOn c.args.self.now.network.now c.args.self.now.progress c.send_error_control.new.self.network.now c.send_error_control.new.self.progress
 so_far g c sends =
     let taken = c.take_all.new.self in
     let heard : Progress Entry = record { watch = c.note_heartbeats.new.watch; waiting = taken.progress.waiting; tried = taken.progress.tried } in
-    let told = c.tell.new.self in
+    let told = c.tell_left_out.new.self in
     let sent = c.send_error_control.new.self in
     on_and_on c.args.self.now.network.now c.args.self.now.progress told.network.now told.progress sent.network.now sent.progress
     (on_and_on c.args.self.now.network.now c.args.self.now.progress taken.network.now heard told.network.now told.progress
     (on_and_on c.args.self.now.network.now c.args.self.now.progress taken.network.now taken.progress taken.network.now heard c.in_ok-take_all.ensures.goes_on
     (heard_on taken.network.now taken.progress heard c.now-now.result refl refl c.note_heartbeats.ensures.told))
-    (still taken.network.now heard told.network.now told.progress (ap (λ n. n.now) c.tell.ensures.network) c.tell.ensures.follows))
+    (still taken.network.now heard told.network.now told.progress (ap (λ n. n.now) (c.tell_left_out.ensures.network ∙ c.tell.ensures.network))
+    (λ s past f. subst (λ (p : Progress Entry). Follows p taken.network.now s past) (sym c.tell_left_out.ensures.progress) (c.tell.ensures.follows s past f))))
     (steps_on (λ s past. error_control_at told.network.now s past c.now-now.result) told.network.now told.progress sent.network.now sent.progress c.now-now.result
     (ap (λ n. n.now) c.send_error_control.ensures.network) sends)
 
