@@ -117,6 +117,10 @@ abbrev pub halted_words : Entry → Option (List ℕ) → List ℕ
 halted_words e running =
     codes "network halted" ++ (halted_by e.call e.reply ++ (running_words running ++ codes "; once that is mended, type start"))
 
+-- the run ends, while these nodes are operational, if they are known (own)
+abbrev pub ends_words : Option (List ℕ) → List ℕ
+ends_words running = codes "the run ends" ++ running_words running
+
 -- the time for the boot of the mandatory slaves is over, and these aren't booted (own)
 abbrev pub time_over_words : List ℕ → List ℕ
 time_over_words slaves = codes "boot time over: mandatory and not booted: " ++ nodes_words slaves

@@ -69,15 +69,23 @@ fn run_here<
     let Ok(mut out) = BufWriter::new(rt.alloc(), io::writer(rt)) else {
         return fault_line(err, FAILED, "out of memory");
     };
-    let is_terminal = err.is_terminal();
+    let is_coloured = err.is_terminal() && !has_no_color(rt);
     run_words(
         rt,
         words.as_slice(),
         &mut rt.reader(),
         &mut out,
         err,
-        is_terminal,
+        is_coloured,
     )
+}
+
+/// Whether the environment asks for no colour: `NO_COLOR` is there, and isn't empty.
+fn has_no_color<R: Env + AllocGlobal>(rt: &R) -> bool {
+    match env::var(rt, "NO_COLOR") {
+        Ok(value) => !value.is_empty(),
+        Err(_) => false,
+    }
 }
 
 /// Runs canboot on these words, of which the first is the program's name, with these streams, and
@@ -99,7 +107,7 @@ pub fn run_words<
     I: Read,
     W: Write,
     E: Write,
->(rt: &R, words: &[String], input: &mut I, out: &mut W, err: &mut E, is_terminal: bool) -> u8
+>(rt: &R, words: &[String], input: &mut I, out: &mut W, err: &mut E, is_coloured: bool) -> u8
     ensures statuses { result ≤ 3 }
 {
     match read_words(rt.alloc(), words) {
@@ -147,7 +155,7 @@ pub fn run_words<
                 path: journal,
                 is_synced,
             };
-            live_file(rt, network, &bus, options, journal, out, err, is_terminal)
+            live_file(rt, network, &bus, options, journal, out, err, is_coloured)
         }
         Ok(Action::Replay) => replay_text(rt.alloc(), input, out, err),
         Ok(Action::Mend) => mend_text(rt.alloc(), input, out, err),

@@ -229,8 +229,8 @@ resets each slave that isn't kept alive, and a slave that is booted is started w
 so.
 
 canboot opens no CAN interface, and starts no other program. Frames come and go as lines of \
-can-utils, or over a serial adapter. Those with identifiers of 29 bits, those of CAN FD and error \
-frames are passed over.
+can-utils, or over a serial adapter. Those with identifiers of 29 bits and those of CAN FD are \
+passed over.
 
 With can-utils, --receive is the path from which the lines of 'candump -L can0' are read, and \
 --send the path to which lines for 'canplayer -t can0=can0' are written; a shell such as bash \
@@ -292,12 +292,20 @@ happens.
 Progress goes to standard error as well, a line for each change in the order of the history, such \
 as 'node 5: begun 1', 'node 5: status Ok, started' and 'network ready'. It says in words what a \
 status means and which value differed, as in 'node 7: status M (product code 00000457, expected \
-00000456)'.
+00000456)'. Each line has its time before it, in UTC to the millisecond. On a terminal words such as \
+lost and ready are coloured, unless NO_COLOR is set.
+
+So it is told what else the bus says, and no call follows from it: an emergency message of any node, \
+with what its code means, at most ten lines of a node in a second and then how many were left out; a \
+message of another NMT master, as often; a node that isn't listed and boots up, once; and with \
+'candump -L can0,0:0,#FFFFFFFF', which hears error frames too, that no other node acknowledges, that \
+the interface is error passive, off or restarted, each once until it changes.
 
 The run ends with 'quit'; --for SECONDS behind the end of the operator's input, where that is \
 given; or where no more frames can be received or sent. Without an operator and --for it goes on. \
-At its end the workers finish, the report is printed on standard output, and the last line of the \
-journal is written, if --journal names a FILE. 'canboot replay < FILE' accepts the journal, and \
+At its end it is told which nodes run on: they do, unless 'stop' was typed before 'quit'. The \
+workers finish, the report is printed on standard output, and the last line of the journal is \
+written, if --journal names a FILE. 'canboot replay < FILE' accepts the journal, and \
 prints the same report.
 
 The journal is written while the run goes on: the line of each call before the frames that follow \

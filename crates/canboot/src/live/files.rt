@@ -4,11 +4,10 @@ ghost use Rattle.std.specs.Prelude.{◌≡◌, ◌≤◌, ◌⊎◌, IfOk, vec_l
 ghost use Rattle.canboot.specs.Program.{channel_closing, channel_opening, format_of};
 
 use crate::live::journal_file::make_journal;
-use crate::live::timed::Timed;
 use crate::live::{LiveEnds, LiveOptions, live_text};
 use crate::program::write_fault;
 use canboot_check::{CheckFault, FAILED, LONGEST_LIST, fault_line, read_fault, read_list, refuse};
-use canboot_words::BusPaths;
+use canboot_words::{BusPaths, ShownLines};
 use cm_live::{Format, Outlet};
 use cm_text::{InputFault, read_input};
 use std::alloc::Global;
@@ -100,8 +99,8 @@ fn read_file<R: Files + AllocGlobal>(rt: &R, path: &str) -> Result<Vec<u8>, Chec
 }
 
 /// `canboot live`, over the files of these paths. The list is read first; where it has no fault the bus is opened, and then
-/// the journal's file is made, if there is one, before a byte goes to the bus. Where `err` is a terminal, its lines have the
-/// time since the start.
+/// the journal's file is made, if there is one, before a byte goes to the bus. Each line of the run on `err` has its time, and words
+/// in colour where that is asked for.
 pub(crate) fn live_file<
     R: Files<File = File>
         + Input<Reader = StdinLock<'static>>
@@ -124,7 +123,7 @@ pub(crate) fn live_file<
     journal: JournalPath<'_>,
     out: &mut O,
     err: &mut E,
-    is_terminal: bool,
+    is_coloured: bool,
 ) -> u8
     requires workers { (1 ≤ options.workers) × (options.workers ≤ 16) }
     ensures statuses { (result ≡ 0) ⊎ ((result ≡ 1) ⊎ (result ≡ 3)) }
@@ -164,7 +163,7 @@ pub(crate) fn live_file<
         error_control,
     };
     let _ = sent.write_all(channel_opening(options.format));
-    let mut timed = Timed::new(rt, err, is_terminal);
+    let mut shown = ShownLines::new(rt, rt.alloc(), err, is_coloured);
     let status = live_text(
         rt,
         rt.alloc(),
@@ -172,7 +171,7 @@ pub(crate) fn live_file<
         options,
         ends,
         out,
-        &mut timed,
+        &mut shown,
         &mut messages,
         &mut journal,
     );

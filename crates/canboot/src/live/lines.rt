@@ -1,7 +1,7 @@
 //! The lines that a live run tells beside those of entries.
 
 ghost use Rattle.std.specs.Prelude.{◌≡◌, Some, option_map};
-ghost use Rattle.canboot.specs.ToldLines.{back_words, bad_words, given_up_words, halted_by, halted_words, last_words};
+ghost use Rattle.canboot.specs.ToldLines.{back_words, bad_words, ends_words, given_up_words, halted_by, halted_words, last_words};
 ghost use Rattle.canboot.specs.ToldLines.{left_out_words, mandatory_words, nearly_full_words, no_boot_words};
 ghost use Rattle.canboot.specs.ToldLines.{no_frames_words, running_words, stopped_words, time_over_words, times_words, unwatched_words};
 
@@ -226,6 +226,19 @@ impl<'a> fmt::Display for Halted<'a> {
             f,
             "network halted{by}{running}; once that is mended, type start"
         )
+    }
+}
+
+/// That the run ends, and which nodes run on, if they are known.
+#[derive(Drop)]
+pub(crate) struct RunEnds<'a>(pub(crate) &'a Option<Nodes>);
+
+impl<'a> fmt::Display for RunEnds<'a> {
+    ghost output = { λ e. Some (ends_words (option_map (λ n. n.0.items) e.0.now)) };
+
+    fn fmt<W: fmt::Write>(&self, f: &mut fmt::Formatter<W>) -> fmt::Result {
+        let running = Running(self.0);
+        write!(f, "the run ends{running}")
     }
 }
 

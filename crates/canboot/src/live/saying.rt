@@ -6,6 +6,7 @@ ghost use Rattle.cm_watch.specs.declared.settings.Settings.{Settings as WatchSet
 ghost use Rattle.canboot.specs.Going.{Follows};
 ghost use Rattle.canboot.specs.ToldLines.{AreRunningOn};
 
+use crate::live::lines::RunEnds;
 use crate::live::nodes::{Nodes, running_by};
 use crate::live::register::LiveRegister;
 use crate::live::telling::{say, tell_entry, tell_told};
@@ -89,7 +90,7 @@ impl<'w, 'a, 'n, R: Wait + Clock + Drop, K: RunName, B: BusName, M: LiveRegister
         }
     }
 
-    /// Tells what was recorded by now and wasn't told yet, at the end of the run.
+    /// Tells what was recorded by now and wasn't told yet, at the end of the run, and which nodes run on.
     pub(crate) fn tell_rest<E: Write>(&mut self, err: &mut E, happenings: &Receiver<Happening>)
         ensures calls { self.new.operator ≡ self.old.operator }
     {
@@ -105,5 +106,7 @@ impl<'w, 'a, 'n, R: Wait + Clock + Drop, K: RunName, B: BusName, M: LiveRegister
             }
         }
         self.tell(err, true);
+        let running = self.running();
+        let _ = say(err, &RunEnds(&running));
     }
 }
