@@ -11,3 +11,4 @@ pub mod Causes
 pub mod Entries
 pub mod Waits
 pub mod Tries
+pub mod Limiting

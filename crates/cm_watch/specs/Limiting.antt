@@ -1,5 +1,6 @@
 -- How often something of one kind is told: at most ten times in any second; what comes beyond is counted, and told by its number (own).
-use Rattle.std.specs.Prelude.{ℕ, ◌+◌, ◌-◌, ◌==◌, ◌&&◌, ◌∷◌, List, Bool, true, not, if◌then◌else◌, min, nat_le, replicate, slice_index_or, take}
+use Rattle.std.specs.Prelude.{◌≡◌, ◌≤◌, ◌<◌, ℕ, ◌+◌, ◌-◌, ◌==◌, ◌&&◌, [], ◌∷◌, List, Bool, true, not, if◌then◌else◌, min, nat_le, nat_lt, All}
+use Rattle.std.specs.Prelude.{replicate, slice_get, slice_index_or, take}
 use Rattle.std.specs.Prelude.{Option, Some, None}
 use Rattle.cm_watch.specs.declared.limit.Limit.{Limit}
 
@@ -44,3 +45,27 @@ left_out_now l now = if is_to_be_counted l now then Some l.left_out else None
 -- behind a turn that was told, or all is as before
 abbrev pub behind_turn : Limit → ℕ → Limit
 behind_turn l now = if is_to_be_counted l now then line_told l now else l
+
+-- ---- that these are ten in any second
+
+-- lines were told at these times, the newest first, each when one might be told, and not before the one before it
+abbrev pub AreTold : List ℕ → Type 0
+AreTold [] = Unit {0}
+AreTold (t ∷ ts) = (is_a_second_old (slice_get ts 9) t ≡ true) × All (λ u. u ≤ t) ts × AreTold ts
+
+-- how many of them in the second that begins at `start`
+abbrev pub told_in : ℕ → List ℕ → ℕ
+told_in start [] = 0
+told_in start (t ∷ ts) = if nat_le start t && nat_lt t (start + 1000) then told_in start ts + 1 else told_in start ts
+
+-- the law: at most ten
+abbrev pub IsTenASecond : Type 0
+IsTenASecond = (ts : List ℕ) (start : ℕ) → AreTold ts → told_in start ts ≤ 10
+
+-- what a limit keeps is of these lines: the times of the last ten
+abbrev pub KeepsLines : Limit → List ℕ → Type 0
+KeepsLines l ts = (k : ℕ) → k < 10 → slice_index_or l.told k None ≡ slice_get ts k
+
+-- the same lines, and one now, where it is told
+abbrev pub lines_with : Bool → ℕ → List ℕ → List ℕ
+lines_with told now ts = if told then now ∷ ts else ts

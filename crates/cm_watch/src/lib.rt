@@ -40,7 +40,9 @@ pub use course::Course;
 pub use guarding::guard_of;
 pub use happening::{Happening, Moment, Step};
 pub use in_order::{InOrder, Placed};
-pub use laws::{beats_at_multiples, lost_once, none_forgotten, one_in_ten_seconds, told_in_time};
+pub use laws::{
+    beats_at_multiples, lost_once, none_forgotten, one_in_ten_seconds, ten_a_second, told_in_time,
+};
 pub use limit::Limit;
 pub use notices::{Notice, Notices};
 pub use pace::Pace;

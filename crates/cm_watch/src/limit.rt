@@ -1,5 +1,6 @@
-ghost use Rattle.std.specs.Prelude.{◌≡◌};
-ghost use Rattle.cm_watch.specs.Limiting.{behind_message, behind_turn, is_a_second_old, is_open, is_told, left_out_now, none_told, told_more};
+ghost use Rattle.std.specs.Prelude.{◌≡◌, ℕ, List, [], ◌∷◌, is_some, slice_get, true};
+ghost use Rattle.cm_watch.specs.Limiting.{KeepsLines, behind_message, behind_turn, is_a_second_old, is_open, is_told, left_out_now};
+ghost use Rattle.cm_watch.specs.Limiting.{lines_with, none_told, told_more};
 
 /// In which time so many lines are told at most, in ms.
 const TIME_MS: u64 = 1000;
@@ -26,7 +27,8 @@ fn is_a_second_old(told: Option<u64>, now: u64) -> bool
 impl Limit {
     /// Nothing was told.
     pub(crate) fn new() -> Limit
-        ensures { result ≡ none_told }
+        ensures value { result ≡ none_told }
+        ensures lines { KeepsLines result [] }
     {
         Limit {
             told: [None; 10],
@@ -36,7 +38,8 @@ impl Limit {
 
     /// Whether a line may be told now: fewer than ten were in the last second.
     fn is_open(&self, now: u64) -> bool
-        ensures { result ≡ is_open self.now now }
+        ensures value { result ≡ is_open self.now now }
+        ensures lines { (ts : List ℕ) → KeepsLines self.now ts → result ≡ is_a_second_old (slice_get ts 9) now }
     {
         is_a_second_old(self.told[9], now)
     }
@@ -45,6 +48,7 @@ impl Limit {
     fn tell(&mut self, now: u64)
         ensures told { self.new.told ≡ told_more now self.old.told }
         ensures left_out { self.new.left_out ≡ 0 }
+        ensures lines { (ts : List ℕ) → KeepsLines self.old ts → KeepsLines self.new (now ∷ ts) }
     {
         let [a, b, c, d, e, f, g, h, i, _] = self.told;
         self.told = [Some(now), a, b, c, d, e, f, g, h, i];
@@ -55,6 +59,8 @@ impl Limit {
     pub(crate) fn take(&mut self, now: u64) -> bool
         ensures told { result ≡ is_told self.old now }
         ensures behind { self.new ≡ behind_message self.old now }
+        ensures lines { (ts : List ℕ) → KeepsLines self.old ts → KeepsLines self.new (lines_with result now ts) }
+        ensures when { (ts : List ℕ) → KeepsLines self.old ts → result ≡ true → is_a_second_old (slice_get ts 9) now ≡ true }
     {
         let is_told = self.left_out == 0 && self.is_open(now);
         if is_told {
@@ -69,6 +75,9 @@ impl Limit {
     pub(crate) fn turn(&mut self, now: u64) -> Option<u32>
         ensures told { result ≡ left_out_now self.old now }
         ensures behind { self.new ≡ behind_turn self.old now }
+        ensures lines { (ts : List ℕ) → KeepsLines self.old ts → KeepsLines self.new (lines_with (is_some result) now ts) }
+        ensures when { (ts : List ℕ) → KeepsLines self.old ts → is_some result ≡ true
+            → is_a_second_old (slice_get ts 9) now ≡ true }
     {
         if self.left_out == 0 || !self.is_open(now) {
             return None;
