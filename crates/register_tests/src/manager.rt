@@ -2,7 +2,8 @@
 
 ghost use Rattle.cm_sequential.specs.Compact.{IsReplayOfSome};
 
-use crate::support::{node, sure, terms_of};
+use crate::support::{node, sure};
+use crate::terms_support::terms_of;
 use arrayvec::ArrayVec;
 use cm_history::{Call, Entry, Orders, Phase, Reply, abort_code};
 use cm_netlist::{Network, SlaveEntry};

@@ -1,19 +1,11 @@
-//! What the tests of several topics call.
+//! What the tests of one boot, of lists and of the manager call.
 
+use crate::support::{node, sure};
 use arrayvec::ArrayVec;
 use cm_netlist::{Network, SlaveEntry};
-use cm_nmt::{Assignment, NodeId, Startup, Terms, Write};
+use cm_nmt::{Assignment, Startup, Terms, Write};
 use std::alloc::Global;
 use std::process::Abort;
-
-// Each comparison is asserted here, since an assertion of its own in each place is long to prove.
-pub(crate) fn sure(rt: &impl Abort, is_so: bool) {
-    assert!(rt; is_so);
-}
-
-pub(crate) fn node(rt: &impl Abort, number: u8) -> NodeId {
-    NodeId::new(number).expect(rt, "a node-ID")
-}
 
 /// Terms of this assignment, whose other fields are 0.
 pub(crate) fn terms_of(assignment: u32) -> Terms {

@@ -1,6 +1,7 @@
 ghost use Rattle.std.specs.Prelude.{◌≡◌, []};
 
-use crate::support::{node, sure, terms_of};
+use crate::support::{node, sure};
+use crate::terms_support::terms_of;
 use arrayvec::ArrayVec;
 use cm_netlist::{NetFault, Network, SlaveEntry};
 use cm_nmt::{Assignment, Command, Frame, NmtState, NodeId, Signal, Startup, Target, Terms, Write};

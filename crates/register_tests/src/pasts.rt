@@ -6,7 +6,8 @@ ghost use Rattle.cm_history.specs.Legal.{most_entries};
 ghost use Rattle.cm_past.specs.Unnamed.{log_of, net_of};
 ghost use Rattle.cm_sequential.specs.Standing.{Stands};
 
-use crate::support::{node, sure, terms_of};
+use crate::support::{node, sure};
+use crate::terms_support::terms_of;
 use arrayvec::ArrayVec;
 use cm_history::{Call, Entry};
 use cm_netlist::{Network, SlaveEntry};

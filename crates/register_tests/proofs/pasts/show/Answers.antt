@@ -5,7 +5,7 @@ use Rattle.cm_netlist.specs.Network.{listing}
 use Rattle.cm_history.specs.History.{shown}
 use Rattle.cm_history.specs.declared.call.Entry.{Entry}
 use Rattle.cm_sequential.specs.Standing.{Stands}
-use Rattle.cm_tests.proofs.pasts.show.Goals as goal
+use Rattle.register_tests.proofs.pasts.show.Goals as goal
 
 pub show_entry-requires : goal.show_entry-requires
 show_entry-requires g c =

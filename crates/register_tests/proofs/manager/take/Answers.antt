@@ -1,5 +1,5 @@
 use Rattle.std.proofs.Common.{◌++◌}
-use Rattle.cm_tests.proofs.manager.take.Goals as goal
+use Rattle.register_tests.proofs.manager.take.Goals as goal
 
 pub returns : goal.returns
 returns g c =
