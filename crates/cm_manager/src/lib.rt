@@ -13,14 +13,17 @@
 //! | cm_journal    | a journal read and written; the report    | `journal_read`, `report`               |
 //! | cm_seat       | who makes calls, and reads                | `SharedManager`, `Made`, `Receipt`     |
 //! | cm_register   | one manager, shared by threads            | `Register`, `Seat`, `Closed`, `Book`   |
+//! | cm_versions   | the whole status, for readers of it       | `Publisher`, `VersionReader`           |
 //! | cm_run        | boots by workers, an operator, simulation | `boot_all`, `operate`, `SimBus`        |
 //!
 //! A [`Network`] comes first. A [`Manager`] answers the calls of one thread; a [`Register`] those of
 //! many, each with a [`Seat`]. [`boot_all`] boots the slaves of a register over one [`Bus`] for each
-//! worker. [`journal_write`] writes the history that [`Register::close`] gives.
+//! worker. [`journal_write`] writes the history that [`Register::close`] gives. A [`Publisher`] shows
+//! what a register's history comes to, while it grows.
 //!
 //! `ReadFault` says why a journal wasn't read; the type of that name in cm_register, why a seat's
-//! read gave no state, is `SeatReadFault` here.
+//! read gave no state, is `SeatReadFault` here. [`Version`] is that of a journal; what a publisher shows is a
+//! `PublishedVersion`.
 #![tactic(auto)]
 
 pub use cm_boot::{Answer, Boot, Bus, Question, Step, WrongAnswer, boot_slave, judge, judge_terms};
@@ -41,7 +44,7 @@ pub use cm_nmt::{
     Answers, Assignment, Command, Frame, Got, Heard, NmtState, NodeId, Signal, Startup, Status,
     Target, Terms, Wire, Write,
 };
-pub use cm_past::HistoryReader;
+pub use cm_past::{HistoryName, HistoryReader, Past};
 pub use cm_register::{
     Book, BookFault, CallFault, CloseFault, CloseKind, Closed, Made, OpenFault, Opened,
     ReadFault as SeatReadFault, Receipt, Register, RunName, Seat, SeatList, Seen, SharedManager,
@@ -51,3 +54,4 @@ pub use cm_run::{
     operate, round,
 };
 pub use cm_sequential::{Cause, CompactReplay, Manager, Untaken, frames, replay, replay_to_fault};
+pub use cm_versions::{Next, Publisher, TellFault, Version as PublishedVersion, VersionReader};

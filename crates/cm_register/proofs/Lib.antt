@@ -2,3 +2,4 @@ pub mod SeatCalls
 pub mod SeatLists
 pub mod Longer
 pub mod Managing
+mod Behind

@@ -9,6 +9,7 @@ ghost use Rattle.cm_register.specs.Closing.{IsCloseCause, IsClosed, close_number
 use crate::book::Book;
 use cm_history::Entry;
 use cm_nmt::Wire;
+use cm_past::Past;
 use cm_recorder::{Recorder, Unrecorded};
 use cm_seat::{RunName, Seat, SeatList, are_apart, are_known};
 use cm_sequential::Manager;
@@ -185,6 +186,28 @@ impl<'n, W: Wire, K: RunName, J: Recorder> Book<'n, W, K, J> {
                 book: self,
                 seats,
             }),
+        }
+    }
+
+    /// The same, with what is known of the whole history.
+    #[inline(never)]
+    pub fn close_with_past(
+        self,
+        seats: Vec<Seat<K>>,
+    ) -> Result<(Closed<W>, J, Past<K>), BookFault<'n, W, K, J>>
+        ensures past { IfOk result (λ c. c.2 ≡ c.0.history.items) }
+        ensures history { IfOk result (λ c. c.0.history.items ≡ self.entry.history) }
+        ensures closed { IfOk result (λ c. IsClosed W.sent K.net K.seats K.limit seats.items c.0) }
+        ensures recorded { IfOk result (λ c. J.has_recorded c.1 c.0.history.items) }
+        ensures fault { IfErr result
+            (λ f. IsCloseCause K.seats seats.items f.kind) }
+        ensures back { IfErr result
+            (λ f. (f.book ≡ self.entry) × (f.seats.items ≡ seats.items)) }
+    {
+        let past = self.past();
+        match self.close_recorded(seats) {
+            Ok((closed, recorder)) => Ok((closed, recorder, past)),
+            Err(fault) => Err(fault),
         }
     }
 

@@ -16,6 +16,7 @@ mod copying;
 mod fault;
 mod opened;
 mod register;
+mod taking;
 
 pub use book::Book;
 pub use closing::{Abandoned, BookFault, CloseKind, Closed};
