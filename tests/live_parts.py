@@ -23,8 +23,8 @@ CANBOOT = str(BUILT) if BUILT.exists() else shutil.which('canboot')
 INTERFACE = 'vcan0'
 # how many seconds one thing may take
 PATIENCE = 60
-# bits of a CAN identifier as Linux has it: all that aren't of 11 bits or remote; 29 bits; remote
-OTHER, EXTENDED, REMOTE = 0xA0000000, 0x80000000, 0x40000000
+# bits of a CAN identifier as Linux has it: all that aren't of 11 bits or remote; 29 bits; remote; an error frame
+OTHER, EXTENDED, REMOTE, ERROR = 0xA0000000, 0x80000000, 0x40000000, 0x20000000
 NOISE = 'A5A5A5A5'
 
 
@@ -41,13 +41,15 @@ class Lines:
     """Lines, from a thread of their own, as they come."""
 
     def __init__(self, source):
-        self.lines, self.news, self.ended = [], threading.Condition(), False
+        # the lines, and when each came
+        self.lines, self.times, self.news, self.ended = [], [], threading.Condition(), False
         threading.Thread(target=self.read, args=(source,), daemon=True).start()
 
     def read(self, source):
         for line in source:
             with self.news:
                 self.lines.append(line.rstrip('\r\n'))
+                self.times.append(time.monotonic())
                 self.news.notify_all()
         with self.news:
             self.ended = True
@@ -237,6 +239,8 @@ class Live(Group):
 
     def __init__(self, scene, slaves, *words, startup=1, own=1, adapter=None, journal=None):
         self.scene, self.start, self.asked = scene, len(scene.bus.lines), []
+        # the NMT messages that another has sent, none of which is sent by canboot too
+        self.others = set()
         # each run of a scene has a journal of its own, unless it is to take one that is there
         self.journal = journal or scene.folder / f'day-{len(scene.groups)}.journal'
         network = scene.folder / 'network.toml'
@@ -318,7 +322,7 @@ class Live(Group):
         """Makes sure that the frames of the report were sent, in their order, and no other NMT message."""
         end, wanted = time.monotonic() + 10, ['000#' + it.replace(' ', '') for it in report.frames]
         while True:
-            heard = [it[0] for it in self.scene.bus.all('000#.*', self.start)]
+            heard = [it[0] for it in self.scene.bus.all('000#.*', self.start) if it[0] not in self.others]
             if heard == wanted or time.monotonic() > end:
                 break
             time.sleep(0.1)
