@@ -37,8 +37,17 @@ def want(holds, what):
         raise Differs(what)
 
 
+# the time before each line that a live run tells: UTC, to the millisecond
+TOLD_AT = re.compile(r'\d{4}-\d\d-\d\dT\d\d:\d\d:\d\d\.\d{3}Z ')
+
+
+def told(line):
+    """A line, without the time before it, if it has one."""
+    return TOLD_AT.sub('', line, count=1) if TOLD_AT.match(line) else line
+
+
 class Lines:
-    """Lines, from a thread of their own, as they come."""
+    """Lines, from a thread of their own, as they come, without their times."""
 
     def __init__(self, source):
         # the lines, and when each came
@@ -48,7 +57,7 @@ class Lines:
     def read(self, source):
         for line in source:
             with self.news:
-                self.lines.append(line.rstrip('\r\n'))
+                self.lines.append(told(line.rstrip('\r\n')))
                 self.times.append(time.monotonic())
                 self.news.notify_all()
         with self.news:

@@ -3,7 +3,7 @@ ghost use Rattle.std.specs.Io.KnownBytes.{Appends};
 ghost use Rattle.canboot.specs.Program.{EndsWithout, is_same_file};
 
 use crate::live::LiveOptions;
-use crate::live::files::{JournalPath, format_of, live_file};
+use crate::live::files::{JournalPath, LivePaths, format_of, live_file};
 use canboot_check::{
     FAILED, MISUSED, check_file, fault_line, mend_text, output_status, read_fault, replay_text,
 };
@@ -138,6 +138,7 @@ pub fn run_words<
                 settle_ms,
                 heartbeat_ms,
                 seconds,
+                operator,
                 journal,
                 is_synced,
             },
@@ -151,11 +152,15 @@ pub fn run_words<
                 seconds,
                 format: format_of(&bus),
             };
-            let journal = JournalPath {
-                path: journal,
-                is_synced,
+            let paths = LivePaths {
+                network,
+                operator,
+                journal: JournalPath {
+                    path: journal,
+                    is_synced,
+                },
             };
-            live_file(rt, network, &bus, options, journal, out, err, is_coloured)
+            live_file(rt, paths, &bus, options, out, err, is_coloured)
         }
         Ok(Action::Replay) => replay_text(rt.alloc(), input, out, err),
         Ok(Action::Mend) => mend_text(rt.alloc(), input, out, err),

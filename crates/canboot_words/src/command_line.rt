@@ -57,6 +57,8 @@ pub enum Action<'a> {
         /// How long the run goes on behind the end of the operator's input, in seconds, up to
         /// 31,536,000; none: until it ends otherwise.
         seconds: Option<u32>,
+        /// The path of the FIFO in which the operator's lines come; none: standard input.
+        operator: Option<&'a str>,
         journal: Option<&'a str>,
         /// Whether each line of the journal is put on the disk before its frames are sent.
         is_synced: bool,

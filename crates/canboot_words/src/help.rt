@@ -268,7 +268,9 @@ call, so the journal of a long run stays short. Behind 64 changes a slave is tol
   Where boot_time has gone by and a mandatory slave isn't booted, the network is halted. There, \
 and where all nodes are stopped, nothing is booted by itself: see 'start' and 'boot'.
 
-Meanwhile an operator types lines on standard input, words with spaces between them:
+Meanwhile an operator types lines on standard input, or with --operator in the FIFO of that path, \
+which others open, write and close as often as they like. The words of a line have spaces between \
+them:
 
   start        starts the network again: all begins anew; where all nodes were stopped, just them
   boot 5       boots slave 5 now
@@ -302,7 +304,8 @@ message of another NMT master, as often; a node that isn't listed and boots up, 
 the interface is error passive, off or restarted, each once until it changes.
 
 The run ends with 'quit'; --for SECONDS behind the end of the operator's input, where that is \
-given; or where no more frames can be received or sent. Without an operator and --for it goes on. \
+given (a FIFO of --operator has none); or where no more frames can be received or sent. Without an \
+operator and --for it goes on. \
 At its end it is told which nodes run on: they do, unless 'stop' was typed before 'quit'. The \
 workers finish, the report is printed on standard output, and the last line of the journal is \
 written, if --journal names a FILE. 'canboot replay < FILE' accepts the journal, and \

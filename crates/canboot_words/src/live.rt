@@ -62,6 +62,11 @@ fn seconds_argument<'a>(alloc: Global) -> Arg<'a> {
     option(alloc, "for", "SECONDS", help).value_parser(value_parser!(u32).range(0..31_536_001))
 }
 
+fn operator_argument<'a>(alloc: Global) -> Arg<'a> {
+    let help = "A FIFO in which the operator's lines come, in place of standard input";
+    option(alloc, "operator", "FILE", help)
+}
+
 fn sync_argument<'a>(alloc: Global) -> Result<Arg<'a>, AllocError> {
     let help = "Puts each line of the journal on the disk before its frames are sent";
     argument(alloc, "journal-sync", help)
@@ -84,6 +89,7 @@ fn arguments<'a>(alloc: Global) -> Result<Vec<Arg<'a>>, AllocError> {
             Ok(settle_argument(alloc)),
             Ok(heartbeat_argument(alloc)),
             Ok(seconds_argument(alloc)),
+            Ok(operator_argument(alloc)),
             Ok(journal_argument(alloc)),
             sync_argument(alloc),
         ],
@@ -163,6 +169,7 @@ pub(crate) fn live_action<'a>(alloc: Global, given: &ArgMatches<'a>) -> Result<A
         settle_ms: milliseconds_of(given, "settle", 0, 600_000),
         heartbeat_ms,
         seconds: given.get_one::<u32>("for"),
+        operator: given.get_str("operator"),
         journal: given.get_str("journal"),
         is_synced: given.get_flag("journal-sync"),
     })

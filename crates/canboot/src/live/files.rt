@@ -4,6 +4,7 @@ ghost use Rattle.std.specs.Prelude.{◌≡◌, ◌≤◌, ◌⊎◌, IfOk, vec_l
 ghost use Rattle.canboot.specs.Program.{channel_closing, channel_opening, format_of};
 
 use crate::live::journal_file::make_journal;
+use crate::live::operator_input::open_operator;
 use crate::live::{LiveEnds, LiveOptions, live_text};
 use crate::program::write_fault;
 use canboot_check::{CheckFault, FAILED, LONGEST_LIST, fault_line, read_fault, read_list, refuse};
@@ -84,6 +85,16 @@ pub(crate) struct JournalPath<'a> {
     pub(crate) is_synced: bool,
 }
 
+/// The files of a live run, besides those of the bus.
+#[derive(Clone, Copy, Debug, PartialEq, Eq)]
+pub(crate) struct LivePaths<'a> {
+    /// The network list.
+    pub(crate) network: &'a str,
+    /// The FIFO in which the operator's lines come; none: standard input.
+    pub(crate) operator: Option<&'a str>,
+    pub(crate) journal: JournalPath<'a>,
+}
+
 /// The bytes of the file of this path.
 fn read_file<R: Files + AllocGlobal>(rt: &R, path: &str) -> Result<Vec<u8>, CheckFault> {
     match fs::open(rt, path) {
@@ -117,10 +128,9 @@ pub(crate) fn live_file<
     E: Write,
 >(
     rt: &R,
-    path: &str,
+    paths: LivePaths<'_>,
     bus: &BusPaths<'_>,
     options: LiveOptions,
-    journal: JournalPath<'_>,
     out: &mut O,
     err: &mut E,
     is_coloured: bool,
@@ -128,13 +138,17 @@ pub(crate) fn live_file<
     requires workers { (1 ≤ options.workers) × (options.workers ≤ 16) }
     ensures statuses { (result ≡ 0) ⊎ ((result ≡ 1) ⊎ (result ≡ 3)) }
 {
-    let text = match read_file(rt, path) {
+    let text = match read_file(rt, paths.network) {
         Ok(text) => text,
         Err(fault) => return refuse(err, fault),
     };
     let is_master = match read_list(rt.alloc(), &mut text.as_slice()) {
         Ok(network) => network.startup().is_master(),
         Err(fault) => return refuse(err, fault),
+    };
+    let typed = match open_operator(rt, paths.operator) {
+        Ok(typed) => typed,
+        Err(error) => return read_fault(err, error.kind()),
     };
     let (received, mut sent) = match open_bus(rt, bus) {
         Ok(files) => files,
@@ -151,19 +165,19 @@ pub(crate) fn live_file<
     };
     let mut messages = Some(Outlet::new(writer, options.format));
     // Where the start will be refused, nothing is written.
-    let path = if is_master { journal.path } else { None };
-    let mut journal = match make_journal(rt, path, journal.is_synced, err) {
+    let path = if is_master { paths.journal.path } else { None };
+    let mut shown = ShownLines::new(rt, rt.alloc(), err, is_coloured);
+    let mut journal = match make_journal(rt, path, paths.journal.is_synced, &mut shown) {
         Ok(output) => output,
-        Err(error) => return write_fault(err, error.kind()),
+        Err(error) => return write_fault(&mut shown, error.kind()),
     };
     let ends = LiveEnds {
         received,
-        typed: rt.reader(),
+        typed,
         written,
         error_control,
     };
     let _ = sent.write_all(channel_opening(options.format));
-    let mut shown = ShownLines::new(rt, rt.alloc(), err, is_coloured);
     let status = live_text(
         rt,
         rt.alloc(),
