@@ -1,5 +1,5 @@
 -- What is kept of a live run goes on from step to step.
-use Rattle.std.proofs.Common.{◌≡◌, ℕ, ◌+◌, List, [], ◌∷◌, ◌++◌, Option, Some, None, Result, Ok, Err, Bool, true, false, inl, inr, ◌⊎◌, refl, sym, subst, ap, ◌∙◌, append_assoc}
+use Rattle.std.proofs.Common.{◌≡◌, ℕ, List, [], ◌∷◌, ◌++◌, Option, Some, None, Result, Ok, Err, Bool, true, false, inl, inr, ◌⊎◌, refl, sym, subst, ◌∙◌, append_assoc}
 use Rattle.std.specs.Prelude.{IfNone, IfOk}
 use Rattle.cm_history.specs.declared.call.Entry.{Entry}
 use Rattle.cm_live.specs.declared.happening.Happening.{Happening}

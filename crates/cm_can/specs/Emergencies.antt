@@ -1,5 +1,5 @@
 -- Emergency messages (CiA 301, emergency object): what a node says of its errors, by itself.
-use Rattle.std.specs.Prelude.{◌≡◌, ◌==◌, ◌+◌, ◌*◌, ◌/◌, ℕ, List, [], ◌∷◌, if◌then◌else◌, codes, length}
+use Rattle.std.specs.Prelude.{◌≡◌, ◌==◌, ◌+◌, ◌*◌, ◌/◌, ℕ, List, ◌∷◌, if◌then◌else◌, codes, length}
 use Rattle.cm_nmt.specs.NodeId.{IsNodeId}
 use Rattle.cm_can.specs.declared.emergency.Emergency.{Emergency}
 use Rattle.cm_can.specs.declared.frame.CanFrame.{CanFrame}

@@ -1,5 +1,4 @@
 -- What a frame says beside the answers and the states of slaves (CiA 301).
-use Rattle.std.specs.Prelude.{ℕ}
 use Rattle.cm_nmt.specs.Frames.{IsTarget, frame_bytes}
 use Rattle.cm_nmt.specs.declared.frame.Frame.{Frame}
 use Rattle.cm_can.specs.Control.{IsErrorControl}

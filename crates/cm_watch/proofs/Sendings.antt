@@ -1,5 +1,5 @@
 -- What is sent for error control is nothing that a node causes by itself.
-use Rattle.std.proofs.Common.{◌≡◌, ◌∙◌, ℕ, Bool, true, false, List, [], ◌∷◌, ◌++◌, ap, sym, subst, map}
+use Rattle.std.proofs.Common.{ℕ, Bool, true, false, List, [], ◌∷◌, sym, subst, map}
 use Rattle.std.specs.List.{filter}
 use Rattle.cm_netlist.specs.Network.{Network}
 use Rattle.cm_nmt.specs.Listing.{node_ids}

@@ -8,7 +8,6 @@ use Rattle.cm_watch.specs.BusErrors.{behind_error, error_notice}
 use Rattle.cm_watch.specs.Echoes.{behind_heard, is_ours}
 use Rattle.cm_watch.specs.Limiting.{behind_message, is_told, left_out_now, none_told}
 use Rattle.cm_watch.specs.declared.bus_told.BusTold.{BusTold}
-use Rattle.cm_watch.specs.declared.bus_told.ErrorNotice.{ErrorNotice}
 use Rattle.cm_watch.specs.declared.limit.Limit.{Limit}
 use Rattle.cm_watch.specs.declared.notices.Notice.{Notice}
 use Rattle.cm_watch.specs.declared.notices.Notice.TheVariants as notice

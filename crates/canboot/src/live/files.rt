@@ -95,6 +95,16 @@ pub(crate) struct LivePaths<'a> {
     pub(crate) journal: JournalPath<'a>,
 }
 
+/// The fault of an operator's file that can't be opened, or is no FIFO.
+fn operator_fault<E: Write>(err: &mut E, kind: ErrorKind) -> u8
+    ensures { result ≡ 3 }
+{
+    match kind {
+        ErrorKind::InvalidInput => fault_line(err, FAILED, "the operator's file isn't a FIFO"),
+        _ => read_fault(err, kind),
+    }
+}
+
 /// The bytes of the file of this path.
 fn read_file<R: Files + AllocGlobal>(rt: &R, path: &str) -> Result<Vec<u8>, CheckFault> {
     match fs::open(rt, path) {
@@ -148,7 +158,7 @@ pub(crate) fn live_file<
     };
     let typed = match open_operator(rt, paths.operator) {
         Ok(typed) => typed,
-        Err(error) => return read_fault(err, error.kind()),
+        Err(error) => return operator_fault(err, error.kind()),
     };
     let (received, mut sent) = match open_bus(rt, bus) {
         Ok(files) => files,

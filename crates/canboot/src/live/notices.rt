@@ -2,6 +2,7 @@
 
 ghost use Rattle.std.specs.Prelude.{◌≡◌, Some, OnOk};
 ghost use Rattle.std.specs.Io.KnownBytes.{Appends};
+ghost use Rattle.cm_netlist.specs.Network.{is_listed};
 ghost use Rattle.canboot.specs.NoticeWords.{bytes_words, command_words, emergency_words, listed_words, message_words, notice_line};
 ghost use Rattle.canboot.specs.NoticeWords.{notice_words, state_words, target_words};
 
@@ -32,11 +33,15 @@ impl<'a> fmt::Display for Bytes<'a> {
     }
 }
 
-/// What stands behind the number of a node that isn't listed.
-fn listed_mark(is_listed: bool) -> &'static str
-    ensures { result.now ≡ listed_words is_listed }
+/// What stands behind the number of a node: nothing, or that it isn't listed.
+fn listed_mark(network: &Network, id: NodeId) -> &'static str
+    ensures { result.now ≡ listed_words (is_listed network.now id) }
 {
-    if is_listed { "" } else { " (not listed)" }
+    if network.entry(id).is_some() {
+        ""
+    } else {
+        " (not listed)"
+    }
 }
 
 /// An emergency message of a node, in words.
@@ -52,7 +57,7 @@ impl<'a> fmt::Display for EmergencyWords<'a> {
 
     fn fmt<W: fmt::Write>(&self, f: &mut fmt::Formatter<W>) -> fmt::Result {
         let number = self.id.get();
-        let mark = listed_mark(self.network.entry(self.id).is_some());
+        let mark = listed_mark(self.network, self.id);
         let code = HexFour(self.emergency.code);
         let words = self.emergency.words();
         let register = HexTwo(self.emergency.register);

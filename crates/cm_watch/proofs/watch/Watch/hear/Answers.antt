@@ -1,4 +1,4 @@
-use Rattle.std.proofs.Common.{◌≡◌, ◌∙◌, ◌++◌, Bool, ap, arith, sym, subst}
+use Rattle.std.proofs.Common.{◌≡◌, ◌∙◌, ◌++◌, Bool, arith, sym, subst}
 use Rattle.cm_watch.specs.Guarding.{counts, heard_if}
 use Rattle.cm_watch.specs.Watches.{Watches}
 use Rattle.cm_watch.proofs.Steps.{same_counts}

@@ -1,4 +1,3 @@
-use Rattle.std.specs.Prelude.{IfOk, OnOk}
 use Rattle.canboot.specs.Going.{counts_in, placed_in}
 use Rattle.canboot.proofs.live.watching.Watcher.enter.Goals as goal
 

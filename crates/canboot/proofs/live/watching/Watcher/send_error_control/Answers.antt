@@ -1,4 +1,4 @@
-use Rattle.std.proofs.Common.{◌≡◌, ◌∙◌, List, refl, subst}
+use Rattle.std.proofs.Common.{◌∙◌, List, refl, subst}
 use Rattle.cm_watch.specs.ErrorControl.{error_control_at}
 use Rattle.cm_watch.specs.Steps.{given}
 use Rattle.cm_watch.specs.Watches.{Watches}
