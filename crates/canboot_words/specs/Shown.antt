@@ -1,8 +1,12 @@
 -- How a word of a line is shown on a terminal (own; ECMA-48, select graphic rendition).
-use Rattle.std.specs.Prelude.{ℕ, Bool, ◌==◌, ◌||◌, ◌-◌, if◌then◌else◌, List, [], ◌∷◌, ◌++◌, bytes_eq, codes, length, slice_index_or, take}
+use Rattle.std.specs.Prelude.{ℕ, Bool, ◌==◌, ◌||◌, ◌&&◌, ◌-◌, nat_le, if◌then◌else◌, List, [], ◌∷◌, ◌++◌, bytes_eq, codes, length, slice_index_or, take}
 use Rattle.std.specs.Prelude.{Option, Some, None}
 use Rattle.canboot_words.specs.declared.shown.Colour.{Colour}
 use Rattle.canboot_words.specs.declared.shown.Colour.TheVariants.{Red, Green}
+
+-- the line is one of fault: it begins with 'canboot: '
+abbrev pub is_fault : List ℕ → Bool
+is_fault line = nat_le 9 (length line) && bytes_eq (take 9 line) (codes "canboot: ")
 
 -- the word says something bad
 abbrev pub is_bad : List ℕ → Bool

@@ -294,8 +294,8 @@ happens.
 Progress goes to standard error as well, a line for each change in the order of the history, such \
 as 'node 5: begun 1', 'node 5: status Ok, started' and 'network ready'. It says in words what a \
 status means and which value differed, as in 'node 7: status M (product code 00000457, expected \
-00000456)'. Each line has its time before it, in UTC to the millisecond. On a terminal words such as \
-lost and ready are coloured, unless NO_COLOR is set.
+00000456)'. Each line but one of fault has its time before it, in UTC to the millisecond. On a \
+terminal words such as lost and ready are coloured, unless NO_COLOR is set.
 
 So it is told what else the bus says, and no call follows from it: an emergency message of any node, \
 with what its code means, at most ten lines of a node in a second and then how many were left out; a \

@@ -1,7 +1,7 @@
 //! How the lines of a live run are shown: each with its time, and on a terminal with words in colour.
 
 ghost use Rattle.std.specs.Prelude.{◌≡◌, ◌++◌, [], OnOk};
-ghost use Rattle.canboot_words.specs.Shown.{bare, closing_of, colour_of, is_bad, is_denial, is_good, is_mark, opening_of, shown_word};
+ghost use Rattle.canboot_words.specs.Shown.{bare, closing_of, colour_of, is_bad, is_denial, is_fault, is_good, is_mark, opening_of, shown_word};
 
 use cm_text::is_word;
 use jiff::Timestamp;
@@ -136,8 +136,15 @@ fn put_words(text: &mut Vec<u8>, line: &[u8]) -> Result<(), AllocError> {
     Ok(())
 }
 
-/// A writer that puts the time before each line (UTC, to the millisecond), and writes each by one write; on a terminal some words
-/// are coloured by what they mean. What is written to it is to end with a line feed, or to have none.
+/// Whether the line is one of fault, which stands as that of any command does.
+fn is_fault(line: &[u8]) -> bool
+    ensures { result ≡ is_fault line.now }
+{
+    9 <= line.len() && is_word(&line[..9], b"canboot: ")
+}
+
+/// A writer that puts the time before each line but one of fault (UTC, to the millisecond), and writes each by one write; on a
+/// terminal some words are coloured by what they mean. What is written to it is to end with a line feed, or to have none.
 #[derive(Drop)]
 pub struct ShownLines<'e, R: Clock, E: Write> {
     rt: &'e R,
@@ -171,8 +178,10 @@ impl<'e, R: Clock, E: Write> ShownLines<'e, R, E> {
     /// The line that has come, as it is shown.
     fn shown(&self) -> io::Result<Vec<u8>> {
         let mut text = Vec::new(self.alloc);
-        if let Ok(now) = Timestamp::now(self.rt) {
-            write!(text, "{now:.3} ")?;
+        if !is_fault(&self.line) {
+            if let Ok(now) = Timestamp::now(self.rt) {
+                write!(text, "{now:.3} ")?;
+            }
         }
         if self.is_coloured {
             let line = self.line.as_slice();
