@@ -2,10 +2,10 @@
 
 ghost use Rattle.std.specs.Prelude.{◌<◌, ◌^◌};
 
-use cm_can::{BusState, Remark, read_error, read_frame, read_remark};
+use cm_can::{BusState, Emergency, Remark, read_error, read_frame, read_remark};
 use cm_history::Entry;
 use cm_journal::{Journal, journal_read};
-use cm_nmt::NodeId;
+use cm_nmt::{Frame, NodeId};
 use cm_sequential::frames;
 use cm_watch::{ErrorNotice, Happening, Notice, Notices, Settings, Step, Told, Watch};
 use std::alloc::Global;
@@ -120,7 +120,7 @@ impl<'a> Story<'a> {
     /// The bus says this.
     fn hear<W: Write>(&mut self, now_ms: u64, remark: &Remark, out: &mut W) -> io::Result<()> {
         match self.notices.hear(&self.journal.network, now_ms, remark) {
-            Some(notice) => put_notice(now_ms, notice, out),
+            Some(notice) => put_notice(now_ms, &notice, out),
             None => Ok(()),
         }
     }
@@ -129,7 +129,7 @@ impl<'a> Story<'a> {
     fn count_left_out<W: Write>(&mut self, now_ms: u64, out: &mut W) -> io::Result<()> {
         for _turn in 0..TURNS {
             if let Some(notice) = self.notices.turn(now_ms) {
-                put_notice(now_ms, notice, out)?;
+                put_notice(now_ms, &notice, out)?;
             }
         }
         Ok(())
@@ -179,40 +179,46 @@ fn put_step<W: Write>(now_ms: u64, step: Step, out: &mut W) -> io::Result<()> {
     }
 }
 
-/// The word of a state of the CAN controller.
-fn state_word(state: BusState) -> &'static str {
-    match state {
-        BusState::Active => "active",
-        BusState::Warning => "warning",
-        BusState::Passive => "passive",
-        BusState::Off => "off",
-        BusState::Restarted => "restarted",
+/// The word of what is told of an error of the bus.
+fn error_word(error: ErrorNotice) -> &'static str {
+    match error {
+        ErrorNotice::Unacknowledged => "unacknowledged",
+        ErrorNotice::State(BusState::Active) => "bus active",
+        ErrorNotice::State(BusState::Warning) => "bus warning",
+        ErrorNotice::State(BusState::Passive) => "bus passive",
+        ErrorNotice::State(BusState::Off) => "bus off",
+        ErrorNotice::State(BusState::Restarted) => "bus restarted",
     }
 }
 
+/// Writes an emergency message, in words.
+fn put_emergency<W: Write>(
+    now_ms: u64,
+    id: NodeId,
+    emergency: &Emergency,
+    out: &mut W,
+) -> io::Result<()> {
+    let (id, code, register) = (id.get(), emergency.code, emergency.register);
+    writeln!(out, "{now_ms} emergency {id} {code:04X} {register:02X}")
+}
+
+/// Writes a message of another master.
+fn put_message<W: Write>(now_ms: u64, message: Frame, out: &mut W) -> io::Result<()> {
+    let [specifier, node] = message.bytes();
+    writeln!(out, "{now_ms} master {specifier:02X} {node:02X}")
+}
+
 /// Writes what is told of what the bus says, in words.
-fn put_notice<W: Write>(now_ms: u64, notice: Notice, out: &mut W) -> io::Result<()> {
+fn put_notice<W: Write>(now_ms: u64, notice: &Notice, out: &mut W) -> io::Result<()> {
     match notice {
-        Notice::Emergency(id, emergency) => {
-            let (code, register) = (emergency.code, emergency.register);
-            let id = id.get();
-            writeln!(out, "{now_ms} emergency {id} {code:04X} {register:02X}")
-        }
+        Notice::Emergency(id, emergency) => put_emergency(now_ms, *id, emergency, out),
         Notice::EmergenciesLeftOut(id, count) => {
             writeln!(out, "{now_ms} emergencies-left-out {} {count}", id.get())
         }
-        Notice::Master(message) => {
-            let [specifier, node] = message.bytes();
-            writeln!(out, "{now_ms} master {specifier:02X} {node:02X}")
-        }
+        Notice::Master(message) => put_message(now_ms, *message, out),
         Notice::MastersLeftOut(count) => writeln!(out, "{now_ms} masters-left-out {count}"),
         Notice::Unlisted(id) => writeln!(out, "{now_ms} unlisted {}", id.get()),
-        Notice::Bus(ErrorNotice::Unacknowledged) => writeln!(out, "{now_ms} unacknowledged"),
-        Notice::Bus(ErrorNotice::State(state)) => writeln!(
-            out,
-            "{now_ms} bus {}",
-            state_word(state)
-        ),
+        Notice::Bus(error) => writeln!(out, "{now_ms} {}", error_word(*error)),
     }
 }
 
