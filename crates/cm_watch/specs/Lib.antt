@@ -22,3 +22,6 @@ pub mod Limiting
 pub mod Echoes
 pub mod BusErrors
 pub mod Notices
+pub mod EventFields
+pub mod EventEntries
+pub mod Events

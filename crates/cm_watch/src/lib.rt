@@ -9,6 +9,8 @@
 //! [`Told`]; in the order of the history it comes by [`InOrder`]; and when the time may be looked at, [`Pace`] says. What waits
 //! until its frames were handed to the wire is [`Waiting`], and what came of the boots so far [`Tried`]. Which of the remarks of a
 //! bus are told, emergency messages, other masters, errors of the bus and nodes that aren't listed, decide [`Notices`].
+//!
+//! What is told is an [`Event`] for other programs, and [`EventLine`] its line, an object of JSON.
 #![tactic(auto)]
 
 mod beats;
@@ -16,8 +18,15 @@ mod bus_told;
 mod course;
 mod ends;
 mod error_control;
+mod event;
+mod event_boot;
+mod event_entry;
+mod event_fields;
+mod event_network;
+mod event_notice;
 mod guarding;
 mod happening;
+mod hexadecimal;
 mod in_order;
 mod laws;
 mod limit;
@@ -37,8 +46,10 @@ mod watch;
 
 pub use bus_told::{BusTold, ErrorNotice};
 pub use course::Course;
+pub use event::{Event, EventLine, NoBoot};
 pub use guarding::guard_of;
 pub use happening::{Happening, Moment, Step};
+pub use hexadecimal::{HexEight, HexFour, HexTwo};
 pub use in_order::{InOrder, Placed};
 pub use laws::{
     beats_at_multiples, lost_once, none_forgotten, one_in_ten_seconds, ten_a_second, told_in_time,
