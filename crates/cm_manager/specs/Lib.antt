@@ -17,6 +17,7 @@ pub use Rattle.cm_format.specs.Text
 pub use Rattle.cm_format.specs.Fits
 pub use Rattle.cm_format.specs.Journals
 pub use Rattle.cm_format.specs.Report
+pub use Rattle.cm_format.specs.ReportJson
 pub use Rattle.cm_journal.specs.Inputs
 pub use Rattle.cm_register.specs.Opening
 pub use Rattle.cm_seat.specs.Reads

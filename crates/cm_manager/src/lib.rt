@@ -26,32 +26,105 @@
 //! `PublishedVersion`.
 #![tactic(auto)]
 
-pub use cm_boot::{Answer, Boot, Bus, Question, Step, WrongAnswer, boot_slave, judge, judge_terms};
-pub use cm_format::{
-    FaultKind, Head, JournalFault, MOST_ENTRIES_OF_VERSION_1, Version, no_text_goes_on, one_text,
-};
-pub use cm_history::{
-    ALL_NODES, Call, Entry, MOST_ENTRIES, Orders, Phase, Refusal, Reply, abort_code,
-    boots_start_rightly, machine_shows_its_history, network_becomes_operational_rightly,
-    reads_show,
-};
-pub use cm_journal::{
-    Journal, ReadFault, Replayed, journal_read, journal_replay, journal_write, replay_report,
-    report, report_of,
-};
-pub use cm_netlist::{NetFault, Network, SlaveEntry};
-pub use cm_nmt::{
-    Answers, Assignment, Command, Frame, Got, Heard, NmtState, NodeId, Signal, Startup, Status,
-    Target, Terms, Wire, Write,
-};
-pub use cm_past::{HistoryName, HistoryReader, Past};
-pub use cm_register::{
-    Book, BookFault, CallFault, CloseFault, CloseKind, Closed, Made, OpenFault, Opened,
-    ReadFault as SeatReadFault, Receipt, Register, RunName, Seat, SeatList, Seen, SharedManager,
-};
-pub use cm_run::{
-    Booted, Last, OperateFault, Outcome, RunFault, RunKind, SimBus, SimSlave, SimWire, boot_all,
-    operate, round,
-};
-pub use cm_sequential::{Cause, CompactReplay, Manager, Untaken, frames, replay, replay_to_fault};
-pub use cm_versions::{Next, Publisher, TellFault, Version as PublishedVersion, VersionReader};
+pub use cm_boot::Answer;
+pub use cm_boot::Boot;
+pub use cm_boot::Bus;
+pub use cm_boot::Question;
+pub use cm_boot::Step;
+pub use cm_boot::WrongAnswer;
+pub use cm_boot::boot_slave;
+pub use cm_boot::judge;
+pub use cm_boot::judge_terms;
+pub use cm_format::FaultKind;
+pub use cm_format::Head;
+pub use cm_format::JournalFault;
+pub use cm_format::MOST_ENTRIES_OF_VERSION_1;
+pub use cm_format::Version;
+pub use cm_format::no_text_goes_on;
+pub use cm_format::one_text;
+pub use cm_history::ALL_NODES;
+pub use cm_history::Call;
+pub use cm_history::Entry;
+pub use cm_history::MOST_ENTRIES;
+pub use cm_history::Orders;
+pub use cm_history::Phase;
+pub use cm_history::Refusal;
+pub use cm_history::Reply;
+pub use cm_history::abort_code;
+pub use cm_history::boots_start_rightly;
+pub use cm_history::machine_shows_its_history;
+pub use cm_history::network_becomes_operational_rightly;
+pub use cm_history::reads_show;
+pub use cm_journal::Journal;
+pub use cm_journal::ReadFault;
+pub use cm_journal::Replayed;
+pub use cm_journal::journal_read;
+pub use cm_journal::journal_replay;
+pub use cm_journal::journal_write;
+pub use cm_journal::replay_json;
+pub use cm_journal::replay_report;
+pub use cm_journal::report;
+pub use cm_journal::report_json_of;
+pub use cm_journal::report_of;
+pub use cm_netlist::NetFault;
+pub use cm_netlist::Network;
+pub use cm_netlist::SlaveEntry;
+pub use cm_nmt::Answers;
+pub use cm_nmt::Assignment;
+pub use cm_nmt::Command;
+pub use cm_nmt::Frame;
+pub use cm_nmt::Got;
+pub use cm_nmt::Heard;
+pub use cm_nmt::NmtState;
+pub use cm_nmt::NodeId;
+pub use cm_nmt::Signal;
+pub use cm_nmt::Startup;
+pub use cm_nmt::Status;
+pub use cm_nmt::Target;
+pub use cm_nmt::Terms;
+pub use cm_nmt::Wire;
+pub use cm_nmt::Write;
+pub use cm_past::HistoryName;
+pub use cm_past::HistoryReader;
+pub use cm_past::Past;
+pub use cm_register::Book;
+pub use cm_register::BookFault;
+pub use cm_register::CallFault;
+pub use cm_register::CloseFault;
+pub use cm_register::CloseKind;
+pub use cm_register::Closed;
+pub use cm_register::Made;
+pub use cm_register::OpenFault;
+pub use cm_register::Opened;
+pub use cm_register::ReadFault as SeatReadFault;
+pub use cm_register::Receipt;
+pub use cm_register::Register;
+pub use cm_register::RunName;
+pub use cm_register::Seat;
+pub use cm_register::SeatList;
+pub use cm_register::Seen;
+pub use cm_register::SharedManager;
+pub use cm_run::Booted;
+pub use cm_run::Last;
+pub use cm_run::OperateFault;
+pub use cm_run::Outcome;
+pub use cm_run::RunFault;
+pub use cm_run::RunKind;
+pub use cm_run::SimBus;
+pub use cm_run::SimSlave;
+pub use cm_run::SimWire;
+pub use cm_run::boot_all;
+pub use cm_run::operate;
+pub use cm_run::round;
+pub use cm_sequential::Cause;
+pub use cm_sequential::CompactReplay;
+pub use cm_sequential::Manager;
+pub use cm_sequential::Untaken;
+pub use cm_sequential::frames;
+pub use cm_sequential::replay;
+pub use cm_sequential::replay_to_fault;
+pub use cm_versions::Next;
+pub use cm_versions::Publisher;
+pub use cm_versions::TellFault;
+pub use cm_versions::Version as PublishedVersion;
+pub use cm_versions::VersionReader;

@@ -2,6 +2,7 @@ ghost use Rattle.std.specs.Prelude.{◌≡◌, reverse, IfSome, IfNone, IsFalse,
 ghost use mathlib.Core.List.{IsPrefix};
 ghost use Rattle.std.specs.Io.KnownBytes.{Appends};
 ghost use Rattle.cm_format.specs.Report.{report_text};
+ghost use Rattle.cm_format.specs.ReportJson.{report_json};
 ghost use Rattle.cm_sequential.specs.Standing.{Stands};
 
 use crate::version::Version;
@@ -88,5 +89,22 @@ impl<K: HistoryName> VersionReader<K> {
             return None;
         }
         Some(version.report(net, out))
+    }
+
+    /// Writes the report of a version as one JSON object, in one line: that of a history that begins with all that was
+    /// seen before. What holds of [`VersionReader::report`] holds of it too.
+    pub fn json<W: Write>(&mut self, net: &Network, out: &mut W) -> Option<io::Result<()>>
+        requires { net.now ≡ K.net }
+        ensures later { IsPrefix self.old self.new }
+        ensures written { IfSome result (λ r. OnOk r
+            (Appends (W.contents out.old) (W.contents out.new) (report_json K.net self.new))) }
+        ensures none { IfNone result (self.new ≡ self.old) }
+    {
+        let guard = self.handle.enter()?;
+        let version: &Version<K> = &*guard;
+        if !keep(&mut self.known, &version.past()) {
+            return None;
+        }
+        Some(version.json(net, out))
     }
 }

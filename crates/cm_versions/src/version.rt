@@ -1,12 +1,13 @@
 ghost use Rattle.std.specs.Prelude.{◌≡◌, ◌++◌, ◌∷◌, [], reverse, OnOk, OnErr};
 ghost use Rattle.std.specs.Io.KnownBytes.{Appends};
 ghost use Rattle.cm_format.specs.Report.{report_text};
+ghost use Rattle.cm_format.specs.ReportJson.{report_json};
 ghost use Rattle.cm_sequential.specs.Standing.{Stands};
 ghost use Rattle.cm_versions.specs.Telling.{Follows};
 
 use crate::next::Next;
 use cm_history::Entry;
-use cm_journal::replay_report;
+use cm_journal::{replay_json, replay_report};
 use cm_netlist::Network;
 use cm_past::{HistoryName, Past};
 use cm_sequential::{Cause, CompactReplay, Manager, Untaken};
@@ -68,6 +69,16 @@ impl<K: HistoryName> Version<K> {
             (Appends (W.contents out.old) (W.contents out.new) (report_text K.net self.now)) }
     {
         replay_report(net, &self.replay, out)
+    }
+
+    /// Writes the report of just these entries as one JSON object, in one line. Where a write fails, a part of it may
+    /// have been written.
+    pub fn json<W: Write>(&self, net: &Network, out: &mut W) -> io::Result<()>
+        requires { net.now ≡ K.net }
+        ensures { OnOk result
+            (Appends (W.contents out.old) (W.contents out.new) (report_json K.net self.now)) }
+    {
+        replay_json(net, &self.replay, out)
     }
 
     /// Takes in the entry that follows. Where memory is refused nothing has changed.
