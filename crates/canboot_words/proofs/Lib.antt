@@ -1,0 +1,3 @@
+pub mod Filters
+pub mod NodeNames
+pub mod ShownWords

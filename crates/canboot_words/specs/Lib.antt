@@ -1,2 +1,6 @@
 pub mod CommandLine
+pub mod Names
 pub mod Shown
+pub mod Words
+pub mod ToldLines
+pub mod NoticeWords

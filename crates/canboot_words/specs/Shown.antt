@@ -1,6 +1,9 @@
--- How a word of a line is shown on a terminal (own; ECMA-48, select graphic rendition).
-use Rattle.std.specs.Prelude.{ℕ, Bool, ◌==◌, ◌||◌, ◌&&◌, ◌-◌, nat_le, if◌then◌else◌, List, [], ◌∷◌, ◌++◌, bytes_eq, codes, length, slice_index_or, take}
-use Rattle.std.specs.Prelude.{Option, Some, None}
+-- How a line is shown: on a terminal some words in colour (own; ECMA-48, select graphic rendition), and numbers of nodes with their names.
+use Rattle.std.specs.Prelude.{◌≡◌, ℕ, Bool, false, MatchBool, ◌==◌, ◌||◌, ◌&&◌, ◌-◌, nat_le, if◌then◌else◌, List, [], ◌∷◌, ◌++◌}
+use Rattle.std.specs.Prelude.{bytes_eq, codes, length, slice_index_or, take, drop, Option, Some, None, is_some, option_and_then}
+use Rattle.std.specs.List.{join_with_byte}
+use Rattle.cm_text.specs.Words.{Words, split}
+use Rattle.canboot_words.specs.Names.{node_of}
 use Rattle.canboot_words.specs.declared.shown.Colour.{Colour}
 use Rattle.canboot_words.specs.declared.shown.Colour.TheVariants.{Red, Green}
 
@@ -53,7 +56,53 @@ abbrev pub closing_of : Option Colour → List ℕ
 closing_of None = []
 closing_of (Some c) = 27 ∷ codes "[0m"
 
--- a word in its colour, by the word before it
-abbrev pub shown_word : List ℕ → List ℕ → List ℕ
-shown_word before w =
-    opening_of (colour_of (bare before) (bare w)) ++ (w ++ closing_of (colour_of (bare before) (bare w)))
+-- the colour of a word, by the word before it, each without its mark; none where words aren't coloured
+abbrev pub colour_in : Bool → List ℕ → List ℕ → Option Colour
+colour_in coloured before w = if coloured then colour_of (bare before) (bare w) else None
+
+-- the mark behind the word, if there is one
+abbrev pub mark_of : List ℕ → List ℕ
+mark_of w = if is_mark (slice_index_or w (length w - 1) 0) then drop (length w - 1) w else []
+
+-- a number behind this word is a node's: the word is 'node' or 'nodes', or it is a node's number itself, with a comma behind it
+abbrev pub leads_on : Bool → List ℕ → Bool
+leads_on leads w =
+    bytes_eq w (codes "node")
+    || (bytes_eq w (codes "nodes") || (leads && (is_some (node_of (bare w)) && bytes_eq (mark_of w) (codes ","))))
+
+-- the name behind a word: that of the node whose number it is, if a number here is a node's
+abbrev pub name_behind : (ℕ → Option (List ℕ)) → Bool → List ℕ → Option (List ℕ)
+name_behind names leads w = if leads then option_and_then names (node_of (bare w)) else None
+
+-- a name in brackets, behind a space
+abbrev pub bracketed : List ℕ → List ℕ
+bracketed name = codes " (" ++ (name ++ codes ")")
+
+-- a word in this colour, and with this name, which stands behind the colour's end and before the word's mark
+abbrev pub shown_word : Option Colour → Option (List ℕ) → List ℕ → List ℕ
+shown_word colour None w = opening_of colour ++ (w ++ closing_of colour)
+shown_word colour (Some name) w = (opening_of colour ++ (bare w ++ closing_of colour)) ++ (bracketed name ++ mark_of w)
+
+-- words as they are shown, by the word before them, and by whether a number behind that is a node's
+unfoldable pub shown_words : Bool → (ℕ → Option (List ℕ)) → List ℕ → Bool → Words → Words
+shown_words coloured names before leads [] = []
+shown_words coloured names before leads (w ∷ ws) =
+    shown_word (colour_in coloured before w) (name_behind names leads w) w ∷ shown_words coloured names w (leads_on leads w) ws
+
+-- a line without its line feed, as it is shown: a space stands between its words, as it did
+abbrev pub shown_line : Bool → (ℕ → Option (List ℕ)) → List ℕ → List ℕ
+shown_line coloured names line = join_with_byte 32 (shown_words coloured names [] false (split 32 line))
+
+-- the line without the line feed at its end
+abbrev pub before_feed : List ℕ → List ℕ
+before_feed line = if slice_index_or line (length line - 1) 0 == 10 then take (length line - 1) line else line
+
+-- a line as it is shown, with its line feed
+abbrev pub shown_whole : Bool → (ℕ → Option (List ℕ)) → List ℕ → List ℕ
+shown_whole coloured names line = shown_line coloured names (before_feed line) ++ 10 ∷ []
+
+-- the text is the line as it is shown: one of fault with no time and no names, any other behind its time
+abbrev pub IsShown : Bool → (ℕ → Option (List ℕ)) → List ℕ → List ℕ → Type 0
+IsShown coloured names line text =
+    MatchBool (is_fault line) (text ≡ shown_whole coloured (λ id. None) line)
+    ((time : List ℕ) × (text ≡ time ++ shown_whole coloured names line))

@@ -62,6 +62,10 @@ pub enum Action<'a> {
         journal: Option<&'a str>,
         /// Whether each line of the journal is put on the disk before its frames are sent.
         is_synced: bool,
+        /// The path of the TOML file with names of nodes, if there is one.
+        names: Option<&'a str>,
+        /// The path to which each thing that is told is written as a JSON object, if there is one.
+        events: Option<&'a str>,
     },
     /// Read a journal, and print its report.
     Replay,

@@ -303,6 +303,15 @@ message of another NMT master, as often; a node that isn't listed and boots up, 
 'candump -L can0,0:0,#FFFFFFFF', which hears error frames too, that no other node acknowledges, that \
 the interface is error passive, off or restarted, each once until it changes.
 
+With --names FILE nodes have names, which stand in brackets behind a node's
+number in what is told, as in 'node 5 (hoist): lost'. FILE is TOML, with a line
+such as 5 = \"hoist\" for each name: a node-ID of 1 to 127, and a text of 1 to
+64 bytes with no control characters in it.
+
+With --events FILE each thing that is told is written to FILE too, as a JSON
+object on a line of its own. Want of a reader never stops the run: what FILE
+doesn't take is left out and counted (events_left_out).
+
 The run ends with 'quit'; --for SECONDS behind the end of the operator's input, where that is \
 given (a FIFO of --operator has none); or where no more frames can be received or sent. Without an \
 operator and --for it goes on. \

@@ -1,11 +1,19 @@
-//! The words of canboot's command line: what they ask for, and the texts of help, version and usage; and how the lines of a live run
-//! are shown.
+//! The words of canboot: what those of its command line ask for, and the texts of help, version and usage; what a live run tells of
+//! what happens, and how its lines are shown, with names of nodes in them.
 #![tactic(auto)]
 
 mod command_line;
 mod help;
 mod live;
+mod names;
 mod shown;
+mod told;
 
 pub use command_line::{Action, BusPaths, NoAction, read_words};
+pub use names::{Names, NamesFault, read_names};
 pub use shown::ShownLines;
+pub use told::{
+    Bad, ENTRIES_LEFT, EntryWords, GivenUp, LeftOut, NEARLY_FULL, NoBootOf, NoFrames, Nodes,
+    RunEnds, TimeOver, given_up, has_words, open_nodes, running_by, say, say_notice, tell_entry,
+    tell_told,
+};

@@ -75,6 +75,16 @@ fn sync_argument<'a>(alloc: Global) -> Result<Arg<'a>, AllocError> {
         .requires_arg("journal")
 }
 
+fn names_argument<'a>(alloc: Global) -> Arg<'a> {
+    let help = "The path of a TOML file with names of nodes, as 3 = \"hoist\"";
+    option(alloc, "names", "FILE", help)
+}
+
+fn events_argument<'a>(alloc: Global) -> Arg<'a> {
+    let help = "The path to which each thing that is told is written as a JSON object, a line each";
+    option(alloc, "events", "FILE", help)
+}
+
 fn arguments<'a>(alloc: Global) -> Result<Vec<Arg<'a>>, AllocError> {
     listed(
         alloc,
@@ -92,6 +102,8 @@ fn arguments<'a>(alloc: Global) -> Result<Vec<Arg<'a>>, AllocError> {
             Ok(operator_argument(alloc)),
             Ok(journal_argument(alloc)),
             sync_argument(alloc),
+            Ok(names_argument(alloc)),
+            Ok(events_argument(alloc)),
         ],
     )
 }
@@ -172,5 +184,7 @@ pub(crate) fn live_action<'a>(alloc: Global, given: &ArgMatches<'a>) -> Result<A
         operator: given.get_str("operator"),
         journal: given.get_str("journal"),
         is_synced: given.get_flag("journal-sync"),
+        names: given.get_str("names"),
+        events: given.get_str("events"),
     })
 }

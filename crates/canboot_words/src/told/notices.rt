@@ -1,0 +1,191 @@
+//! What a live run tells of what the bus says, in words.
+
+ghost use Rattle.std.specs.Prelude.{◌≡◌, Some, OnOk};
+ghost use Rattle.std.specs.Io.KnownBytes.{Appends};
+ghost use Rattle.cm_netlist.specs.Network.{is_listed};
+ghost use Rattle.canboot_words.specs.NoticeWords.{bytes_words, command_words, emergency_words, listed_words, message_words, notice_line};
+ghost use Rattle.canboot_words.specs.NoticeWords.{notice_words, state_words, target_words};
+
+use crate::told::telling::say;
+use cm_can::{BusState, Emergency};
+use cm_netlist::Network;
+use cm_nmt::{Command, Frame, NodeId, Target};
+use cm_watch::{ErrorNotice, HexFour, HexTwo, Notice};
+use std::fmt;
+use std::io::{self, Write};
+
+/// Bytes in digits, with spaces between them.
+#[derive(Drop)]
+struct Bytes<'a>(&'a [u8]);
+
+impl<'a> fmt::Display for Bytes<'a> {
+    ghost output = { λ b. Some (bytes_words b.0.now) };
+
+    fn fmt<W: fmt::Write>(&self, f: &mut fmt::Formatter<W>) -> fmt::Result {
+        if let [first, rest @ ..] = self.0 {
+            write!(f, "{}", HexTwo(*first))?;
+            for byte in rest {
+                write!(f, " {}", HexTwo(*byte))?;
+            }
+        }
+        Ok(())
+    }
+}
+
+/// What stands behind the number of a node: nothing, or that it isn't listed.
+fn listed_mark(network: &Network, id: NodeId) -> &'static str
+    ensures { result.now ≡ listed_words (is_listed network.now id) }
+{
+    if network.entry(id).is_some() {
+        ""
+    } else {
+        " (not listed)"
+    }
+}
+
+/// An emergency message of a node, in words.
+#[derive(Drop)]
+struct EmergencyWords<'a> {
+    network: &'a Network,
+    id: NodeId,
+    emergency: &'a Emergency,
+}
+
+impl<'a> fmt::Display for EmergencyWords<'a> {
+    ghost output = { λ e. Some (emergency_words e.network.now e.id e.emergency.now) };
+
+    fn fmt<W: fmt::Write>(&self, f: &mut fmt::Formatter<W>) -> fmt::Result {
+        let number = self.id.get();
+        let mark = listed_mark(self.network, self.id);
+        let code = HexFour(self.emergency.code);
+        let words = self.emergency.words();
+        let register = HexTwo(self.emergency.register);
+        let specific = Bytes(&self.emergency.specific);
+        write!(
+            f,
+            "node {number}{mark}: emergency {code}, {words}; error register {register}, {specific}"
+        )
+    }
+}
+
+/// An NMT command in words, before whom it is for.
+fn command_words(command: Command) -> &'static str
+    ensures { result.now ≡ command_words command }
+{
+    match command {
+        Command::Start => "start",
+        Command::Stop => "stop",
+        Command::EnterPre => "enter pre-operational of",
+        Command::ResetNode => "reset",
+        Command::ResetComm => "reset communication of",
+    }
+}
+
+/// Whom an NMT message is for.
+#[derive(Drop)]
+struct TargetWords(Target);
+
+impl fmt::Display for TargetWords {
+    ghost output = { λ t. Some (target_words t.0) };
+
+    fn fmt<W: fmt::Write>(&self, f: &mut fmt::Formatter<W>) -> fmt::Result {
+        match &self.0 {
+            Target::Node(id) => {
+                let number = id.get();
+                write!(f, "node {number}")
+            }
+            Target::All => write!(f, "all nodes"),
+        }
+    }
+}
+
+/// An NMT message, its bytes and then in words.
+#[derive(Drop)]
+struct MessageWords(Frame);
+
+impl fmt::Display for MessageWords {
+    ghost output = { λ m. Some (message_words m.0) };
+
+    fn fmt<W: fmt::Write>(&self, f: &mut fmt::Formatter<W>) -> fmt::Result {
+        let [specifier, node] = self.0.bytes();
+        let (specifier, node) = (HexTwo(specifier), HexTwo(node));
+        let command = command_words(self.0.command);
+        let target = TargetWords(self.0.target);
+        write!(f, "{specifier} {node}, {command} {target}")
+    }
+}
+
+/// The state of the CAN controller in words.
+fn state_words(state: BusState) -> &'static str
+    ensures { result.now ≡ state_words state }
+{
+    match state {
+        BusState::Active => "error active",
+        BusState::Warning => "error warning",
+        BusState::Passive => "error passive",
+        BusState::Off => "off",
+        BusState::Restarted => "restarted",
+    }
+}
+
+/// What is told of what the bus says.
+#[derive(Drop)]
+struct NoticeWords<'a> {
+    network: &'a Network,
+    notice: &'a Notice,
+}
+
+impl<'a> fmt::Display for NoticeWords<'a> {
+    ghost output = { λ w. Some (notice_words w.network.now w.notice.now) };
+
+    fn fmt<W: fmt::Write>(&self, f: &mut fmt::Formatter<W>) -> fmt::Result {
+        match self.notice {
+            Notice::Emergency(id, emergency) => {
+                let network = self.network;
+                let id = *id;
+                let words = EmergencyWords {
+                    network,
+                    id,
+                    emergency,
+                };
+                write!(f, "{words}")
+            }
+            Notice::EmergenciesLeftOut(id, count) => {
+                let number = id.get();
+                write!(f, "node {number}: {count} emergency messages, left out")
+            }
+            Notice::Master(message) => {
+                let words = MessageWords(*message);
+                write!(f, "another NMT master: {words}")
+            }
+            Notice::MastersLeftOut(count) => {
+                write!(f, "another NMT master: {count} messages, left out")
+            }
+            Notice::Unlisted(id) => {
+                let number = id.get();
+                write!(f, "node {number} isn't listed, and has booted up")
+            }
+            Notice::Bus(ErrorNotice::Unacknowledged) => {
+                write!(f, "bus: no other node acknowledges")
+            }
+            Notice::Bus(ErrorNotice::State(state)) => {
+                let words = state_words(*state);
+                write!(f, "bus: {words}")
+            }
+        }
+    }
+}
+
+/// Tells what is told of what the bus says, if something is.
+pub fn say_notice<E: Write>(
+    err: &mut E,
+    network: &Network,
+    notice: Option<Notice>,
+) -> io::Result<()>
+    ensures { OnOk result (Appends (E.contents err.old) (E.contents err.new) (notice_line network.now notice)) }
+{
+    match &notice {
+        Some(notice) => say(err, &NoticeWords { network, notice }),
+        None => Ok(()),
+    }
+}
