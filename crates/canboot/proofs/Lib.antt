@@ -12,5 +12,4 @@ pub mod Calls
 pub mod Steps
 pub mod Sendings
 pub mod Going
-pub mod Filters
 pub mod JournalNames

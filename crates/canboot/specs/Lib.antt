@@ -13,6 +13,4 @@ pub mod Heard
 pub mod Operated
 pub use Rattle.canboot_check.specs.Check
 pub mod JournalNames
-pub mod Words
-pub mod ToldLines
-pub mod NoticeWords
+pub mod Running

@@ -139,6 +139,8 @@ pub fn run_words<
                 heartbeat_ms,
                 seconds,
                 operator,
+                names,
+                events,
                 journal,
                 is_synced,
             },
@@ -154,11 +156,13 @@ pub fn run_words<
             };
             let paths = LivePaths {
                 network,
+                names,
                 operator,
                 journal: JournalPath {
                     path: journal,
                     is_synced,
                 },
+                events,
             };
             live_file(rt, paths, &bus, options, out, err, is_coloured)
         }
@@ -208,7 +212,7 @@ fn run_file<R: Files + AllocGlobal + Wait + Threads + Send + Sync, W: Write, E: 
         Ok(file) => file,
         Err(error) => return read_fault(err, error.kind()),
     };
-    if journal.is_some_and(|journal| is_same_file(file_at(rt, path), file_at(rt, journal))) {
+    if is_list(rt, path, journal) {
         return fault_line(err, MISUSED, "the file of the journal is the network list");
     }
     let mut journal = match make(rt, journal) {
@@ -241,6 +245,14 @@ fn is_same_file(here: Option<FileId>, there: Option<FileId>) -> bool
     match (here, there) {
         (Some(here), Some(there)) => here == there,
         _ => false,
+    }
+}
+
+/// Whether the file that is to be written is the network list itself, by the same path or by another.
+pub(crate) fn is_list<R: Files>(rt: &R, list: &str, written: Option<&str>) -> bool {
+    match written {
+        Some(written) => is_same_file(file_at(rt, list), file_at(rt, written)),
+        None => false,
     }
 }
 

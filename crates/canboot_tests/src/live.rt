@@ -199,7 +199,7 @@ impl<R: Wait + Drop> Read for Typing<R> {
 /// The writers of a bus, one for each of four workers and one for messages, what is heard of it, and who types.
 #[derive(Drop)]
 pub(crate) struct Bus<R: Wait + Drop> {
-    ends: LiveEnds<Answered<R>, Typing<R>, Devices<R>>,
+    ends: LiveEnds<Answered<R>, Typing<R>, Devices<R>, Vec<u8>>,
     messages: Outlet<Devices<R>>,
 }
 
@@ -292,6 +292,7 @@ pub(crate) fn bus_of<R: Wait + Clone + Drop>(
             typed,
             written,
             error_control,
+            events: None,
         },
         messages: Outlet::new(sent, Format::CanUtils),
     })

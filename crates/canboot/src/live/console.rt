@@ -15,17 +15,16 @@ ghost use Rattle.canboot.specs.Asking.{asked_of, asked_unless, is_start_of_all, 
 ghost use Rattle.cm_live.specs.declared.console.Command.TheVariants.{Start};
 
 use crate::live::ending::Ending;
-use crate::live::lines::{Bad, NoBootOf};
 use crate::live::register::LiveRegister;
-use crate::live::telling::say;
 use crate::live::watching::Watcher;
+use canboot_words::{Bad, NoBootOf, say};
 use cm_history::Call;
 use cm_journal::report_of;
 use cm_live::{BadLine, BusName, Command, TypedLine, read_command};
 use cm_netlist::Network;
 use cm_nmt::NodeId;
 use cm_register::RunName;
-use cm_watch::{Happening as Watched, Watch};
+use cm_watch::{Event, Happening as Watched, NoBoot, Watch};
 use std::io::Write;
 use std::sync::Wait;
 use std::time::Clock;
@@ -44,18 +43,6 @@ status                 the report so far
 help                   this
 quit, exit             end the run
 Numbers are decimal, or hexadecimal behind 0x.";
-
-/// Why a slave isn't booted though the operator asks for it.
-#[derive(Clone, Copy, Debug, PartialEq, Eq)]
-pub(crate) enum NoBoot {
-    NotListed,
-    /// The network is halted.
-    Halted,
-    /// An operator holds it.
-    Held,
-    /// It is booted already.
-    Booted,
-}
 
 /// Why the slave isn't booted though the operator asks for it; none where the watch is asked.
 fn no_boot(network: &Network, watch: &Watch, id: NodeId) -> Option<NoBoot>
@@ -130,6 +117,7 @@ impl<'w, 'a, 'n, R: Wait + Clock + Drop, K: RunName, B: BusName, M: LiveRegister
         match no_boot(self.network, &self.progress.watch, id) {
             Some(none) => {
                 let _ = say(err, &NoBootOf(id, none));
+                self.follow(&Event::NotBooted(id, none));
             }
             None => self.note(err, &Watched::Asked(id), now),
         }
@@ -212,6 +200,7 @@ impl<'w, 'a, 'n, R: Wait + Clock + Drop, K: RunName, B: BusName, M: LiveRegister
             Err(BadLine::Empty) => Ok(()),
             Err(bad) => {
                 let _ = say(err, &Bad(bad));
+                self.follow(&Event::BadLine);
                 Ok(())
             }
         }

@@ -1,14 +1,16 @@
 //! The files of a live run.
 
-ghost use Rattle.std.specs.Prelude.{◌≡◌, ◌≤◌, ◌⊎◌, IfOk, vec_len};
+ghost use Rattle.std.specs.Prelude.{◌≡◌, ◌≤◌, ◌⊎◌, IfErr, IfOk, vec_len};
 ghost use Rattle.canboot.specs.Program.{channel_closing, channel_opening, format_of};
 
 use crate::live::journal_file::make_journal;
-use crate::live::operator_input::open_operator;
+use crate::live::operator_input::{OperatorInput, open_operator};
 use crate::live::{LiveEnds, LiveOptions, live_text};
-use crate::program::write_fault;
-use canboot_check::{CheckFault, FAILED, LONGEST_LIST, fault_line, read_fault, read_list, refuse};
-use canboot_words::{BusPaths, ShownLines};
+use crate::program::{is_list, write_fault};
+use canboot_check::{
+    CheckFault, FAILED, LONGEST_LIST, MISUSED, REFUSED, fault_line, read_fault, read_list, refuse,
+};
+use canboot_words::{BusPaths, Names, NamesFault, ShownLines, read_names};
 use cm_live::{Format, Outlet};
 use cm_text::{InputFault, read_input};
 use std::alloc::Global;
@@ -90,9 +92,13 @@ pub(crate) struct JournalPath<'a> {
 pub(crate) struct LivePaths<'a> {
     /// The network list.
     pub(crate) network: &'a str,
+    /// The names of nodes, if there are some.
+    pub(crate) names: Option<&'a str>,
     /// The FIFO in which the operator's lines come; none: standard input.
     pub(crate) operator: Option<&'a str>,
     pub(crate) journal: JournalPath<'a>,
+    /// To what each thing that is told is written, if it is.
+    pub(crate) events: Option<&'a str>,
 }
 
 /// The fault of an operator's file that can't be opened, or is no FIFO.
@@ -119,9 +125,162 @@ fn read_file<R: Files + AllocGlobal>(rt: &R, path: &str) -> Result<Vec<u8>, Chec
     }
 }
 
-/// `canboot live`, over the files of these paths. The list is read first; where it has no fault the bus is opened, and then
-/// the journal's file is made, if there is one, before a byte goes to the bus. Each line of the run on `err` has its time, and words
-/// in colour where that is asked for.
+/// The names of the file of this path; none without a path.
+fn read_names_file<R: Files + AllocGlobal, E: Write>(
+    rt: &R,
+    path: Option<&str>,
+    err: &mut E,
+) -> Result<Names, u8>
+    ensures { IfErr result (λ status. (status ≡ 1) ⊎ (status ≡ 3)) }
+{
+    let Some(path) = path else {
+        return Ok(Names::new(rt.alloc()));
+    };
+    let text = match read_file(rt, path) {
+        Ok(text) => text,
+        Err(fault) => return Err(refuse(err, fault)),
+    };
+    match read_names(rt.alloc(), text.as_slice()) {
+        Ok(names) => Ok(names),
+        Err(NamesFault::OutOfMemory) => Err(fault_line(err, FAILED, "out of memory")),
+        Err(NamesFault::NotToml) => Err(fault_line(err, REFUSED, "names: not TOML")),
+        Err(NamesFault::BadNode) => Err(fault_line(err, REFUSED, "names: bad node-ID")),
+        Err(NamesFault::BadName) => Err(fault_line(err, REFUSED, "names: bad name")),
+    }
+}
+
+/// What is wrong with the paths to which is written, if something is: none is the network list itself.
+fn wrong_path<R: Files>(rt: &R, paths: &LivePaths<'_>) -> Option<&'static str> {
+    if is_list(rt, paths.network, paths.events) {
+        Some("the file of the events is the network list")
+    } else {
+        None
+    }
+}
+
+/// Opens what events are written to, if they are: it is made where it isn't there, and what it has stays. A FIFO is opened both ways,
+/// so that nobody needs to read it.
+fn open_events<R: Files<File = File>>(rt: &R, path: Option<&str>) -> io::Result<Option<File>> {
+    let Some(path) = path else {
+        return Ok(None);
+    };
+    let file = OpenOptions::new()
+        .read(true)
+        .append(true)
+        .create(true)
+        .open(rt, path)?;
+    Ok(Some(file))
+}
+
+/// What a live run reads and writes, opened.
+#[derive(Drop)]
+struct OpenEnds {
+    ends: LiveEnds<File, OperatorInput, BufWriter<File>, File>,
+    messages: Outlet<BufWriter<File>>,
+    /// The bus itself.
+    sent: File,
+}
+
+/// Opens what a live run reads and writes, but for its journal. The answer is else the exit status.
+fn open_ends<R: Files<File = File> + Input<Reader = StdinLock<'static>> + AllocGlobal, E: Write>(
+    rt: &R,
+    paths: &LivePaths<'_>,
+    bus: &BusPaths<'_>,
+    options: &LiveOptions,
+    err: &mut E,
+) -> Result<OpenEnds, u8>
+    requires workers { (1 ≤ options.now.workers) × (options.now.workers ≤ 16) }
+    ensures { IfErr result (λ status. status ≡ 3) }
+{
+    let typed = match open_operator(rt, paths.operator) {
+        Ok(typed) => typed,
+        Err(error) => return Err(operator_fault(err, error.kind())),
+    };
+    let (received, sent) = match open_bus(rt, bus) {
+        Ok(opened) => opened,
+        Err(error) => return Err(read_fault(err, error.kind())),
+    };
+    // One for each worker, one for error control, and one for the NMT messages.
+    let mut written = match writers_to(rt.alloc(), &sent, options.workers + 2) {
+        Ok(writers) => writers,
+        Err(error) => return Err(write_fault(err, error.kind())),
+    };
+    let (Some(writer), Some(error_control)) = (written.pop(), written.pop()) else {
+        return Err(fault_line(err, FAILED, "out of memory"));
+    };
+    let events = match open_events(rt, paths.events) {
+        Ok(events) => events,
+        Err(error) => return Err(write_fault(err, error.kind())),
+    };
+    Ok(OpenEnds {
+        ends: LiveEnds {
+            received,
+            typed,
+            written,
+            error_control,
+            events,
+        },
+        messages: Outlet::new(writer, options.format),
+        sent,
+    })
+}
+
+/// Runs over what was opened, and its journal's file, which is made first. Each line of the run on `err` has its time, and words in
+/// colour and with names where these are asked for.
+fn live_over<
+    R: Files<File = File>
+        + Clock
+        + AllocGlobal
+        + Wait
+        + Threads
+        + Clone
+        + Send
+        + Sync
+        + Drop
+        + 'static,
+    O: Write,
+    E: Write,
+>(
+    rt: &R,
+    text: &[u8],
+    journal: JournalPath<'_>,
+    options: LiveOptions,
+    opened: OpenEnds,
+    out: &mut O,
+    shown: &mut ShownLines<'_, R, E>,
+) -> u8
+    requires workers { (1 ≤ options.workers) × (options.workers ≤ 16) }
+    ensures statuses { (result ≡ 0) ⊎ ((result ≡ 1) ⊎ (result ≡ 3)) }
+{
+    let OpenEnds {
+        ends,
+        messages,
+        mut sent,
+    } = opened;
+    let mut messages = Some(messages);
+    let mut journal = match make_journal(rt, journal.path, journal.is_synced, shown) {
+        Ok(output) => output,
+        Err(error) => return write_fault(shown, error.kind()),
+    };
+    let _ = sent.write_all(channel_opening(options.format));
+    let mut list = text;
+    let status = live_text(
+        rt,
+        rt.alloc(),
+        &mut list,
+        options,
+        ends,
+        out,
+        shown,
+        &mut messages,
+        &mut journal,
+    );
+    let _ = sent.write_all(channel_closing(options.format));
+    status
+}
+
+/// `canboot live`, over the files of these paths. The list is read first; where it has no fault, the names are read and the rest is opened, and then the journal's file is made, if there is one, before a byte goes to the
+/// bus. Where the start will be refused no journal is made.
 pub(crate) fn live_file<
     R: Files<File = File>
         + Input<Reader = StdinLock<'static>>
@@ -146,7 +305,7 @@ pub(crate) fn live_file<
     is_coloured: bool,
 ) -> u8
     requires workers { (1 ≤ options.workers) × (options.workers ≤ 16) }
-    ensures statuses { (result ≡ 0) ⊎ ((result ≡ 1) ⊎ (result ≡ 3)) }
+    ensures statuses { result ≤ 3 }
 {
     let text = match read_file(rt, paths.network) {
         Ok(text) => text,
@@ -156,49 +315,33 @@ pub(crate) fn live_file<
         Ok(network) => network.startup().is_master(),
         Err(fault) => return refuse(err, fault),
     };
-    let typed = match open_operator(rt, paths.operator) {
-        Ok(typed) => typed,
-        Err(error) => return operator_fault(err, error.kind()),
+    if let Some(wrong) = wrong_path(rt, &paths) {
+        return fault_line(err, MISUSED, wrong);
+    }
+    let names = match read_names_file(rt, paths.names, err) {
+        Ok(names) => names,
+        Err(status) => return status,
     };
-    let (received, mut sent) = match open_bus(rt, bus) {
-        Ok(files) => files,
-        Err(error) => return read_fault(err, error.kind()),
+    let opened = match open_ends(rt, &paths, bus, &options, err) {
+        Ok(opened) => opened,
+        Err(status) => return status,
     };
-    // One for each worker, one for error control, and one for the NMT messages.
-    let made = writers_to(rt.alloc(), &sent, options.workers + 2);
-    let mut written = match made {
-        Ok(writers) => writers,
-        Err(error) => return write_fault(err, error.kind()),
+    let journal = if is_master {
+        paths.journal
+    } else {
+        JournalPath {
+            path: None,
+            is_synced: false,
+        }
     };
-    let (Some(writer), Some(error_control)) = (written.pop(), written.pop()) else {
-        return fault_line(err, FAILED, "out of memory");
-    };
-    let mut messages = Some(Outlet::new(writer, options.format));
-    // Where the start will be refused, nothing is written.
-    let path = if is_master { paths.journal.path } else { None };
-    let mut shown = ShownLines::new(rt, rt.alloc(), err, is_coloured);
-    let mut journal = match make_journal(rt, path, paths.journal.is_synced, &mut shown) {
-        Ok(output) => output,
-        Err(error) => return write_fault(&mut shown, error.kind()),
-    };
-    let ends = LiveEnds {
-        received,
-        typed,
-        written,
-        error_control,
-    };
-    let _ = sent.write_all(channel_opening(options.format));
-    let status = live_text(
+    let mut shown = ShownLines::new(rt, rt.alloc(), err, is_coloured, Some(&names));
+    live_over(
         rt,
-        rt.alloc(),
-        &mut text.as_slice(),
+        text.as_slice(),
+        journal,
         options,
-        ends,
+        opened,
         out,
         &mut shown,
-        &mut messages,
-        &mut journal,
-    );
-    let _ = sent.write_all(channel_closing(options.format));
-    status
+    )
 }

@@ -6,16 +6,17 @@ ghost use Rattle.cm_history.specs.OrderFrames.{frames_of};
 ghost use Rattle.cm_netlist.specs.Network.{listing};
 ghost use Rattle.cm_watch.specs.Echoes.{behind_sent_all, count_at};
 ghost use Rattle.cm_watch.specs.Notices.{left_out_by, notice_by};
-ghost use Rattle.canboot.specs.NoticeWords.{notice_line};
+ghost use Rattle.canboot_words.specs.NoticeWords.{notice_line};
 
-use crate::live::notices::say_notice;
 use crate::live::register::LiveRegister;
 use crate::live::watching::Watcher;
+use canboot_words::say_notice;
 use cm_can::Remark;
 use cm_history::Entry;
 use cm_live::BusName;
 use cm_register::RunName;
 use cm_sequential::frames;
+use cm_watch::{Event, Notice};
 use std::io::{self, Write};
 use std::sync::Wait;
 use std::time::Clock;
@@ -42,6 +43,20 @@ impl<'w, 'a, 'n, R: Wait + Clock + Drop, K: RunName, B: BusName, M: LiveRegister
         self.notices.send(sent.as_slice());
     }
 
+    /// Tells other programs what is told of what the bus says, if something is.
+    fn follow_notice(&mut self, notice: &Option<Notice>)
+        ensures progress { self.new.progress ≡ self.old.progress }
+        ensures network { self.new.network ≡ self.old.network }
+        ensures calls { self.new.operator ≡ self.old.operator }
+    {
+        if let Some(notice) = notice {
+            self.follow(&Event::Notice {
+                network: self.network,
+                notice,
+            });
+        }
+    }
+
     /// The bus says this, which is told where it is to be.
     pub(crate) fn tell_remark<E: Write>(
         &mut self,
@@ -56,6 +71,7 @@ impl<'w, 'a, 'n, R: Wait + Clock + Drop, K: RunName, B: BusName, M: LiveRegister
         ensures network { self.new.network ≡ self.old.network }
     {
         let notice = self.notices.hear(self.network, now, remark);
+        self.follow_notice(&notice);
         say_notice(err, self.network, notice)
     }
 
@@ -68,6 +84,7 @@ impl<'w, 'a, 'n, R: Wait + Clock + Drop, K: RunName, B: BusName, M: LiveRegister
         ensures network { self.new.network ≡ self.old.network }
     {
         let notice = self.notices.turn(now);
+        self.follow_notice(&notice);
         say_notice(err, self.network, notice)
     }
 }

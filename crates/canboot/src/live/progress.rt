@@ -13,7 +13,6 @@ ghost use Rattle.cm_watch.specs.declared.happening.Happening.TheVariants.{Called
 ghost use Rattle.cm_watch.specs.declared.happening.Moment.TheVariants.{Happened};
 ghost use Rattle.cm_watch.specs.declared.settings.Settings.{Settings as WatchSettings};
 
-use crate::live::telling::{given_up, say};
 use cm_history::Entry;
 use cm_live::Heartbeats;
 use cm_netlist::Network;
@@ -21,7 +20,6 @@ use cm_nmt::NodeId;
 use cm_sequential::frames;
 use cm_watch::{Happening, Settings, Tried, Waiting, Watch, guard_of};
 use std::alloc::{AllocError, Global};
-use std::io::Write;
 
 /// What the watch keeps of a live run, what waits to be told in words, and what came of the boots of slaves.
 #[derive(Drop)]
@@ -43,24 +41,24 @@ impl Progress<Entry> {
         }
     }
 
-    /// What the watch is told beside entries, and what an operator is told with it.
-    pub(crate) fn note<E: Write>(
+    /// What the watch is told beside entries. The answer is the slave that is given up with it, if one is while the network isn't
+    /// halted.
+    pub(crate) fn note(
         &mut self,
         network: &Network,
-        err: &mut E,
         happening: &Happening,
         now: u64,
-    )
+    ) -> Option<NodeId>
         requires time { now < 2 ^ 63 }
         requires other { may_change_boots (Happened happening.now) ≡ false }
         ensures { (s : WatchSettings) (past : Past) → Follows self.old network.now s past
             → Follows self.new network.now s ((now, Happened happening.now) ∷ past) }
     {
         let told = self.watch.take(network, now, happening);
-        if let Some(id) = told.given_up {
-            if !self.watch.phase().is_halted() {
-                let _ = say(err, &given_up(&self.tried, network, id));
-            }
+        if self.watch.phase().is_halted() {
+            None
+        } else {
+            told.given_up
         }
     }
 

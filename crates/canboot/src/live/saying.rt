@@ -4,16 +4,14 @@ ghost use Rattle.std.specs.Prelude.{◌≡◌, IfSome};
 ghost use Rattle.cm_watch.specs.Pasts.{Past};
 ghost use Rattle.cm_watch.specs.declared.settings.Settings.{Settings as WatchSettings};
 ghost use Rattle.canboot.specs.Going.{Follows};
-ghost use Rattle.canboot.specs.ToldLines.{AreRunningOn};
+ghost use Rattle.canboot.specs.Running.{AreRunningOn};
 
-use crate::live::lines::RunEnds;
-use crate::live::nodes::{Nodes, running_by};
 use crate::live::register::LiveRegister;
-use crate::live::telling::{say, tell_entry, tell_told};
 use crate::live::watching::{MOST_TAKEN, Watcher, is_set};
-use crate::live::words::EntryWords;
+use canboot_words::{EntryWords, Nodes, RunEnds, running_by, say, tell_entry, tell_told};
 use cm_live::{BusName, Happening};
 use cm_register::RunName;
+use cm_watch::Event;
 use crossbeam_channel::Receiver;
 use std::io::Write;
 use std::sync::Wait;
@@ -68,7 +66,27 @@ impl<'w, 'a, 'n, R: Wait + Clock + Drop, K: RunName, B: BusName, M: LiveRegister
             None
         };
         let _ = tell_told(err, &running, &untold.value, &untold.told);
+        self.follow_told(&untold, is_handed, &running);
         true
+    }
+
+    /// Tells once what can't be written: the journal, the events.
+    fn tell_unwritten<E: Write>(&mut self, err: &mut E)
+        ensures progress { self.new.progress ≡ self.old.progress }
+        ensures network { self.new.network ≡ self.old.network }
+        ensures calls { self.new.operator ≡ self.old.operator }
+    {
+        if is_set(&self.setting.unrecorded) && !self.is_unrecorded_told {
+            self.is_unrecorded_told = true;
+            let _ = say(err, &"journal: write failed; what follows isn't recorded");
+            self.follow(&Event::JournalFailed);
+        }
+        if self.events.take_cut() {
+            let _ = say(
+                err,
+                &"events: write failed; what follows isn't written there",
+            );
+        }
     }
 
     /// Tells what is to be told by now.
@@ -84,10 +102,7 @@ impl<'w, 'a, 'n, R: Wait + Clock + Drop, K: RunName, B: BusName, M: LiveRegister
                 break;
             }
         }
-        if is_set(&self.setting.unrecorded) && !self.is_unrecorded_told {
-            self.is_unrecorded_told = true;
-            let _ = say(err, &"journal: write failed; what follows isn't recorded");
-        }
+        self.tell_unwritten(err);
     }
 
     /// Tells what was recorded by now and wasn't told yet, at the end of the run, and which nodes run on.
@@ -108,5 +123,6 @@ impl<'w, 'a, 'n, R: Wait + Clock + Drop, K: RunName, B: BusName, M: LiveRegister
         self.tell(err, true);
         let running = self.running();
         let _ = say(err, &RunEnds(&running));
+        self.follow(&Event::RunEnds(Nodes::as_list(&running)));
     }
 }

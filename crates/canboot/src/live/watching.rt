@@ -1,34 +1,29 @@
 //! How a live run goes on: what happens is told to the watch, and the steps that it gives are made.
 
-ghost use Rattle.std.specs.Prelude.{◌≡◌, ℕ, ◌<◌, ◌^◌, ◌++◌, ◌∷◌, [], false, IfOk};
+ghost use Rattle.std.specs.Prelude.{◌≡◌, ◌<◌, ◌^◌, ◌++◌, ◌∷◌, [], false, IfOk};
 ghost use Rattle.cm_netlist.specs.Network.{Network as NetworkList};
 ghost use Rattle.cm_live.specs.Console.{IsOfWatch};
 ghost use Rattle.cm_watch.specs.Guarding.{heard_at};
 ghost use Rattle.cm_watch.specs.Pasts.{Past};
-ghost use Rattle.cm_watch.specs.Steps.{given, steps_at};
-ghost use Rattle.cm_watch.specs.Tried.{Tries, may_change_boots};
+ghost use Rattle.cm_watch.specs.Tried.{may_change_boots};
 ghost use Rattle.cm_watch.specs.declared.happening.Happening.TheVariants.{Ended};
-ghost use Rattle.cm_watch.specs.declared.happening.Moment.TheVariants.{Gave, Happened};
+ghost use Rattle.cm_watch.specs.declared.happening.Moment.TheVariants.{Happened};
 ghost use Rattle.cm_watch.specs.declared.settings.Settings.{Settings as WatchSettings};
-ghost use Rattle.canboot.specs.Ending.{is_ended_by};
 ghost use Rattle.canboot.specs.Going.{Follows, GoesOn, HasTaken, HasToldEntries, ends_behind};
-ghost use Rattle.canboot.specs.Steps.{HasMade, calls_made};
+ghost use Rattle.canboot.specs.Steps.{calls_made};
 
-use crate::live::ending::{Ending, can_go_on, is_ended_by};
-use crate::live::lines::{LeftOut, NoFrames, TimeOver};
-use crate::live::nodes::open_nodes;
+use crate::live::ending::{Ending, can_go_on};
+use crate::live::events::Events;
 use crate::live::operator_seat::OperatorSeat;
 use crate::live::progress::{Progress, note_heartbeats};
 use crate::live::register::LiveRegister;
 use crate::live::setting::Setting;
-use crate::live::steps::{call_of, jobs_of};
-use crate::live::telling::say;
 use cm_history::{Call, Entry};
 use cm_live::{BusName, Happening, Outlet, TypedLine};
 use cm_netlist::Network;
 use cm_nmt::NodeId;
 use cm_register::{CallFault, RunName};
-use cm_watch::{Happening as Watched, Notices, Pace, Settings, Step};
+use cm_watch::{Happening as Watched, Notices, Pace, Settings};
 use crossbeam_channel::{Receiver, Sender};
 use std::io::Write;
 use std::sync::Wait;
@@ -59,9 +54,10 @@ pub(crate) struct Watcher<
     /// The lines that the operator types.
     pub(crate) typed: Receiver<TypedLine<B>>,
     /// The slaves that each worker is to boot.
-    jobs: Vec<Sender<NodeId>>,
+    pub(crate) jobs: Vec<Sender<NodeId>>,
     pub(crate) progress: Progress<Entry>,
     pub(crate) notices: Notices,
+    pub(crate) events: Events,
     pace: Pace,
     /// It was told that a line of the journal couldn't be written.
     pub(crate) is_unrecorded_told: bool,
@@ -98,6 +94,7 @@ impl<'w, 'a, 'n, R: Wait + Clock + Drop, K: RunName, B: BusName, M: LiveRegister
         operator: OperatorSeat<K, B>,
         typed: Receiver<TypedLine<B>>,
         jobs: Vec<Sender<NodeId>>,
+        events: Events,
     ) -> Watcher<'w, 'a, 'n, R, K, B, M>
         ensures operator { result.operator ≡ operator }
         ensures network { result.network ≡ setting.now.network }
@@ -117,6 +114,7 @@ impl<'w, 'a, 'n, R: Wait + Clock + Drop, K: RunName, B: BusName, M: LiveRegister
             jobs,
             progress: Progress::new(setting.alloc, settings),
             notices: Notices::new(),
+            events,
             pace: Pace::new(),
             is_unrecorded_told: false,
         }
@@ -157,7 +155,9 @@ impl<'w, 'a, 'n, R: Wait + Clock + Drop, K: RunName, B: BusName, M: LiveRegister
         ensures calls { self.new.operator ≡ self.old.operator }
         ensures network { self.new.network ≡ self.old.network }
     {
-        self.progress.note(self.network, err, happening, now);
+        if let Some(id) = self.progress.note(self.network, happening, now) {
+            self.tell_given_up(err, id);
+        }
     }
 
     /// The entries that come next in the history are told to the watch, and wait to be told in words.
@@ -259,9 +259,7 @@ impl<'w, 'a, 'n, R: Wait + Clock + Drop, K: RunName, B: BusName, M: LiveRegister
             }
             Happening::Typed => self.obey_next(err, now)?,
             Happening::NoMoreTyped => self.end_behind(err, now),
-            Happening::NoFrames => {
-                let _ = say(err, &NoFrames(self.setting.options.format));
-            }
+            Happening::NoFrames => self.tell_no_frames(err),
             Happening::NoMoreHeard => return Err(Ending::NotHeard),
         }
         Ok(())
@@ -287,58 +285,6 @@ impl<'w, 'a, 'n, R: Wait + Clock + Drop, K: RunName, B: BusName, M: LiveRegister
             next = happenings.try_recv(self.setting.rt).ok();
         }
         Ok(())
-    }
-
-    /// Makes a step: its call, if it has one.
-    fn make<E: Write>(&mut self, err: &mut E, step: &Step) -> Result<(), Ending>
-        ensures made { IfOk result (λ _. HasMade (step.now ∷ []) self.old.operator self.new.operator) }
-        ensures tries { (now : ℕ) (past : Past) → Tries self.old.progress.tried past
-            → Tries self.new.progress.tried ((now, Gave step.now) ∷ past) }
-        ensures waiting { self.new.progress.waiting ≡ self.old.progress.waiting }
-        ensures watch { self.new.progress.watch ≡ self.old.progress.watch }
-        ensures network { self.new.network ≡ self.old.network }
-    {
-        self.progress.tried.give(step);
-        match step {
-            Step::Boot(id) => {
-                let listed = self.network.listed_ids();
-                if let Some(jobs) = jobs_of(listed.as_slice(), self.jobs.as_slice(), *id) {
-                    let _ = jobs.send(self.setting.rt, *id);
-                }
-            }
-            Step::LeftOut(id, count) => {
-                let _ = say(err, &LeftOut::new(*id, *count));
-            }
-            Step::TimeOver(_) => {
-                let slaves = open_nodes(self.network, &self.progress.watch);
-                let _ = say(err, &TimeOver(slaves));
-            }
-            _ => {}
-        }
-        match call_of(step) {
-            Some(call) => self.call(call),
-            None => Ok(()),
-        }
-    }
-
-    /// Makes the steps that the watch gives now. Whether the run ends with them.
-    fn make_steps<E: Write>(&mut self, err: &mut E, now: u64) -> Result<bool, Ending>
-        requires { now < 2 ^ 63 }
-        ensures made { (s : WatchSettings) (past : Past) → Follows self.old.progress self.old.network.now s past
-            → IfOk result (λ _. HasMade (steps_at self.old.network.now s past now) self.old.operator self.new.operator) }
-        ensures given { (s : WatchSettings) (past : Past) → Follows self.old.progress self.old.network.now s past
-            → IfOk result (λ _. Follows self.new.progress self.old.network.now s
-            (given now (steps_at self.old.network.now s past now) past)) }
-        ensures ended { (s : WatchSettings) (past : Past) → Follows self.old.progress self.old.network.now s past
-            → IfOk result (λ ended. ended ≡ is_ended_by (steps_at self.old.network.now s past now)) }
-        ensures network { self.new.network ≡ self.old.network }
-    {
-        let alloc = self.setting.alloc;
-        let steps = self.progress.watch.turn(alloc, self.network, now)?;
-        for step in steps.as_slice() {
-            self.make(err, step)?;
-        }
-        Ok(is_ended_by(steps.as_slice()))
     }
 
     /// One turn: takes what has happened, sends what is to be sent for error control, and looks at the time once that was all that

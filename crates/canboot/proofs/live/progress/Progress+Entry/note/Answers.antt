@@ -2,14 +2,10 @@ use Rattle.std.proofs.Common.{refl}
 use Rattle.canboot.proofs.Going.{noted}
 use Rattle.canboot.proofs.live.progress.Progress+Entry.note.Goals as goal
 
-pub returns-then-not-is_halted : goal.returns-then-not-is_halted
-returns-then-not-is_halted g c = λ s past f.
+pub returns-then-is_halted : goal.returns-then-is_halted
+returns-then-is_halted c = λ s past f.
     noted c.args.self.now _ c.args.network.now s past c.args.now _ c.requires.other refl refl f (c.take-told.ensures.taken s past f.watches)
 
-pub returns-else-not-is_halted : goal.returns-else-not-is_halted
-returns-else-not-is_halted g c = λ s past f.
-    noted c.args.self.now _ c.args.network.now s past c.args.now _ c.requires.other refl refl f (c.take-told.ensures.taken s past f.watches)
-
-pub returns-in_default : goal.returns-in_default
-returns-in_default g c = λ s past f.
+pub returns-else-is_halted : goal.returns-else-is_halted
+returns-else-is_halted c = λ s past f.
     noted c.args.self.now _ c.args.network.now s past c.args.now _ c.requires.other refl refl f (c.take-told.ensures.taken s past f.watches)

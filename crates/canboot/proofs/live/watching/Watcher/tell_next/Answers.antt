@@ -1,11 +1,16 @@
-use Rattle.canboot.specs.Going.{counts_in, placed_in}
+use Rattle.std.proofs.Common.{sym, subst}
+use Rattle.cm_history.specs.declared.call.Entry.{Entry}
+use Rattle.canboot.specs.Going.{Follows, counts_in, placed_in}
+use Rattle.canboot.specs.declared.live.progress.Progress.{Progress}
 use Rattle.canboot.proofs.live.watching.Watcher.tell_next.Goals as goal
 
 pub returns-clause-follows : goal.returns-clause-follows
-returns-clause-follows g c = λ s past f. record {
-  watches = f.watches;
-  tries = f.tries;
-  arrived = f.arrived;
-  said = _;
-  tells = c.in-Some.ensures.tells f.arrived (placed_in past) f.said (counts_in c.args.self.now.network.now past) f.tells;
-}
+returns-clause-follows g c = λ s past f.
+    subst (λ (p : Progress Entry). Follows p c.args.self.now.network.now s past) (sym c.follow_told.ensures.progress)
+    (record {
+      watches = f.watches;
+      tries = f.tries;
+      arrived = f.arrived;
+      said = _;
+      tells = c.in-Some.ensures.tells f.arrived (placed_in past) f.said (counts_in c.args.self.now.network.now past) f.tells;
+    })
