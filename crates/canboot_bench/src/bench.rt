@@ -16,6 +16,9 @@
 //!   microseconds for each answer; beside it the questions of the worker that asked most, the time that an
 //!   answer took, and how many times the product of the two the boot took, in hundredths. Without MICROS:
 //!   the best of fifteen boots over slaves that answer at once, threads included.
+//! - `versions N`: nanoseconds to take a batch of 1, 8 and 64 entries of a register, and to tell and publish an entry;
+//!   and those of one call of N, alone, beside a publisher, and beside one and a reader. Each is the median of
+//!   fifteen rounds, made in turn; a round has a register of its own, of at most 1,048,575 calls.
 
 mod boot;
 mod caller;
@@ -27,19 +30,21 @@ mod opening;
 mod read;
 mod tape;
 mod timing;
+mod versions;
 
 use std::rt::Clock;
 use std::sync::Wait;
 use std::thread::Threads;
 
 /// A short run of each measure, which says what it made and no figures.
-pub fn run_briefly<R: Clock + Print + AllocGlobal + Threads + Wait + Send + Sync>(
+pub fn run_briefly<R: Clock + Print + AllocGlobal + Threads + Wait + Drop + Copy + Send + Sync>(
     rt: &R,
 ) -> Option<()> {
     calls::run_briefly(rt)?;
     lock::run_briefly(rt)?;
     read::run_briefly(rt)?;
-    boot::run_briefly(rt)
+    boot::run_briefly(rt)?;
+    versions::run_briefly(rt)
 }
 
 /// The number at this place; 0 where the words end before it, and `None` where the word is no number.
@@ -51,7 +56,7 @@ fn number_at(words: &[String], place: usize) -> Option<u32> {
 }
 
 /// Measures what the first word says.
-pub fn measure<R: Clock + Print + AllocGlobal + Threads + Wait + Send + Sync>(
+pub fn measure<R: Clock + Print + AllocGlobal + Threads + Wait + Drop + Copy + Send + Sync>(
     rt: &R,
     words: &[String],
 ) -> Option<()> {
@@ -62,6 +67,7 @@ pub fn measure<R: Clock + Print + AllocGlobal + Threads + Wait + Send + Sync>(
         "lock" => lock::measure(rt, first, u16::try_from(second).ok()?),
         "read" => read::measure(rt, first, second as usize),
         "boot" => boot::measure(rt, u16::try_from(first).ok()?, second),
+        "versions" => versions::measure(rt, first),
         _ => None,
     }
 }

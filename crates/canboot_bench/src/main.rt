@@ -4,12 +4,13 @@
 //!   compares what it prints.
 //! - `canboot_bench memory`: the calls of the word on standard input, which `tests/sweep` refuses memory to.
 //!   Where it was refused for these words, that is said, and nothing called.
-//! - `canboot_bench calls|lock|read|boot N..`: a benchmark, which a script of `bench/` runs.
+//! - `canboot_bench calls|lock|read|boot|versions N..`: a benchmark, which a script of `bench/` runs.
 //!
 //! The status is 1 where an answer isn't allowed, or words say nothing of these.
 #![tactic(auto)]
 
 mod bench;
+mod closing;
 mod memory;
 
 use std::alloc::AllocError;
@@ -28,7 +29,7 @@ fn words<R: Env + AllocGlobal>(rt: &R) -> io::Result<Vec<String>> {
 }
 
 /// Does what the words say. `None` where something isn't as it has to be.
-fn run<R: Input + Clock + Print + AllocGlobal + Wait + Threads + Send + Sync>(
+fn run<R: Input + Clock + Print + AllocGlobal + Wait + Threads + Drop + Copy + Send + Sync>(
     rt: &R,
     words: &[String],
 ) -> Option<()> {

@@ -26,7 +26,8 @@ fn slave(assignment: u32) -> SlaveEntry {
 fn network(rt: &impl Abort, alloc: Global, slaves: &[(u8, u32)]) -> Network {
     let mut network = Network::new(alloc, node(rt, 1), Startup(1), 0);
     for (number, assignment) in slaves {
-        assert_eq!(rt; network.add(node(rt, *number), slave(*assignment)), Ok(()));
+        let added = network.add(node(rt, *number), slave(*assignment));
+        sure(rt, added == Ok(()));
     }
     network
 }
@@ -76,7 +77,7 @@ fn take(rt: &impl Abort, compact: &mut CompactReplay, entries: &[Entry])
 
 /// Asserts with which code, if with one, a transfer is aborted for this refusal.
 fn has_code(rt: &impl Abort, refusal: u8, code: Option<u32>) {
-    assert_eq!(rt; abort_code(refusal), code, "{refusal}");
+    sure(rt, abort_code(refusal) == code);
 }
 
 #[test]
@@ -94,7 +95,7 @@ fn two_refusals_have_an_abort_code(rt: HostRuntime) {
 fn begins(rt: &impl Abort, manager: &mut Manager, call: Call, begun: u64) {
     assert!(rt; manager.begun() < 1000);
     manager.apply(call);
-    assert_eq!(rt; manager.begun(), begun, "{call:?}");
+    sure(rt, manager.begun() == begun);
 }
 
 #[test]
@@ -206,7 +207,7 @@ fn a_call_is_answered_before_it_is_carried_out(rt: HostRuntime) {
 
 /// Asserts which frames these orders send in the network.
 fn sends(rt: &impl Abort, net: &Network, orders: Orders, sent: &[Frame]) {
-    assert_eq!(rt; frames(net, orders).as_slice(), sent);
+    sure(rt, frames(net, orders).as_slice() == sent);
 }
 
 #[test]
@@ -237,13 +238,29 @@ fn is_replayed<R: Abort + AllocGlobal>(
     entries: &[Entry],
     fault: Option<usize>,
 ) {
-    assert_eq!(rt; replay_to_fault(net, entries).err(), fault);
-    assert_eq!(rt; replay(net, entries).is_some(), fault.is_none());
-    let mut compact = CompactReplay::new(rt.alloc(), net);
-    let taken = compact.take_all(entries);
-    let cause = Cause::WrongReply;
-    let wrong = fault.map(|place| Untaken { place, cause });
-    assert_eq!(rt; taken.err(), wrong);
+    sure(rt, replay_to_fault(net, entries).err() == fault);
+    sure(rt, replay(net, entries).is_some() == fault.is_none());
+    is_taken(rt, rt.alloc(), net, entries, fault);
+}
+
+/// Asserts the same of a compact replay.
+fn is_taken(
+    rt: &impl Abort,
+    alloc: Global,
+    net: &Network,
+    entries: &[Entry],
+    fault: Option<usize>,
+) {
+    let mut compact = CompactReplay::new(alloc, net);
+    let taken = compact.take_all(entries).err();
+    let wrong = match fault {
+        Some(place) => Some(Untaken {
+            place,
+            cause: Cause::WrongReply,
+        }),
+        None => None,
+    };
+    sure(rt, taken == wrong);
 }
 
 #[test]
@@ -256,7 +273,28 @@ fn histories_are_replayed_to_the_first_wrong_answer(rt: HostRuntime) {
     is_replayed(&rt, &net, &boot(&rt, 1, Status::Ok, Some(0)), Some(2));
     // the first of two
     is_replayed(&rt, &net, &boot(&rt, 2, Status::J, Some(2)), Some(1));
-    assert!(rt; replay(&net, &[]).is_some());
+    sure(&rt, replay(&net, &[]).is_some());
+}
+
+/// Asserts how many entries were taken, and the status of node 2.
+fn has_taken(rt: &impl Abort, compact: &CompactReplay, count: usize, status: Option<Status>) {
+    sure(rt, compact.count() == count);
+    sure(rt, compact.statuses()[2] == status);
+}
+
+/// Asserts that one session was begun, and that the last entry started node 2.
+fn has_started(rt: &impl Abort, compact: &CompactReplay) {
+    sure(rt, compact.manager().begun() == 1);
+    let last = compact.orders().last().copied();
+    sure(rt, last == Some(start_of(rt, Some(2))));
+}
+
+/// Asserts that the first entry wasn't taken: a place is counted from the first of those that were to be.
+fn took_none(rt: &impl Abort, taken: Result<(), Untaken>) {
+    match taken {
+        Ok(()) => sure(rt, false),
+        Err(untaken) => sure(rt, untaken.place == 0),
+    }
 }
 
 #[test]
@@ -266,17 +304,9 @@ fn entries_are_taken_in_parts(rt: HostRuntime) {
     let (first, others) = entries.split_at(1);
     let mut compact = CompactReplay::new(rt.alloc(), &net);
     take(&rt, &mut compact, first);
-    assert_eq!(rt; (compact.count(), compact.statuses()[2]), (1, None));
+    has_taken(&rt, &compact, 1, None);
     take(&rt, &mut compact, others);
-    assert_eq!(rt;
-        (compact.count(), compact.statuses()[2]),
-        (3, Some(Status::Ok))
-    );
-    assert_eq!(rt; compact.manager().begun(), 1);
-    let last = compact.orders().last().copied();
-    assert_eq!(rt; last, Some(start_of(&rt, Some(2))));
-    // a place is counted from the first of the entries that were to be taken
-    let again = compact.take_all(others);
-    let place = again.err().map(|untaken| untaken.place);
-    assert_eq!(rt; place, Some(0));
+    has_taken(&rt, &compact, 3, Some(Status::Ok));
+    has_started(&rt, &compact);
+    took_none(&rt, compact.take_all(others));
 }

@@ -72,6 +72,26 @@ fn show<K: HistoryName>(
     }
 }
 
+/// Makes a call of seat 1, and asserts that it is shown.
+fn show_one<K: HistoryName>(
+    rt: &impl Abort,
+    manager: &mut Manager,
+    writer: &mut HistoryWriter<K>,
+    own: NodeId,
+    call: Call,
+)
+    requires own { own ≡ K.net.own }
+    requires stands { Stands manager.old K.net (reverse writer.old) }
+    requires few { length writer.old < most_entries }
+    ensures stands { Stands manager.new K.net (reverse writer.new) }
+    ensures few { length writer.new ≡ length writer.old + 1 }
+{
+    match show(manager, writer, own, call) {
+        Ok(()) => {}
+        Err(_) => panic!(rt; "not shown"),
+    }
+}
+
 /// Asserts that one who knows the past sees so many entries, and the node in this state; gives what is
 /// seen.
 fn sees<K: HistoryName>(
@@ -86,6 +106,24 @@ fn sees<K: HistoryName>(
     sure(rt, look.past.len() == count);
     sure(rt, look.state == state);
     look.past
+}
+
+/// The same, where what is seen isn't wanted.
+fn looks<K: HistoryName>(
+    rt: &impl Abort,
+    reader: &HistoryReader<K>,
+    known: &Past<K>,
+    id: NodeId,
+    count: u64,
+    state: u8,
+) {
+    sees(rt, reader, known, id, count, state);
+}
+
+/// Asserts that one who came late sees three calls, slave 2 operational, and nothing of node 3.
+fn came_late<K: HistoryName>(rt: &impl Abort, late: &HistoryReader<K>, none: &Past<K>) {
+    looks(rt, late, none, node(rt, 2), 3, 5);
+    looks(rt, late, none, node(rt, 3), 3, 0);
 }
 
 /// Asserts that the first past has no entry and the second has one, of the same history.
@@ -113,21 +151,20 @@ fn grows<K: HistoryName, R: Abort>(
     let reader = writer.reader().ok().expect(rt, "a reader");
     let (own, slave) = (net.own_id(), node(rt, 2));
     let none = writer.past();
-    sees(rt, &reader, &none, own, 0, 127);
-    sees(rt, &reader, &none, slave, 0, 0);
+    looks(rt, &reader, &none, own, 0, 127);
+    looks(rt, &reader, &none, slave, 0, 0);
     let mut manager = Manager::new(net);
-    show(&mut manager, &mut writer, own, Call::StartNetwork)?;
+    show_one(rt, &mut manager, &mut writer, own, Call::StartNetwork);
     let one = sees(rt, &reader, &none, own, 1, 127);
     are_none_and_one(rt, &none, &one);
-    show(&mut manager, &mut writer, own, Call::Request(2, 4))?;
+    show_one(rt, &mut manager, &mut writer, own, Call::Request(2, 4));
     let two = sees(rt, &reader, &one, slave, 2, 4);
-    sees(rt, &reader, &one, own, 2, 127);
-    show(&mut manager, &mut writer, own, Call::Request(128, 5))?;
-    sees(rt, &reader, &two, slave, 3, 5);
-    sees(rt, &reader, &none, own, 3, 5);
+    looks(rt, &reader, &one, own, 2, 127);
+    show_one(rt, &mut manager, &mut writer, own, Call::Request(128, 5));
+    looks(rt, &reader, &two, slave, 3, 5);
+    looks(rt, &reader, &none, own, 3, 5);
     let late = writer.reader().ok().expect(rt, "a reader");
-    sees(rt, &late, &none, slave, 3, 5);
-    sees(rt, &late, &none, node(rt, 3), 3, 0);
+    came_late(rt, &late, &none);
     drop(writer);
     sure(rt, reader.look(&none, slave).is_none());
     sure(rt, late.look(&two, own).is_none());

@@ -33,6 +33,12 @@ impl Read for Lines {
     }
 }
 
+/// Whether the bus is broken, which it isn't.
+fn unbroken(rt: &impl Abort, alloc: Global) -> Arc<AtomicBool> {
+    let broken = Arc::new(alloc, AtomicBool::new(false));
+    broken.ok().expect(rt, "memory")
+}
+
 /// The port of this worker, and by what it gets frames.
 fn make_port<R: Wait + Clock + Clone + Drop + Abort>(
     rt: &R,
@@ -42,14 +48,13 @@ fn make_port<R: Wait + Clock + Clone + Drop + Abort>(
 ) -> (LivePort<R, Brand, Vec<u8>>, Sender<Received<Brand>>) {
     let channel = crossbeam_channel::unbounded(alloc);
     let (hears, heard) = channel.ok().expect(rt, "a channel");
-    let broken = Arc::new(alloc, AtomicBool::new(false));
     let port = LivePort {
         rt: rt.clone().ok().expect(rt, "memory"),
         worker,
         heard,
         listening: Arc::try_clone(listening).ok().expect(rt, "memory"),
         outlet: Outlet::new(Vec::new(alloc), Format::CanUtils),
-        broken: broken.ok().expect(rt, "memory"),
+        broken: unbroken(rt, alloc),
         deadline: None,
     };
     (port, hears)
@@ -121,6 +126,23 @@ fn listen_each<R: Wait + Clock + Drop + Abort>(
     }
 }
 
+/// Neither of two workers listens yet.
+fn listening_of(rt: &impl Abort, alloc: Global) -> Arc<Listening> {
+    let listening = Listening::new(alloc, 2).ok().expect(rt, "memory");
+    Arc::new(alloc, listening).ok().expect(rt, "memory")
+}
+
+/// By what the first worker gets frames, and the second.
+fn both(
+    rt: &impl Abort,
+    alloc: Global,
+    first: Sender<Received<Brand>>,
+    second: Sender<Received<Brand>>,
+) -> Vec<Sender<Received<Brand>>> {
+    let workers = vec![in alloc; first, second];
+    workers.ok().expect(rt, "memory")
+}
+
 /// What is received is given to the workers of nodes 2, 3 and 5, of which the first boots nodes 2 and 5: its port
 /// and that of the second.
 fn receive<R: Wait + Clock + Clone + Drop + Abort>(
@@ -129,19 +151,12 @@ fn receive<R: Wait + Clock + Clone + Drop + Abort>(
     asks: &[(usize, u8, Question)],
     left: &'static [u8],
 ) -> (LivePort<R, Brand, Vec<u8>>, LivePort<R, Brand, Vec<u8>>) {
-    let listening = Listening::new(alloc, 2).ok().expect(rt, "memory");
-    let listening = Arc::new(alloc, listening).ok().expect(rt, "memory");
+    let listening = listening_of(rt, alloc);
     let (mut first, to_first) = make_port(rt, alloc, &listening, 0);
     let (mut second, to_second) = make_port(rt, alloc, &listening, 1);
     listen_each(rt, &mut first, &mut second, asks);
-    let workers = vec![in alloc; to_first, to_second];
-    give(
-        rt,
-        alloc,
-        listening,
-        workers.ok().expect(rt, "memory"),
-        left,
-    );
+    let workers = both(rt, alloc, to_first, to_second);
+    give(rt, alloc, listening, workers, left);
     (first, second)
 }
 

@@ -6,9 +6,9 @@ ghost use Rattle.cm_register.specs.Naming.{Names};
 use crate::support::{close, is_made, named, network, open, sure};
 use cm_history::{Call, Entry, Reply};
 use cm_past::Past;
-use cm_register::{Opened, Register, RunName};
+use cm_register::{Opened, Register, RunName, Seat};
 use cm_simulated::SimWire;
-use cm_versions::{Next, Publisher, TellFault};
+use cm_versions::{Next, Publisher, TellFault, VersionReader};
 use std::alloc::Global;
 use std::marker::Brand;
 use std::process::Abort;
@@ -49,7 +49,43 @@ fn is_told_once<K: RunName, R: Wait + Abort + Drop>(
     sure(rt, publisher.told().len() == 1);
 }
 
+/// Starts the network by the first seat.
+fn start<K: RunName, R: Wait + Abort>(
+    rt: &R,
+    register: &Register<SimWire, K>,
+    seats: &mut [Seat<K>],
+) {
+    let seat = seats.first_mut().expect(rt, "a seat");
+    let started = register.call(rt, seat, Call::StartNetwork);
+    is_made(rt, started, 1, Reply::Started);
+}
+
+/// Asserts that a reader sees so many entries.
+fn sees<K: RunName>(rt: &impl Abort, reader: &mut VersionReader<K>, count: u64) {
+    sure(rt, reader.look().is_some());
+    sure(rt, reader.known().len() == count);
+}
+
 /// The entry of a start is published, and no other: a reader saw none before, and sees one then.
+fn publish_one<K: RunName, R: Wait + Abort + Drop + Copy>(
+    rt: &R,
+    alloc: Global,
+    register: &Register<SimWire, K>,
+    seats: &mut [Seat<K>],
+) {
+    let nothing = register.past(rt).first(0);
+    let publisher = Publisher::new(alloc, *rt, register.network(), nothing.again(), 1);
+    let mut publisher = publisher.ok().expect(rt, "a publisher");
+    let reader = publisher.reader(nothing.again());
+    let mut reader = reader.ok().expect(rt, "a reader");
+    start(rt, register, seats);
+    is_told_once(rt, alloc, register, &mut publisher, &nothing);
+    sees(rt, &mut reader, 0);
+    sure(rt, publisher.publish().is_ok());
+    sees(rt, &mut reader, 1);
+}
+
+/// The same, and the register closes with it.
 fn publishes_one<K: RunName, R: Wait + Abort + Drop + Copy>(
     rt: &R,
     alloc: Global,
@@ -57,27 +93,10 @@ fn publishes_one<K: RunName, R: Wait + Abort + Drop + Copy>(
 )
     requires { Names K.RunName opened }
 {
-    let net = opened.net;
     let (register, mut seats) = named::<K>(rt, opened);
-    let nothing = register.past(rt).first(0);
-    let publisher = Publisher::new(alloc, *rt, net, nothing.again(), 1);
-    let mut publisher = publisher.ok().expect(rt, "a publisher");
-    let mut reader = publisher
-        .reader(nothing.again())
-        .ok()
-        .expect(rt, "a reader");
-    let seat = seats.first_mut().expect(rt, "a seat");
-    is_made(
-        rt,
-        register.call(rt, seat, Call::StartNetwork),
-        1,
-        Reply::Started,
-    );
-    is_told_once(rt, alloc, &register, &mut publisher, &nothing);
-    sure(rt, reader.look().is_some() && reader.known().len() == 0);
-    sure(rt, publisher.publish().is_ok());
-    sure(rt, reader.look().is_some() && reader.known().len() == 1);
-    sure(rt, close(rt, register, seats).history.len() == 1);
+    publish_one(rt, alloc, &register, seats.as_mut_slice());
+    let closed = close(rt, register, seats);
+    sure(rt, closed.history.len() == 1);
 }
 
 #[test]

@@ -220,6 +220,22 @@ fn whole_report(rt: &impl Abort, alloc: Global) -> Vec<u8> {
     text
 }
 
+/// The report of all calls as JSON.
+fn whole_json(rt: &impl Abort, alloc: Global) -> Vec<u8> {
+    let mut text: Vec<u8> = Vec::new(alloc);
+    let front =
+        r#"{"phase":"booting","own":"preoperational","entries":601,"open":0,"frames":["8200""#;
+    sure(rt, text.extend_from_slice(front.as_bytes()).is_ok());
+    for _ in 0..CALLS {
+        sure(rt, text.extend_from_slice(b",\"0205\"").is_ok());
+    }
+    let slave = r#"{"id":5,"state":4,"booted":false,"session":0,"last":null,"held":false}"#;
+    sure(rt, text.extend_from_slice(b"],\"slaves\":[").is_ok());
+    sure(rt, text.extend_from_slice(slave.as_bytes()).is_ok());
+    sure(rt, text.extend_from_slice(b"]}\n").is_ok());
+    text
+}
+
 /// Asserts that the newest version is of all calls, by its report.
 fn is_whole<K: RunName>(
     rt: &impl Abort,
@@ -233,6 +249,21 @@ fn is_whole<K: RunName>(
     let written = reader.report(net, &mut text);
     sure(rt, written.is_some_and(|it| it.is_ok()));
     sure(rt, text.as_slice() == whole_report(rt, alloc).as_slice());
+}
+
+/// Asserts that the newest version is of all calls, by its report as JSON.
+fn is_whole_json<K: RunName>(
+    rt: &impl Abort,
+    alloc: Global,
+    net: &Network,
+    reader: &mut VersionReader<K>,
+)
+    requires { net.now ≡ K.net }
+{
+    let mut text: Vec<u8> = Vec::new(alloc);
+    let written = reader.json(net, &mut text);
+    sure(rt, written.is_some_and(|it| it.is_ok()));
+    sure(rt, text.as_slice() == whole_json(rt, alloc).as_slice());
 }
 
 /// Asserts that the register closes with a history of that report, which what was seen begins, early and last.
@@ -292,6 +323,7 @@ fn follow<K: RunName + Send + Sync, R: Wait + Threads + Abort + Drop + Copy + Se
         seats_now,
     );
     is_whole(rt, alloc, net, &mut reader);
+    is_whole_json(rt, alloc, net, &mut reader);
     closes(rt, alloc, net, register, seats, &early, &reader.known());
 }
 

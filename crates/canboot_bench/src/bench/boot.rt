@@ -5,12 +5,13 @@ ghost use Rattle.cm_register.specs.Naming.{Names};
 mod bus;
 
 use crate::bench::network::{SLAVES, full_network};
+use crate::closing::{Left, left_by};
 use bus::TimedBus;
 use cm_boot::Bus;
 use cm_history::Call;
 use cm_netlist::Network;
-use cm_register::{Opened, Register, RunName};
-use cm_run::{SimBus, SimSlave, SimWire, boot_all};
+use cm_register::{Opened, Register, RunName, Seat};
+use cm_run::{Booted, SimBus, SimSlave, SimWire, boot_all};
 use std::alloc::Global;
 use std::io::{self, Write};
 use std::marker::Brand;
@@ -41,6 +42,80 @@ struct Booting<B: Bus> {
     buses: Vec<B>,
 }
 
+/// Starts the network by the last seat, which is given; the workers' are left.
+fn start<R: Wait, K: RunName>(
+    rt: &R,
+    register: &Register<SimWire, K>,
+    seats: &mut Vec<Seat<K>>,
+) -> Option<Seat<K>> {
+    let mut operator = seats.pop()?;
+    let started = register.call(rt, &mut operator, Call::StartNetwork);
+    if started.is_ok() {
+        Some(operator)
+    } else {
+        None
+    }
+}
+
+/// Boots the network by the workers of these seats, and gives the nanoseconds that it took. `None` where the clock
+/// failed, and where not every slave was booted.
+fn boot_by<R: Clock + Threads + Wait + Send + Sync, K: RunName + Send + Sync, B: Bus + Send>(
+    rt: &R,
+    alloc: Global,
+    register: &Register<SimWire, K>,
+    seats: Vec<Seat<K>>,
+    buses: Vec<B>,
+) -> (Option<u128>, Option<Booted<B, K>>) {
+    let from = Instant::now(rt).ok();
+    let booted = boot_all(rt, alloc, register, seats, buses, ATTEMPTS).ok();
+    (nanos_since(rt, from), booted)
+}
+
+/// Nanoseconds since then. `None` where the clock fails, or had failed.
+fn nanos_since<R: Clock>(rt: &R, from: Option<Instant>) -> Option<u128> {
+    let time = from?.elapsed(rt).ok()?;
+    Some(time.as_nanos())
+}
+
+/// A boot that took so long, and all seats, the operator's behind the workers'.
+fn booting_of<K: RunName, B: Bus>(
+    nanos: u128,
+    booted: Booted<B, K>,
+    operator: Seat<K>,
+) -> Option<(Booting<B>, Vec<Seat<K>>)> {
+    let mut seats = booted.seats;
+    let buses = booted.buses;
+    if seats.push(operator).is_ok() {
+        Some((Booting { nanos, buses }, seats))
+    } else {
+        None
+    }
+}
+
+/// Starts the network by the last seat, and boots it by the others. All seats come back.
+fn start_and_boot<R: Clock + Threads + Wait + Send + Sync, K: RunName + Send + Sync, B: Bus + Send>(
+    rt: &R,
+    alloc: Global,
+    register: &Register<SimWire, K>,
+    mut seats: Vec<Seat<K>>,
+    buses: Vec<B>,
+) -> Option<(Booting<B>, Vec<Seat<K>>)> {
+    let operator = start(rt, register, &mut seats)?;
+    match boot_by(rt, alloc, register, seats, buses) {
+        (Some(nanos), Some(booted)) => booting_of(nanos, booted, operator),
+        _ => None,
+    }
+}
+
+/// Whether there are an entry of the start and two of each of so many slaves.
+fn has_all(left: Option<Left>, slaves: usize) -> bool {
+    let wanted = slaves.saturating_mul(2).saturating_add(1);
+    match left {
+        Some(left) => left.entries == wanted,
+        None => false,
+    }
+}
+
 /// One boot, with a register of its own. `None` where not every slave was booted, or the register
 /// didn't close with two calls of each.
 fn run_boot<R: Clock + Threads + Wait + Send + Sync, K: RunName + Send + Sync, B: Bus + Send>(
@@ -52,22 +127,10 @@ fn run_boot<R: Clock + Threads + Wait + Send + Sync, K: RunName + Send + Sync, B
 ) -> Option<Booting<B>>
     requires { Names K.RunName opened }
 {
-    let (register, mut seats) = opened.named::<K>().ok()?;
-    let mut operator = seats.pop()?;
-    register.call(rt, &mut operator, Call::StartNetwork).ok()?;
-    let from = Instant::now(rt).ok()?;
-    let Ok(booted) = boot_all(rt, alloc, &register, seats, buses, ATTEMPTS) else {
-        return None;
-    };
-    let nanos = from.elapsed(rt).ok()?.as_nanos();
-    let mut seats = booted.seats;
-    let buses = booted.buses;
-    seats.push(operator).ok()?;
-    let Ok(closed) = register.close(seats) else {
-        return None;
-    };
-    if closed.history.len() == slaves.saturating_mul(2).saturating_add(1) {
-        Some(Booting { nanos, buses })
+    let (register, seats) = opened.named::<K>().ok()?;
+    let (booting, seats) = start_and_boot(rt, alloc, &register, seats, buses)?;
+    if has_all(left_by(register, seats), slaves) {
+        Some(booting)
     } else {
         None
     }
@@ -136,20 +199,39 @@ fn boot_timed<'a, R: Clock + AllocGlobal + Threads + Wait + Send + Sync>(
     run_boot::<R, Brand, _>(rt, rt.alloc(), opened, buses, slaves)
 }
 
-/// Nanoseconds of the best of so many boots over slaves that answer at once.
-fn best_of<R: Clock + AllocGlobal + Threads + Wait + Send + Sync>(
+/// The same, of 126 slaves.
+fn boot_all_timed<'a, R: Clock + AllocGlobal + Threads + Wait + Send + Sync>(
+    rt: &'a R,
+    workers: u16,
+    pause: Duration,
+) -> Option<Booting<TimedBus<'a, R>>> {
+    let net = full_network(rt.alloc(), SLAVES)?;
+    boot_timed(rt, &net, workers, pause)
+}
+
+/// Nanoseconds of one boot over slaves that answer at once.
+fn boot_promptly<R: Clock + AllocGlobal + Threads + Wait + Send + Sync>(
     rt: &R,
     net: &Network,
     workers: u16,
+) -> Option<u128> {
+    let buses = prompt_buses(rt.alloc(), net, workers)?;
+    let opened = open(rt, net, workers)?;
+    let slaves = net.listed_ids().len();
+    let booting = run_boot::<R, Brand, _>(rt, rt.alloc(), opened, buses, slaves)?;
+    Some(booting.nanos)
+}
+
+/// Nanoseconds of the best of so many boots of 126 slaves that answer at once.
+fn best_of<R: Clock + AllocGlobal + Threads + Wait + Send + Sync>(
+    rt: &R,
+    workers: u16,
     runs: u32,
 ) -> Option<u128> {
-    let slaves = net.listed_ids().len();
+    let net = full_network(rt.alloc(), SLAVES)?;
     let mut best = u128::MAX;
     for _ in 0..runs {
-        let buses = prompt_buses(rt.alloc(), net, workers)?;
-        let opened = open(rt, net, workers)?;
-        let booting = run_boot::<R, Brand, _>(rt, rt.alloc(), opened, buses, slaves)?;
-        best = best.min(booting.nanos);
+        best = best.min(boot_promptly(rt, &net, workers)?);
     }
     Some(best)
 }
@@ -157,19 +239,28 @@ fn best_of<R: Clock + AllocGlobal + Threads + Wait + Send + Sync>(
 /// Prints the time of one boot over buses that take a time for each answer.
 fn measure_timed<R: Clock + Print + AllocGlobal + Threads + Wait + Send + Sync>(
     rt: &R,
-    net: &Network,
     workers: u16,
     pause: Duration,
 ) -> Option<()> {
-    let booting = boot_timed(rt, net, workers, pause)?;
-    let (most, answer) = asked_of(booting.buses.as_slice());
+    let booting = boot_all_timed(rt, workers, pause)?;
+    print_timed(rt, workers, booting.nanos, booting.buses.as_slice())
+}
+
+/// Prints it, of a boot that took so many nanoseconds over these buses.
+fn print_timed<R: Clock + Print>(
+    rt: &R,
+    workers: u16,
+    nanos: u128,
+    buses: &[TimedBus<R>],
+) -> Option<()> {
+    let (most, answer) = asked_of(buses);
     let wanted = answer.saturating_mul(u128::from(most)).max(1);
-    let hundredths = booting.nanos.saturating_mul(100) / wanted;
+    let hundredths = nanos.saturating_mul(100) / wanted;
     let mut out = io::writer(rt);
     writeln!(
         out,
         "boot: {workers} workers, {} ms, {most} questions of {} us, {}.{:02} times that",
-        booting.nanos / 1_000_000,
+        nanos / 1_000_000,
         answer / 1_000,
         hundredths / 100,
         hundredths % 100
@@ -186,12 +277,11 @@ pub fn measure<R: Clock + Print + AllocGlobal + Threads + Wait + Send + Sync>(
     workers: u16,
     micros: u32,
 ) -> Option<()> {
-    let net = full_network(rt.alloc(), SLAVES)?;
     let workers = workers.min(MOST_WORKERS);
     if micros > 0 {
-        return measure_timed(rt, &net, workers, Duration::from_micros(u64::from(micros)));
+        return measure_timed(rt, workers, Duration::from_micros(u64::from(micros)));
     }
-    let nanos = best_of(rt, &net, workers, RUNS)?;
+    let nanos = best_of(rt, workers, RUNS)?;
     let mut out = io::writer(rt);
     writeln!(out, "boot: {workers} workers, {} us in all", nanos / 1_000).ok()
 }
@@ -201,10 +291,9 @@ pub fn measure<R: Clock + Print + AllocGlobal + Threads + Wait + Send + Sync>(
 pub fn run_briefly<R: Clock + Print + AllocGlobal + Threads + Wait + Send + Sync>(
     rt: &R,
 ) -> Option<()> {
-    let net = full_network(rt.alloc(), SLAVES)?;
     let pause = Duration::from_micros(u64::from(FEW_MICROS));
-    boot_timed(rt, &net, FEW_WORKERS, pause)?;
-    best_of(rt, &net, FEW_WORKERS, 1)?;
+    boot_all_timed(rt, FEW_WORKERS, pause)?;
+    best_of(rt, FEW_WORKERS, 1)?;
     let mut out = io::writer(rt);
     writeln!(out, "boot: {SLAVES} slaves twice, by {FEW_WORKERS} workers").ok()
 }

@@ -115,6 +115,24 @@ impl Caller {
     }
 }
 
+/// Makes so many calls, fewer than those of a boot.
+fn call_on<W: Wire, K: RunName, R: Wait>(
+    rt: &R,
+    register: &Register<W, K>,
+    seat: &mut Seat<K>,
+    terms: &[Terms],
+    caller: &mut Caller,
+    count: u32,
+) -> Option<()> {
+    for _ in 0..count {
+        let id = caller.slave()?;
+        let listed = caller.listed(terms)?;
+        let receipt = register.call(rt, seat, caller.next_call(id, listed)).ok()?;
+        caller.go_on(&receipt.reply);
+    }
+    Some(())
+}
+
 /// Makes this many calls from one seat. `None` where one isn't made.
 pub fn call_often<W: Wire, K: RunName, R: Wait>(
     rt: &R,
@@ -127,11 +145,5 @@ pub fn call_often<W: Wire, K: RunName, R: Wait>(
     for _ in 0..count / ROUND as u32 {
         caller.boot(rt, register, seat, terms)?;
     }
-    for _ in 0..count % ROUND as u32 {
-        let id = caller.slave()?;
-        let listed = caller.listed(terms)?;
-        let receipt = register.call(rt, seat, caller.next_call(id, listed)).ok()?;
-        caller.go_on(&receipt.reply);
-    }
-    Some(())
+    call_on(rt, register, seat, terms, &mut caller, count % ROUND as u32)
 }

@@ -133,39 +133,54 @@ fn start(manager: &Manager, terms: &[Terms]) -> Option<()> {
     }
 }
 
-/// Nanoseconds for the start of a network of so many slaves, the best of so many runs.
-fn best_start(clock: &impl Clock, alloc: Global, slaves: u8, runs: u32) -> Option<u128> {
-    let net = full_network(alloc, slaves)?;
-    let terms = listed_terms(alloc, &net)?;
-    let manager = Manager::new(&net);
+/// Starts the network again and again, and gives the nanoseconds of all starts.
+fn time_starts(clock: &impl Clock, manager: &Manager, terms: &[Terms]) -> Option<u128> {
+    let from = Instant::now(clock).ok()?;
+    for _ in 0..STARTS {
+        start(manager, terms)?;
+    }
+    Some(from.elapsed(clock).ok()?.as_nanos())
+}
+
+/// Nanoseconds for a start by this manager, the best of so many runs.
+fn best_run(clock: &impl Clock, manager: &Manager, terms: &[Terms], runs: u32) -> Option<u128> {
     let mut best = u128::MAX;
     for _ in 0..runs {
-        let from = Instant::now(clock).ok()?;
-        for _ in 0..STARTS {
-            start(&manager, terms.as_slice())?;
-        }
-        let nanos = from.elapsed(clock).ok()?.as_nanos();
+        let nanos = time_starts(clock, manager, terms)?;
         best = best.min(nanos / u128::from(STARTS));
     }
     Some(best)
 }
 
-fn measure_calls<R: Clock + Print + AllocGlobal>(rt: &R, count: usize) -> Option<()> {
-    let net = full_network(rt.alloc(), SLAVES)?;
-    let drawn = draw(rt.alloc(), &net, count.min(LONGEST))?;
-    let calls = drawn.calls.as_slice();
-    let tenths = best_call(rt, &net, calls, count / calls.len().max(1), RUNS)?;
-    let share = |part: usize| part.saturating_mul(100) / calls.len().max(1);
+/// Nanoseconds for the start of a network of so many slaves, the best of so many runs.
+fn best_start(clock: &impl Clock, alloc: Global, slaves: u8, runs: u32) -> Option<u128> {
+    let net = full_network(alloc, slaves)?;
+    let terms = listed_terms(alloc, &net)?;
+    best_run(clock, &Manager::new(&net), terms.as_slice(), runs)
+}
+
+/// Prints tenths of a nanosecond for one of these calls, if they were made.
+fn print_calls<R: Print>(rt: &R, tenths: Option<u128>, drawn: &Drawn) -> Option<()> {
+    let tenths = tenths?;
+    let made = drawn.calls.len().max(1);
     let mut out = io::writer(rt);
     writeln!(
         out,
         "calls: {}.{} ns per call (best of {RUNS}; {}% reports, {}% refused)",
         tenths / 10,
         tenths % 10,
-        share(drawn.reports),
-        share(drawn.refused)
+        drawn.reports.saturating_mul(100) / made,
+        drawn.refused.saturating_mul(100) / made
     )
     .ok()
+}
+
+fn measure_calls<R: Clock + Print + AllocGlobal>(rt: &R, count: usize) -> Option<()> {
+    let net = full_network(rt.alloc(), SLAVES)?;
+    let drawn = draw(rt.alloc(), &net, count.min(LONGEST))?;
+    let calls = drawn.calls.as_slice();
+    let tenths = best_call(rt, &net, calls, count / calls.len().max(1), RUNS);
+    print_calls(rt, tenths, &drawn)
 }
 
 fn measure_starts<R: Clock + Print + AllocGlobal>(rt: &R) -> Option<()> {
@@ -184,11 +199,16 @@ pub fn measure<R: Clock + Print + AllocGlobal>(rt: &R, count: usize) -> Option<(
     measure_starts(rt)
 }
 
-/// Makes a few calls, and starts of all slaves, in one run.
-pub fn run_briefly<R: Clock + Print + AllocGlobal>(rt: &R) -> Option<()> {
+/// Draws a few calls, and makes them in one run.
+fn make_few<R: Clock + AllocGlobal>(rt: &R) -> Option<u128> {
     let net = full_network(rt.alloc(), SLAVES)?;
     let drawn = draw(rt.alloc(), &net, FEW)?;
-    best_call(rt, &net, drawn.calls.as_slice(), 1, 1)?;
+    best_call(rt, &net, drawn.calls.as_slice(), 1, 1)
+}
+
+/// Makes a few calls, and starts of all slaves, in one run.
+pub fn run_briefly<R: Clock + Print + AllocGlobal>(rt: &R) -> Option<()> {
+    make_few(rt)?;
     best_start(rt, rt.alloc(), SLAVES, 1)?;
     let mut out = io::writer(rt);
     writeln!(

@@ -6,10 +6,11 @@ use crate::bench::caller::{Caller, call_often};
 use crate::bench::network::{SLAVES, full_network, listed_terms};
 use crate::bench::opening::{LIMIT, open_register};
 use crate::bench::tape::Tape;
+use crate::closing::left_by;
 use cm_history::Call;
 use cm_netlist::Network;
 use cm_nmt::Terms;
-use cm_register::{Opened, Register, RunName, Seat};
+use cm_register::{Book, Opened, Register, RunName, Seat};
 use std::io::{self, Write};
 use std::marker::Brand;
 use std::rt::Clock;
@@ -47,6 +48,22 @@ fn call_in_threads<R: Threads + Wait + Send + Sync, K: RunName + Send + Sync>(
     })
 }
 
+/// Starts the network, and gives the nanoseconds of the calls in threads.
+fn time_threads<R: Clock + Threads + Wait + Send + Sync, K: RunName + Send + Sync>(
+    rt: &R,
+    register: &Register<Tape, K>,
+    seats: &mut [Seat<K>],
+    terms: &[Terms],
+    count: u32,
+) -> Option<u128> {
+    register
+        .call(rt, seats.get_mut(0)?, Call::StartNetwork)
+        .ok()?;
+    let from = Instant::now(rt).ok()?;
+    call_in_threads(rt, register, seats, terms, count)?;
+    Some(from.elapsed(rt).ok()?.as_nanos())
+}
+
 /// Nanoseconds of one run of a register; `None` too where it doesn't close with all calls.
 fn run_register<R: Clock + Threads + Wait + Send + Sync, K: RunName + Send + Sync>(
     rt: &R,
@@ -57,24 +74,49 @@ fn run_register<R: Clock + Threads + Wait + Send + Sync, K: RunName + Send + Syn
     requires { Names K.RunName opened }
 {
     let (register, mut seats) = opened.named::<K>().ok()?;
-    register
-        .call(rt, seats.as_mut_slice().get_mut(0)?, Call::StartNetwork)
-        .ok()?;
-    let from = Instant::now(rt).ok()?;
-    call_in_threads(rt, &register, seats.as_mut_slice(), terms, count)?;
-    let nanos = from.elapsed(rt).ok()?.as_nanos();
+    let nanos = time_threads(rt, &register, seats.as_mut_slice(), terms, count);
     let made = (count as usize).saturating_mul(seats.len());
-    let Ok(closed) = register.close(seats) else {
-        return None;
-    };
-    if closed.history.len() == made.saturating_add(1) {
-        Some(nanos)
+    let left = left_by(register, seats)?;
+    if left.entries == made.saturating_add(1) {
+        nanos
     } else {
         None
     }
 }
 
-/// Nanoseconds of one run of a book.
+/// Makes the calls of a book.
+fn apply_often<K: RunName>(
+    book: &mut Book<Tape, K>,
+    seat: &mut Seat<K>,
+    terms: &[Terms],
+    count: u32,
+) -> Option<()> {
+    let mut caller = Caller::new(0, 1);
+    for _ in 0..count {
+        let id = caller.slave()?;
+        let listed = caller.listed(terms)?;
+        let receipt = book.apply(seat, caller.next_call(id, listed)).ok()?;
+        caller.go_on(&receipt.reply);
+    }
+    Some(())
+}
+
+/// Starts the network, and gives the nanoseconds of the calls of a book.
+fn time_book<R: Clock, K: RunName>(
+    rt: &R,
+    book: &mut Book<Tape, K>,
+    seats: &mut [Seat<K>],
+    terms: &[Terms],
+    count: u32,
+) -> Option<u128> {
+    let seat = seats.get_mut(0)?;
+    book.apply(seat, Call::StartNetwork).ok()?;
+    let from = Instant::now(rt).ok()?;
+    apply_often(book, seat, terms, count)?;
+    Some(from.elapsed(rt).ok()?.as_nanos())
+}
+
+/// Nanoseconds of one run of a book; `None` too where it hasn't all calls.
 fn run_book<R: Clock, K: RunName>(
     rt: &R,
     opened: Opened<Tape>,
@@ -84,19 +126,9 @@ fn run_book<R: Clock, K: RunName>(
     requires { Names K.RunName opened }
 {
     let (mut book, mut seats) = opened.book::<K>().ok()?;
-    let seat = seats.as_mut_slice().get_mut(0)?;
-    book.apply(seat, Call::StartNetwork).ok()?;
-    let mut caller = Caller::new(0, 1);
-    let from = Instant::now(rt).ok()?;
-    for _ in 0..count {
-        let id = caller.slave()?;
-        let listed = caller.listed(terms)?;
-        let receipt = book.apply(seat, caller.next_call(id, listed)).ok()?;
-        caller.go_on(&receipt.reply);
-    }
-    let nanos = from.elapsed(rt).ok()?.as_nanos();
+    let nanos = time_book(rt, &mut book, seats.as_mut_slice(), terms, count);
     if book.history().len() == (count as usize).saturating_add(1) {
-        Some(nanos)
+        nanos
     } else {
         None
     }
@@ -125,6 +157,18 @@ fn best<R: Clock + AllocGlobal + Threads + Wait + Send + Sync>(
     Some(best.saturating_mul(10) / made.max(1))
 }
 
+/// The same, on 126 slaves.
+fn best_of_all<R: Clock + AllocGlobal + Threads + Wait + Send + Sync>(
+    rt: &R,
+    count: u32,
+    threads: u16,
+    runs: u32,
+) -> Option<u128> {
+    let net = full_network(rt.alloc(), SLAVES)?;
+    let terms = listed_terms(rt.alloc(), &net)?;
+    best(rt, &net, terms.as_slice(), count, threads, runs)
+}
+
 /// Prints the nanoseconds of a call, over so many calls of each of so many threads, which boot 126
 /// slaves again and again; of a book where there is no thread. `None` where there are over 16 threads,
 /// or all calls together are over 65,535.
@@ -137,9 +181,7 @@ pub fn measure<R: Clock + Print + AllocGlobal + Threads + Wait + Send + Sync>(
     if count == 0 || MOST_THREADS < threads || LIMIT <= all {
         return None;
     }
-    let net = full_network(rt.alloc(), SLAVES)?;
-    let terms = listed_terms(rt.alloc(), &net)?;
-    let tenths = best(rt, &net, terms.as_slice(), count, threads, RUNS)?;
+    let tenths = best_of_all(rt, count, threads, RUNS)?;
     let mut out = io::writer(rt);
     writeln!(
         out,
@@ -154,10 +196,8 @@ pub fn measure<R: Clock + Print + AllocGlobal + Threads + Wait + Send + Sync>(
 pub fn run_briefly<R: Clock + Print + AllocGlobal + Threads + Wait + Send + Sync>(
     rt: &R,
 ) -> Option<()> {
-    let net = full_network(rt.alloc(), SLAVES)?;
-    let terms = listed_terms(rt.alloc(), &net)?;
-    best(rt, &net, terms.as_slice(), FEW, 0, 1)?;
-    best(rt, &net, terms.as_slice(), FEW, FEW_THREADS, 1)?;
+    best_of_all(rt, FEW, 0, 1)?;
+    best_of_all(rt, FEW, FEW_THREADS, 1)?;
     let mut out = io::writer(rt);
     writeln!(
         out,

@@ -20,8 +20,20 @@ pub fn open_register<'n, R: AllocGlobal>(
 ) -> Option<Opened<'n, Tape>>
     ensures { IfSome result (λ o. (o.net.now ≡ net.now) × (o.seats ≡ seats)) }
 {
-    let tape = Tape::new(rt.alloc(), LIMIT.saturating_add(MOST_FRAMES))?;
-    let Ok(opened) = Register::open(rt.alloc(), net, seats, LIMIT, tape) else {
+    open_limited(rt, net, seats, LIMIT)
+}
+
+/// The same, with so many entries at most.
+pub fn open_limited<'n, R: AllocGlobal>(
+    rt: &R,
+    net: &'n Network,
+    seats: u16,
+    limit: u32,
+) -> Option<Opened<'n, Tape>>
+    ensures { IfSome result (λ o. (o.net.now ≡ net.now) × (o.seats ≡ seats)) }
+{
+    let tape = Tape::new(rt.alloc(), limit.saturating_add(MOST_FRAMES))?;
+    let Ok(opened) = Register::open(rt.alloc(), net, seats, limit, tape) else {
         return None;
     };
     Some(opened)

@@ -11,7 +11,7 @@ use crate::bench::opening::{LIMIT, open_register};
 use crate::bench::timing::median;
 use cm_netlist::Network;
 use cm_nmt::Terms;
-use round::{Beside, Plan, run_round};
+use round::{Beside, Plan, Round, run_round};
 use std::alloc::Global;
 use std::io::{self, Write};
 use std::marker::Brand;
@@ -52,6 +52,13 @@ impl Sheet {
             longest: Vec::new(alloc),
         }
     }
+
+    /// Notes what a round measured.
+    fn note(&mut self, round: Round) -> Option<()> {
+        self.reads.push(round.reads).ok()?;
+        self.calls.push(round.made.calls).ok()?;
+        self.longest.push(round.made.longest).ok()
+    }
 }
 
 /// What all rounds measure.
@@ -63,6 +70,22 @@ struct Setting<'a> {
     rounds: usize,
 }
 
+/// Measures one round with this beside the readers.
+fn measure_round<R: Clock + AllocGlobal + Threads + Wait + Send + Sync>(
+    rt: &R,
+    setting: Setting,
+    beside: Beside,
+) -> Option<Round> {
+    let opened = open_register(rt, setting.net, SEATS)?;
+    let Setting { terms, readers, .. } = setting;
+    let plan = Plan {
+        terms,
+        readers,
+        beside,
+    };
+    run_round::<R, Brand>(rt, opened, plan)
+}
+
 /// Measures the rounds with this beside the readers.
 fn run_rounds<R: Clock + AllocGlobal + Threads + Wait + Send + Sync>(
     rt: &R,
@@ -71,27 +94,39 @@ fn run_rounds<R: Clock + AllocGlobal + Threads + Wait + Send + Sync>(
 ) -> Option<Sheet> {
     let mut sheet = Sheet::new(rt.alloc());
     for _ in 0..setting.rounds {
-        let opened = open_register(rt, setting.net, SEATS)?;
-        let Setting { terms, readers, .. } = setting;
-        let plan = Plan {
-            terms,
-            readers,
-            beside,
-        };
-        let round = run_round::<R, Brand>(rt, opened, plan)?;
-        sheet.reads.push(round.reads).ok()?;
-        sheet.calls.push(round.made.calls).ok()?;
-        sheet.longest.push(round.made.longest).ok()?;
+        sheet.note(measure_round(rt, setting, beside)?)?;
     }
     Some(sheet)
 }
 
+/// The medians of rounds.
+#[derive(Clone, Copy)]
+struct Medians {
+    reads: u64,
+    calls: u64,
+    longest: u64,
+}
+
+/// The medians of the rounds with this beside the readers.
+fn medians_of<R: Clock + AllocGlobal + Threads + Wait + Send + Sync>(
+    rt: &R,
+    setting: Setting,
+    beside: Beside,
+) -> Option<Medians> {
+    let mut sheet = run_rounds(rt, setting, beside)?;
+    Some(Medians {
+        reads: median(sheet.reads.as_mut_slice()),
+        calls: median(sheet.calls.as_mut_slice()),
+        longest: median(sheet.longest.as_mut_slice()),
+    })
+}
+
 /// What the rounds measured with calls, with none, and with calls whose times were taken.
-#[derive(Drop)]
-struct Sheets {
-    busy: Sheet,
-    quiet: Sheet,
-    timed: Sheet,
+#[derive(Clone, Copy)]
+struct All {
+    busy: Medians,
+    quiet: Medians,
+    timed: Medians,
 }
 
 /// Measures the rounds with so many calls beside the readers, and with none.
@@ -99,13 +134,23 @@ fn run_all<R: Clock + AllocGlobal + Threads + Wait + Send + Sync>(
     rt: &R,
     setting: Setting,
     count: u32,
-) -> Option<Sheets> {
+) -> Option<All> {
     let quiet = Duration::from_millis(QUIET_MS);
-    Some(Sheets {
-        busy: run_rounds(rt, setting, Beside::Calls(count))?,
-        quiet: run_rounds(rt, setting, Beside::Nothing(quiet))?,
-        timed: run_rounds(rt, setting, Beside::TimedCalls(count))?,
+    Some(All {
+        busy: medians_of(rt, setting, Beside::Calls(count))?,
+        quiet: medians_of(rt, setting, Beside::Nothing(quiet))?,
+        timed: medians_of(rt, setting, Beside::TimedCalls(count))?,
     })
+}
+
+/// How many calls per second the best of the rounds made.
+fn best_rate<R: Clock + AllocGlobal + Threads + Wait + Send + Sync>(
+    rt: &R,
+    setting: Setting,
+    count: u32,
+) -> Option<u64> {
+    let sheet = run_rounds(rt, setting, Beside::Calls(count))?;
+    sheet.calls.as_slice().iter().copied().max()
 }
 
 /// Prints the nanoseconds of a call with no reader.
@@ -114,11 +159,9 @@ fn measure_calls<R: Clock + Print + AllocGlobal + Threads + Wait + Send + Sync>(
     setting: Setting,
     count: u32,
 ) -> Option<()> {
-    let sheet = run_rounds(rt, setting, Beside::Calls(count))?;
-    let mut timed = run_rounds(rt, setting, Beside::TimedCalls(count))?;
-    let rate = sheet.calls.as_slice().iter().copied().max()?;
+    let rate = best_rate(rt, setting, count)?;
+    let longest = medians_of(rt, setting, Beside::TimedCalls(count))?.longest;
     let tenths = 10_000_000_000 / rate.max(1);
-    let longest = median(timed.longest.as_mut_slice());
     let mut out = io::writer(rt);
     writeln!(
         out,
@@ -136,11 +179,10 @@ fn measure_reads<R: Clock + Print + AllocGlobal + Threads + Wait + Send + Sync>(
     count: u32,
 ) -> Option<()> {
     let readers = setting.readers;
-    let mut sheets = run_all(rt, setting, count)?;
-    let reads = median(sheets.busy.reads.as_mut_slice());
-    let calls = median(sheets.busy.calls.as_mut_slice());
-    let alone = median(sheets.quiet.reads.as_mut_slice());
-    let longest = median(sheets.timed.longest.as_mut_slice());
+    let All { busy, quiet, timed } = run_all(rt, setting, count)?;
+    let Medians { reads, calls, .. } = busy;
+    let alone = quiet.reads;
+    let longest = timed.longest;
     let mut out = io::writer(rt);
     writeln!(
         out,
@@ -157,6 +199,19 @@ fn measure_reads<R: Clock + Print + AllocGlobal + Threads + Wait + Send + Sync>(
         "read: {readers} readers, beside them {longest} ns the longest call"
     )
     .ok()
+}
+
+/// Prints what is measured in this setting.
+fn measure_in<R: Clock + Print + AllocGlobal + Threads + Wait + Send + Sync>(
+    rt: &R,
+    setting: Setting,
+    count: u32,
+) -> Option<()> {
+    if setting.readers == 0 {
+        measure_calls(rt, setting, count)
+    } else {
+        measure_reads(rt, setting, count)
+    }
 }
 
 /// Prints how many reads per second so many readers make together beside so many calls without a
@@ -178,17 +233,11 @@ pub fn measure<R: Clock + Print + AllocGlobal + Threads + Wait + Send + Sync>(
         readers,
         rounds: ROUNDS,
     };
-    if readers == 0 {
-        measure_calls(rt, setting, count)
-    } else {
-        measure_reads(rt, setting, count)
-    }
+    measure_in(rt, setting, count)
 }
 
 /// Makes a few calls, and none, beside readers, in one round each.
-pub fn run_briefly<R: Clock + Print + AllocGlobal + Threads + Wait + Send + Sync>(
-    rt: &R,
-) -> Option<()> {
+fn run_few<R: Clock + AllocGlobal + Threads + Wait + Send + Sync>(rt: &R) -> Option<All> {
     let net = full_network(rt.alloc(), SLAVES)?;
     let terms = listed_terms(rt.alloc(), &net)?;
     let setting = Setting {
@@ -197,7 +246,14 @@ pub fn run_briefly<R: Clock + Print + AllocGlobal + Threads + Wait + Send + Sync
         readers: FEW_READERS,
         rounds: 1,
     };
-    run_all(rt, setting, FEW)?;
+    run_all(rt, setting, FEW)
+}
+
+/// Makes these, and says so.
+pub fn run_briefly<R: Clock + Print + AllocGlobal + Threads + Wait + Send + Sync>(
+    rt: &R,
+) -> Option<()> {
+    run_few(rt)?;
     let mut out = io::writer(rt);
     writeln!(
         out,

@@ -2,6 +2,7 @@
 
 ghost use Rattle.cm_register.specs.Naming.{Names};
 
+use crate::closing::{Left, left_by, left_by_book};
 use crate::memory::lists::listed;
 use crate::memory::saying::{done, refused, refused_at, surely};
 use cm_history::{Call, Reply};
@@ -115,31 +116,54 @@ fn call_often<R: Print + Wait, K: RunName>(
     is_full(rt, register, seat)
 }
 
+/// Says that memory for a name was refused. `None` where that wasn't the fault.
+fn isnt_named<R: Print>(rt: &R, fault: OpenFault) -> Option<bool> {
+    surely(fault == OpenFault::OutOfMemory)?;
+    refused(rt, "named")?;
+    Some(false)
+}
+
+/// Says how many entries are left, where all calls were made and what was called was closed.
+fn is_closed<R: Print>(rt: &R, word: &str, called: Option<()>, left: Option<Left>) -> Option<bool> {
+    called?;
+    done(rt, word, left?.entries)?;
+    Some(true)
+}
+
+/// Makes the calls by the first seat.
+fn call_from_first<R: Print + Wait, K: RunName>(
+    rt: &R,
+    register: &Register<SimWire, K>,
+    seats: &mut [Seat<K>],
+) -> Option<()> {
+    call_often(rt, register, seats.first_mut()?)
+}
+
 /// Names a register and does all that is done with it. Whether memory for the name was there.
 fn use_register<R: Print + Wait, K: RunName>(rt: &R, opened: Opened<SimWire>) -> Option<bool>
     requires { Names K.RunName opened }
 {
-    let (register, mut seats) = match opened.named::<K>() {
-        Ok(named) => named,
-        Err(OpenFault::OutOfMemory) => {
-            refused(rt, "named")?;
-            return Some(false);
+    match opened.named::<K>() {
+        Ok((register, mut seats)) => {
+            let called = call_from_first(rt, &register, seats.as_mut_slice());
+            is_closed(rt, "register", called, left_by(register, seats))
         }
-        Err(_) => return None,
-    };
-    call_often(rt, &register, seats.first_mut()?)?;
-    let closed = register.close(seats).ok()?;
-    done(rt, "register", closed.history.len())?;
-    Some(true)
+        Err(fault) => isnt_named(rt, fault),
+    }
+}
+
+/// Opens a register, and does the same.
+fn open_and_use<R: Print + AllocGlobal + Wait>(rt: &R, net: &Network) -> Option<bool> {
+    use_register::<_, Brand>(rt, open(rt, net)?)
 }
 
 /// A register.
 pub(crate) fn register<R: Print + AllocGlobal + Wait>(rt: &R) -> Option<()> {
     let net = listed(rt, 0)?;
-    if use_register::<_, Brand>(rt, open(rt, &net)?)? {
+    if open_and_use(rt, &net)? {
         return Some(());
     }
-    surely(use_register::<_, Brand>(rt, open(rt, &net)?)?)
+    surely(open_and_use(rt, &net)?)
 }
 
 /// Makes a call of a book, and once more where memory is refused; the book has the history that it had.
@@ -174,29 +198,38 @@ fn apply_often<R: Print, K: RunName>(
     Some(())
 }
 
+/// Makes the calls of a book by the first seat.
+fn apply_from_first<R: Print, K: RunName>(
+    rt: &R,
+    book: &mut Book<SimWire, K>,
+    seats: &mut [Seat<K>],
+) -> Option<()> {
+    apply_often(rt, book, seats.first_mut()?)
+}
+
 /// Names a book and does all that is done with it. Whether memory for the name was there.
 fn use_book<R: Print, K: RunName>(rt: &R, opened: Opened<SimWire>) -> Option<bool>
     requires { Names K.RunName opened }
 {
-    let (mut book, mut seats) = match opened.book::<K>() {
-        Ok(named) => named,
-        Err(OpenFault::OutOfMemory) => {
-            refused(rt, "named")?;
-            return Some(false);
+    match opened.book::<K>() {
+        Ok((mut book, mut seats)) => {
+            let called = apply_from_first(rt, &mut book, seats.as_mut_slice());
+            is_closed(rt, "book", called, left_by_book(book, seats))
         }
-        Err(_) => return None,
-    };
-    apply_often(rt, &mut book, seats.first_mut()?)?;
-    let closed = book.close(seats).ok()?;
-    done(rt, "book", closed.history.len())?;
-    Some(true)
+        Err(fault) => isnt_named(rt, fault),
+    }
+}
+
+/// Opens a book, and does the same.
+fn open_and_use_alone<R: Print + AllocGlobal>(rt: &R, net: &Network) -> Option<bool> {
+    use_book::<_, Brand>(rt, open(rt, net)?)
 }
 
 /// A book.
 pub(crate) fn book<R: Print + AllocGlobal>(rt: &R) -> Option<()> {
     let net = listed(rt, 0)?;
-    if use_book::<_, Brand>(rt, open(rt, &net)?)? {
+    if open_and_use_alone(rt, &net)? {
         return Some(());
     }
-    surely(use_book::<_, Brand>(rt, open(rt, &net)?)?)
+    surely(open_and_use_alone(rt, &net)?)
 }

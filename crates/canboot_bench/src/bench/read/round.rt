@@ -4,6 +4,7 @@ use crate::bench::caller::{Caller, call_often};
 use crate::bench::read::board::Board;
 use crate::bench::tape::Tape;
 use crate::bench::timing::rate_of;
+use crate::closing::left_by;
 use cm_history::Call;
 use cm_nmt::Terms;
 use cm_register::{Opened, Register, RunName, Seat};
@@ -59,6 +60,24 @@ pub struct Round {
     pub made: Made,
 }
 
+/// Makes the next call, and gives the time that it took.
+fn time_call<R: Clock + Wait, K: RunName>(
+    rt: &R,
+    register: &Register<Tape, K>,
+    seat: &mut Seat<K>,
+    terms: &[Terms],
+    caller: &mut Caller,
+) -> Option<Duration> {
+    let id = caller.slave()?;
+    let listed = caller.listed(terms)?;
+    let call = caller.next_call(id, listed);
+    let from = Instant::now(rt).ok()?;
+    let receipt = register.call(rt, seat, call).ok()?;
+    let time = from.elapsed(rt).ok()?;
+    caller.go_on(&receipt.reply);
+    Some(time)
+}
+
 /// Makes this many calls, and gives the nanoseconds of the longest.
 fn call_timed<R: Clock + Wait, K: RunName>(
     rt: &R,
@@ -70,13 +89,7 @@ fn call_timed<R: Clock + Wait, K: RunName>(
     let mut caller = Caller::new(0, 1);
     let mut longest = Duration::ZERO;
     for _ in 0..count {
-        let id = caller.slave()?;
-        let listed = caller.listed(terms)?;
-        let call = caller.next_call(id, listed);
-        let from = Instant::now(rt).ok()?;
-        let receipt = register.call(rt, seat, call).ok()?;
-        longest = longest.max(from.elapsed(rt).ok()?);
-        caller.go_on(&receipt.reply);
+        longest = longest.max(time_call(rt, register, seat, terms, &mut caller)?);
     }
     u64::try_from(longest.as_nanos()).ok()
 }
@@ -159,6 +172,21 @@ fn make_beside_readers<R: Clock + Threads + Wait + Send + Sync, K: RunName + Sen
     })
 }
 
+/// Starts the network, and measures what is made beside readers.
+fn measure_beside<R: Clock + Threads + Wait + Send + Sync, K: RunName + Send + Sync>(
+    rt: &R,
+    register: &Register<Tape, K>,
+    seats: &mut [Seat<K>],
+    plan: Plan,
+) -> Option<Round> {
+    register
+        .call(rt, seats.get_mut(0)?, Call::StartNetwork)
+        .ok()?;
+    let board = Board::new();
+    make_beside_readers(rt, register, seats, plan, &board)?;
+    board.round(plan.readers)
+}
+
 /// One round, with a register of its own. `None` too where it doesn't close with all calls.
 pub fn run_round<R: Clock + Threads + Wait + Send + Sync, K: RunName + Send + Sync>(
     rt: &R,
@@ -168,17 +196,10 @@ pub fn run_round<R: Clock + Threads + Wait + Send + Sync, K: RunName + Send + Sy
     requires { Names K.RunName opened }
 {
     let (register, mut seats) = opened.named::<K>().ok()?;
-    register
-        .call(rt, seats.as_mut_slice().get_mut(0)?, Call::StartNetwork)
-        .ok()?;
-    let board = Board::new();
-    make_beside_readers(rt, &register, seats.as_mut_slice(), plan, &board)?;
-    let round = board.round(plan.readers)?;
-    let Ok(closed) = register.close(seats) else {
-        return None;
-    };
-    if closed.history.len() == (plan.beside.calls() as usize).saturating_add(1) {
-        Some(round)
+    let round = measure_beside(rt, &register, seats.as_mut_slice(), plan);
+    let left = left_by(register, seats)?;
+    if left.entries == (plan.beside.calls() as usize).saturating_add(1) {
+        round
     } else {
         None
     }

@@ -1,5 +1,5 @@
 use Rattle.cm_past.specs.Unnamed.{log_of}
-use Rattle.canboot_bench.proofs.bench.boot.best_of.Given as goal
+use Rattle.canboot_bench.proofs.bench.boot.boot_promptly.Given as goal
 
 abbrev pub ghosts-run_boot-K-Ledger : goal.ghosts-run_boot-K-Ledger
 ghosts-run_boot-K-Ledger g a = record { name = a.opened.blank.name; parts = a.opened.seats }

@@ -1,5 +1,5 @@
 use Rattle.cm_past.specs.Unnamed.{log_of}
-use Rattle.canboot_bench.proofs.memory.runs.boot.Given as goal
+use Rattle.canboot_bench.proofs.memory.runs.open_and_boot.Given as goal
 
 abbrev pub ghosts-boots-K-Ledger : goal.ghosts-boots-K-Ledger
 ghosts-boots-K-Ledger g a = record { name = a.opened.blank.name; parts = a.opened.seats }

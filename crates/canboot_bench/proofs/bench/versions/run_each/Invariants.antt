@@ -1,5 +1,5 @@
 use Rattle.cm_past.specs.Unnamed.{log_of}
-use Rattle.canboot_bench.proofs.bench.read.run_rounds.Given as goal
+use Rattle.canboot_bench.proofs.bench.versions.run_each.Given as goal
 
 abbrev pub ghosts-run_round-K-Ledger : goal.ghosts-run_round-K-Ledger
 ghosts-run_round-K-Ledger g a = record { name = a.opened.blank.name; parts = a.opened.seats }

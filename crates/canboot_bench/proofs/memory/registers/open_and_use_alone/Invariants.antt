@@ -1,5 +1,5 @@
 use Rattle.cm_past.specs.Unnamed.{log_of}
-use Rattle.canboot_bench.proofs.memory.registers.book.Given as goal
+use Rattle.canboot_bench.proofs.memory.registers.open_and_use_alone.Given as goal
 
 abbrev pub ghosts-use_book-K-Ledger : goal.ghosts-use_book-K-Ledger
 ghosts-use_book-K-Ledger g a = record { name = a.opened.blank.name; parts = a.opened.seats }
