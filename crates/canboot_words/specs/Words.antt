@@ -1,9 +1,8 @@
 -- What a live run tells in words (own).
-use Rattle.std.specs.Prelude.{ℕ, Bool, true, false, ◌==◌, if◌then◌else◌, List, [], ◌∷◌, ◌++◌, take, slice_get, codes, decimal}
+use Rattle.std.specs.Prelude.{ℕ, Bool, true, false, ◌==◌, List, [], ◌∷◌, ◌++◌, codes, decimal}
 use Rattle.std.specs.Prelude.{Option, Some, None}
-use Rattle.std.specs.List.{find, join_with_byte}
+use Rattle.std.specs.List.{find}
 use Rattle.cm_text.specs.Hex.{hex_four, hex_eight}
-use Rattle.cm_nmt.specs.Answers.{id_of}
 use Rattle.cm_nmt.specs.Codes.{signal_of}
 use Rattle.cm_nmt.specs.Status.{status_letter}
 use Rattle.cm_nmt.specs.declared.answers.Answers.{Answers}
@@ -14,9 +13,7 @@ use Rattle.cm_nmt.specs.declared.signal.Signal.TheVariants as signal
 use Rattle.cm_nmt.specs.declared.state.NmtState.TheVariants as state
 use Rattle.cm_nmt.specs.declared.status.Status.{Status}
 use Rattle.cm_nmt.specs.declared.status.Status.TheVariants as status
-use Rattle.cm_nmt.specs.declared.write.Write.{Write}
 use Rattle.cm_history.specs.Answering.{refusal_number}
-use Rattle.cm_history.specs.Orders.{is_start_all, is_start_of}
 use Rattle.cm_history.specs.declared.call.Call.{Call}
 use Rattle.cm_history.specs.declared.call.Call.TheVariants as call
 use Rattle.cm_history.specs.declared.call.Entry.{Entry}
@@ -27,9 +24,13 @@ use Rattle.cm_history.specs.declared.refusal.Refusal.{Refusal}
 use Rattle.cm_history.specs.declared.refusal.Refusal.TheVariants as refusal
 use Rattle.cm_netlist.specs.Network.{Network, entry}
 use Rattle.cm_netlist.specs.declared.entry.SlaveEntry.{SlaveEntry}
-use Rattle.cm_format.specs.Text.{call_words, reply_words}
-use Rattle.canboot_words.specs.declared.told.judged.Starts.{Starts}
-use Rattle.canboot_words.specs.declared.told.judged.Starts.TheVariants as starts
+use Rattle.cm_watch.specs.BootFaults.{boot_fault, object_name}
+use Rattle.cm_watch.specs.Spellings.{spelled_call, spelled_reply}
+use Rattle.cm_watch.specs.Starts.{starts_handed}
+use Rattle.cm_watch.specs.declared.boot_fault.BootFault.{BootFault}
+use Rattle.cm_watch.specs.declared.boot_fault.BootFault.TheVariants as fault
+use Rattle.cm_watch.specs.declared.starts.Starts.{Starts}
+use Rattle.cm_watch.specs.declared.starts.Starts.TheVariants as starts
 
 -- ---- the boot of a slave
 
@@ -40,37 +41,25 @@ gave_words (got.Abort code) = codes "abort " ++ hex_eight code
 gave_words got.Silent = codes "no answer"
 gave_words got.NotAsked = codes "no answer"
 
--- an object whose value isn't the expected one, what it gave, and the expected value (own)
-abbrev pub differs_words : List ℕ → Got → ℕ → List ℕ
-differs_words object given expected =
-    object ++ (codes " " ++ (gave_words given ++ (codes ", expected " ++ hex_eight expected)))
-
--- the write that failed, if the slave has one at that place, and what it got (own)
-abbrev pub failed_write_words : Option Write → Got → List ℕ
-failed_write_words (Some w) given =
+-- an object whose value isn't the expected one, what it gave, and the expected value; or the write that failed, if the slave has one at
+-- that place, and what it got (own)
+abbrev pub fault_words : BootFault → List ℕ
+fault_words (fault.Differs object given expected) =
+    object_name object ++ (codes " " ++ (gave_words given ++ (codes ", expected " ++ hex_eight expected)))
+fault_words (fault.Write (Some w) given) =
     codes "write of " ++ (hex_four w.index ++ (codes " sub " ++ (decimal w.sub ++ (codes ": " ++ gave_words given))))
-failed_write_words None given = codes "a write: " ++ gave_words given
+fault_words (fault.Write None given) = codes "a write: " ++ gave_words given
 
--- why a boot with these answers, of a slave of which this is listed, ended with this status (own)
-abbrev pub cause_words : Status → Answers → SlaveEntry → List ℕ
-cause_words status.B a e = codes "no device type"
-cause_words status.C a e = differs_words (codes "device type") a.device e.device_type
-cause_words status.D a e = differs_words (codes "vendor-ID") (id_of a 0) e.vendor
-cause_words status.E a e = codes "no heartbeat"
-cause_words status.F a e = codes "no answer to the guard request"
-cause_words status.G a e = codes "its software version isn't verified"
-cause_words status.J a e = failed_write_words (slice_get e.writes.items a.acked) a.refused
-cause_words status.K a e = codes "no heartbeat"
-cause_words status.L a e = codes "found operational"
-cause_words status.M a e = differs_words (codes "product code") (id_of a 1) e.product
-cause_words status.N a e = differs_words (codes "revision number") (id_of a 2) e.revision
-cause_words status.O a e = differs_words (codes "serial number") (id_of a 3) e.serial
-cause_words _ a e = codes "as expected"
-
--- how the orders of a report start its slave: alone, with all nodes, or not (own)
-abbrev pub starts_of : Orders → ℕ → Starts
-starts_of orders i =
-    if is_start_of orders i then starts.Alone else (if is_start_all orders then starts.WithAll else starts.None)
+-- why a boot ended with this status, and by this value, if by one (own)
+abbrev pub cause_words : Option BootFault → Status → List ℕ
+cause_words (Some f) s = fault_words f
+cause_words None status.B = codes "no device type"
+cause_words None status.E = codes "no heartbeat"
+cause_words None status.F = codes "no answer to the guard request"
+cause_words None status.G = codes "its software version isn't verified"
+cause_words None status.K = codes "no heartbeat"
+cause_words None status.L = codes "found operational"
+cause_words None _ = codes "as expected"
 
 -- how a slave was started, behind its status Ok (own)
 abbrev pub start_words : Starts → List ℕ
@@ -80,7 +69,7 @@ start_words starts.WithAll = codes ", all started"
 
 -- the cause of a status, in parentheses; nothing of a node that isn't listed (own)
 abbrev pub cause_behind : Option SlaveEntry → Status → Answers → List ℕ
-cause_behind (Some e) s a = codes " (" ++ (cause_words s a e ++ codes ")")
+cause_behind (Some e) s a = codes " (" ++ (cause_words (boot_fault s a e) s ++ codes ")")
 cause_behind None s a = []
 
 -- what stands behind a status: how the slave was started behind Ok, else the cause (own)
@@ -166,11 +155,7 @@ behind_reply halted r = []
 
 -- a reply to a call, as a journal spells it, and a refusal in words too (own)
 abbrev pub replied_words : Bool → Reply → List ℕ
-replied_words halted r = join_with_byte 32 (reply_words r) ++ behind_reply halted r
-
--- a call, as a journal spells it; of a report the first words (own)
-abbrev pub spelled_words : Call → List ℕ
-spelled_words c = join_with_byte 32 (take 3 (call_words c))
+replied_words halted r = spelled_reply r ++ behind_reply halted r
 
 -- a line of a node (own)
 abbrev pub node_words : ℕ → List ℕ → List ℕ
@@ -184,14 +169,10 @@ unbooted_words (Some (Some s)) = codes "; started though it isn't booted (" ++ (
 unbooted_words (Some None) = codes "; started though it isn't booted"
 unbooted_words None = []
 
--- how the slave was started: by its orders, once their frames were handed to the wire (own)
-abbrev pub starts_handed : Bool → Orders → ℕ → Starts
-starts_handed handed orders i = if handed then starts_of orders i else starts.None
-
 -- a call and its reply behind their place in the history, and that a slave was started which isn't booted (own)
 abbrev pub called_words : ℕ → Call → Bool → Reply → Option (Option Status) → List ℕ
 called_words place c halted r unbooted =
-    decimal place ++ (codes " " ++ (spelled_words c ++ (codes ": " ++ (replied_words halted r ++ unbooted_words unbooted))))
+    decimal place ++ (codes " " ++ (spelled_call c ++ (codes ": " ++ (replied_words halted r ++ unbooted_words unbooted))))
 
 -- a call with this reply and these orders, at this place in the history: the report of a boot by what it came to,
 -- what else is of a node by the node, the rest as a journal spells it (own)

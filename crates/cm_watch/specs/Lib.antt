@@ -22,6 +22,9 @@ pub mod Limiting
 pub mod Echoes
 pub mod BusErrors
 pub mod Notices
+pub mod BootFaults
+pub mod Starts
+pub mod Spellings
 pub mod EventFields
 pub mod EventEntries
 pub mod Events

@@ -10,10 +10,14 @@
 //! until its frames were handed to the wire is [`Waiting`], and what came of the boots so far [`Tried`]. Which of the remarks of a
 //! bus are told, emergency messages, other masters, errors of the bus and nodes that aren't listed, decide [`Notices`].
 //!
-//! What is told is an [`Event`] for other programs, and [`EventLine`] its line, an object of JSON.
+//! What is told is an [`Event`] for other programs, and [`EventLine`] its line, an object of JSON. What is told of an entry of the
+//! history has one definition for words and events: [`BootFault`], what a boot's status says is wrong, with the value that was
+//! expected and the one found; [`Starts`], what a report starts; [`SpelledCall`] and [`SpelledReply`], how calls and replies are
+//! spelled.
 #![tactic(auto)]
 
 mod beats;
+mod boot_fault;
 mod bus_told;
 mod course;
 mod ends;
@@ -38,12 +42,15 @@ mod sent;
 mod settings;
 mod signals;
 mod slave;
+mod spelling;
+mod starts;
 mod taking;
 mod telling;
 mod tried;
 mod waiting;
 mod watch;
 
+pub use boot_fault::{BootFault, Compared};
 pub use bus_told::{BusTold, ErrorNotice};
 pub use course::Course;
 pub use event::{Event, EventLine, NoBoot};
@@ -62,6 +69,8 @@ pub use sent::Sent;
 pub use settings::Settings;
 pub use signals::{Budget, News};
 pub use slave::Slave;
+pub use spelling::{SpelledCall, SpelledReply};
+pub use starts::Starts;
 pub use telling::Told;
 pub use tried::Tried;
 pub use waiting::{Untold, Waiting};
