@@ -13,5 +13,8 @@ pub use canboot_run::{LONGEST_RUN, Options, run_text};
 pub use canboot_words::{Action, NoAction, read_words};
 pub use cm_live::Outlet;
 pub use cm_recording::JournalOutput;
-pub use live::{LONGEST_LIVE, LiveEnds, LiveOptions, live_round, live_text};
+pub use live::{
+    Followed, HostFiles, LONGEST_LIVE, LiveEnds, LiveOptions, NoFiles, ReplaceFile, StatusFile,
+    live_round, live_text,
+};
 pub use program::{run, run_words};

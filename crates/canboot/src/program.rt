@@ -2,8 +2,9 @@ ghost use Rattle.std.specs.Prelude.{◌≡◌, ◌≤◌, ◌⊎◌, IfOk, None,
 ghost use Rattle.std.specs.Io.KnownBytes.{Appends};
 ghost use Rattle.canboot.specs.Program.{EndsWithout, is_same_file};
 
-use crate::live::LiveOptions;
-use crate::live::files::{JournalPath, LivePaths, format_of, live_file};
+use crate::live::files::{format_of, live_file};
+use crate::live::paths::{JournalPath, LivePaths};
+use crate::live::{LiveOptions, ReplaceFile};
 use canboot_check::{
     FAILED, MISUSED, check_file, fault_line, mend_text, output_status, read_fault, replay_text,
 };
@@ -37,8 +38,9 @@ pub fn run<
         + Drop
         + 'static,
     E: Write + IsTerminal,
->(rt: &R, err: &mut E) -> ExitCode {
-    ExitCode::from(run_here(rt, err))
+    F: ReplaceFile + Send + Drop + 'static,
+>(rt: &R, err: &mut E, files: F) -> ExitCode {
+    ExitCode::from(run_here(rt, err, files))
 }
 
 fn run_here<
@@ -56,7 +58,8 @@ fn run_here<
         + Drop
         + 'static,
     E: Write + IsTerminal,
->(rt: &R, err: &mut E) -> u8
+    F: ReplaceFile + Send + Drop + 'static,
+>(rt: &R, err: &mut E, files: F) -> u8
     ensures statuses { result ≤ 3 }
 {
     let args = match env::args(rt) {
@@ -76,6 +79,7 @@ fn run_here<
         &mut rt.reader(),
         &mut out,
         err,
+        files,
         is_coloured,
     )
 }
@@ -107,7 +111,16 @@ pub fn run_words<
     I: Read,
     W: Write,
     E: Write,
->(rt: &R, words: &[String], input: &mut I, out: &mut W, err: &mut E, is_coloured: bool) -> u8
+    F: ReplaceFile + Send + Drop + 'static,
+>(
+    rt: &R,
+    words: &[String],
+    input: &mut I,
+    out: &mut W,
+    err: &mut E,
+    files: F,
+    is_coloured: bool,
+) -> u8
     ensures statuses { result ≤ 3 }
 {
     match read_words(rt.alloc(), words) {
@@ -141,6 +154,7 @@ pub fn run_words<
                 operator,
                 names,
                 events,
+                status,
                 journal,
                 is_synced,
             },
@@ -163,8 +177,9 @@ pub fn run_words<
                     is_synced,
                 },
                 events,
+                status,
             };
-            live_file(rt, paths, &bus, options, out, err, is_coloured)
+            live_file(rt, paths, &bus, options, files, out, err, is_coloured)
         }
         Ok(Action::Replay) => replay_text(rt.alloc(), input, out, err),
         Ok(Action::Mend) => mend_text(rt.alloc(), input, out, err),

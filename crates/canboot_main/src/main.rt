@@ -6,8 +6,9 @@
 //! status report.
 #![tactic(auto)]
 
+use canboot::HostFiles;
 use std::process::ExitCode;
 
 fn main(rt: HostRuntime) -> ExitCode {
-    canboot::run(&rt, &mut rt.stderr())
+    canboot::run(&rt, &mut rt.stderr(), HostFiles::new(rt))
 }

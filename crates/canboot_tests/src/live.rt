@@ -4,7 +4,9 @@
 ghost use Rattle.std.specs.Prelude.{◌≡◌, ◌≤◌, length};
 
 use crate::runs::full_list;
-use canboot::{JournalOutput, LiveEnds, LiveOptions, Outlet, live_text, replay_text};
+use canboot::{
+    Followed, JournalOutput, LiveEnds, LiveOptions, NoFiles, Outlet, live_text, replay_text,
+};
 use cm_can::{CanFrame, Kind, read_log_line};
 use cm_live::Format;
 use crossbeam_channel::{Receiver, Sender};
@@ -199,7 +201,7 @@ impl<R: Wait + Drop> Read for Typing<R> {
 /// The writers of a bus, one for each of four workers and one for messages, what is heard of it, and who types.
 #[derive(Drop)]
 pub(crate) struct Bus<R: Wait + Drop> {
-    ends: LiveEnds<Answered<R>, Typing<R>, Devices<R>, Vec<u8>>,
+    ends: LiveEnds<Answered<R>, Typing<R>, Devices<R>, Vec<u8>, NoFiles>,
     messages: Outlet<Devices<R>>,
 }
 
@@ -292,7 +294,10 @@ pub(crate) fn bus_of<R: Wait + Clone + Drop>(
             typed,
             written,
             error_control,
-            events: None,
+            followed: Followed {
+                events: None,
+                status: None,
+            },
         },
         messages: Outlet::new(sent, Format::CanUtils),
     })

@@ -1,6 +1,6 @@
 //! Readers and writers that fail, and what canboot does with them.
 
-use canboot::{LONGEST_JOURNAL, LONGEST_LIST, check_text, replay_text, run_words};
+use canboot::{LONGEST_JOURNAL, LONGEST_LIST, NoFiles, check_text, replay_text, run_words};
 use std::alloc::{AllocError, Global};
 use std::fs::File;
 use std::io::{self, ErrorKind, Read, StdinLock, Write};
@@ -321,7 +321,15 @@ fn status_of<
         writes: 0,
         flushes: true,
     };
-    Ok(run_words(rt, line.as_slice(), &mut input, &mut out, &mut err, false))
+    Ok(run_words(
+        rt,
+        line.as_slice(),
+        &mut input,
+        &mut out,
+        &mut err,
+        NoFiles,
+        false,
+    ))
 }
 
 #[test]

@@ -8,7 +8,7 @@ use Rattle.canboot_words.specs.declared.command_line.Action.TheVariants as actio
 abbrev pub IsInRange : Action → Type 0
 IsInRange (action.Check n) = Unit {0}
 IsInRange (action.Run n workers attempts silent journal) = (1 ≤ workers) × (workers ≤ 16) × (1 ≤ attempts) × (attempts ≤ 10)
-IsInRange (action.Live n bus workers attempts answer settle heartbeat seconds operator journal synced names events) =
+IsInRange (action.Live n bus workers attempts answer settle heartbeat seconds operator journal synced names events status) =
     (1 ≤ workers) × (workers ≤ 16) × (1 ≤ attempts) × (attempts ≤ 10) × (1 ≤ answer) × (answer ≤ 60000)
     × ((heartbeat ≡ 0) ⊎ (10 ≤ heartbeat))
 IsInRange action.Replay = Unit {0}

@@ -66,6 +66,8 @@ pub enum Action<'a> {
         names: Option<&'a str>,
         /// The path to which each thing that is told is written as a JSON object, if there is one.
         events: Option<&'a str>,
+        /// The path of the file that has the report so far as a JSON object, if there is one.
+        status: Option<&'a str>,
     },
     /// Read a journal, and print its report.
     Replay,

@@ -312,6 +312,11 @@ With --events FILE each thing that is told is written to FILE too, as a JSON
 object on a line of its own. Want of a reader never stops the run: what FILE
 doesn't take is left out and counted (events_left_out).
 
+With --status FILE the report so far stands in FILE as a JSON object. It is
+written each second in which something has happened, and at the end of the run:
+as FILE.new, which then takes the place of FILE, so that whoever reads FILE
+finds a whole report. Want of a disk never stops the run: it is told once.
+
 The run ends with 'quit'; --for SECONDS behind the end of the operator's input, where that is \
 given (a FIFO of --operator has none); or where no more frames can be received or sent. Without an \
 operator and --for it goes on. \

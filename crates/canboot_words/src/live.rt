@@ -85,6 +85,11 @@ fn events_argument<'a>(alloc: Global) -> Arg<'a> {
     option(alloc, "events", "FILE", help)
 }
 
+fn status_argument<'a>(alloc: Global) -> Arg<'a> {
+    let help = "The path of a file that has the report so far as a JSON object";
+    option(alloc, "status", "FILE", help)
+}
+
 fn arguments<'a>(alloc: Global) -> Result<Vec<Arg<'a>>, AllocError> {
     listed(
         alloc,
@@ -104,6 +109,7 @@ fn arguments<'a>(alloc: Global) -> Result<Vec<Arg<'a>>, AllocError> {
             sync_argument(alloc),
             Ok(names_argument(alloc)),
             Ok(events_argument(alloc)),
+            Ok(status_argument(alloc)),
         ],
     )
 }
@@ -186,5 +192,6 @@ pub(crate) fn live_action<'a>(alloc: Global, given: &ArgMatches<'a>) -> Result<A
         is_synced: given.get_flag("journal-sync"),
         names: given.get_str("names"),
         events: given.get_str("events"),
+        status: given.get_str("status"),
     })
 }

@@ -12,7 +12,6 @@
 mod book;
 mod carrying;
 mod closing;
-mod copying;
 mod fault;
 mod opened;
 mod register;
@@ -25,7 +24,6 @@ pub use cm_recorder::{Recorder, Unrecorded};
 pub use cm_seat::{
     CallFault, Made, ReadFault, Receipt, RunName, Seat, SeatList, Seen, SharedManager,
 };
-pub use copying::SoFar;
-pub use fault::{CopyFault, OpenFault};
+pub use fault::OpenFault;
 pub use opened::{NotOpened, Opened};
 pub use register::{CloseFault, Register};

@@ -16,8 +16,6 @@ mod can_lines;
 #[cfg(test)]
 mod closing;
 #[cfg(test)]
-mod copies;
-#[cfg(test)]
 mod devices;
 #[cfg(test)]
 mod first_use;

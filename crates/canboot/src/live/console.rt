@@ -16,16 +16,16 @@ ghost use Rattle.cm_live.specs.declared.console.Command.TheVariants.{Start};
 
 use crate::live::ending::Ending;
 use crate::live::register::LiveRegister;
+use crate::live::versions::report_seen;
 use crate::live::watching::Watcher;
 use canboot_words::{Bad, NoBootOf, say};
 use cm_history::Call;
-use cm_journal::report_of;
 use cm_live::{BadLine, BusName, Command, TypedLine, read_command};
 use cm_netlist::Network;
 use cm_nmt::NodeId;
 use cm_register::RunName;
 use cm_watch::{Event, Happening as Watched, NoBoot, Watch};
-use std::io::Write;
+use std::io::{self, Write};
 use std::sync::Wait;
 use std::time::Clock;
 
@@ -43,6 +43,14 @@ status                 the report so far
 help                   this
 quit, exit             end the run
 Numbers are decimal, or hexadecimal behind 0x.";
+
+/// Writes a text a line at a time, since each write that ends a line gets its time.
+fn write_lines<E: Write>(err: &mut E, text: &[u8]) -> io::Result<()> {
+    for line in text.split_inclusive(|byte| *byte == b'\n') {
+        err.write_all(line)?;
+    }
+    Ok(())
+}
 
 /// Why the slave isn't booted though the operator asks for it; none where the watch is asked.
 fn no_boot(network: &Network, watch: &Watch, id: NodeId) -> Option<NoBoot>
@@ -123,18 +131,31 @@ impl<'w, 'a, 'n, R: Wait + Clock + Drop, K: RunName, B: BusName, M: LiveRegister
         }
     }
 
-    /// The report of what has happened so far.
-    fn report<E: Write>(&self, err: &mut E) {
+    /// Shows the report of what has happened so far.
+    fn report<E: Write>(&mut self, err: &mut E)
+        ensures progress { self.new.progress ≡ self.old.progress }
+        ensures network { self.new.network ≡ self.old.network }
+        ensures calls { self.new.operator ≡ self.old.operator }
+    {
+        let mut text = Vec::new(self.setting.alloc);
         let seat = self.operator.as_seat();
-        let alloc = self.setting.alloc;
-        match self.register.so_far(self.setting.rt, seat, alloc) {
-            Ok(so_far) => {
-                let entries = so_far.history.as_slice();
-                let _ = report_of(self.register.network(), &so_far.manager, entries, err);
-            }
-            Err(fault) => {
-                let _ = writeln!(err, "canboot: {fault}");
-            }
+        let network = self.register.network();
+        let _ = if report_seen(&mut self.versions, network, seat, &mut text) {
+            write_lines(err, text.as_slice())
+        } else {
+            writeln!(err, "canboot: out of memory")
+        };
+    }
+
+    /// Shows the report, if the operator has asked for it, once a version was shown with all that has happened.
+    pub(crate) fn report_if_due<E: Write>(&mut self, err: &mut E)
+        ensures progress { self.new.progress ≡ self.old.progress }
+        ensures network { self.new.network ≡ self.old.network }
+        ensures calls { self.new.operator ≡ self.old.operator }
+    {
+        if self.is_report_due {
+            self.is_report_due = false;
+            self.report(err);
         }
     }
 
@@ -176,7 +197,7 @@ impl<'w, 'a, 'n, R: Wait + Clock + Drop, K: RunName, B: BusName, M: LiveRegister
                 self.boot_now(err, *id, now);
             }
             Command::Start => self.start(line)?,
-            Command::Status => self.report(err),
+            Command::Status => self.is_report_due = true,
             Command::Help => {
                 let _ = say(err, &TYPING);
             }

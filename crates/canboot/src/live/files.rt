@@ -5,8 +5,9 @@ ghost use Rattle.canboot.specs.Program.{channel_closing, channel_opening, format
 
 use crate::live::journal_file::make_journal;
 use crate::live::operator_input::{OperatorInput, open_operator};
-use crate::live::{LiveEnds, LiveOptions, live_text};
-use crate::program::{is_list, write_fault};
+use crate::live::paths::{JournalPath, LivePaths, wrong_path};
+use crate::live::{Followed, LiveEnds, LiveOptions, ReplaceFile, StatusFile, live_text};
+use crate::program::write_fault;
 use canboot_check::{
     CheckFault, FAILED, LONGEST_LIST, MISUSED, REFUSED, fault_line, read_fault, read_list, refuse,
 };
@@ -78,29 +79,6 @@ fn writers_to(alloc: Global, file: &File, count: u8) -> io::Result<Vec<BufWriter
     Ok(writers)
 }
 
-/// What a live run writes its journal to, and how.
-#[derive(Clone, Copy, Debug, PartialEq, Eq)]
-pub(crate) struct JournalPath<'a> {
-    /// The path of its file, if it is written.
-    pub(crate) path: Option<&'a str>,
-    /// Whether each line is put on the disk before the next step.
-    pub(crate) is_synced: bool,
-}
-
-/// The files of a live run, besides those of the bus.
-#[derive(Clone, Copy, Debug, PartialEq, Eq)]
-pub(crate) struct LivePaths<'a> {
-    /// The network list.
-    pub(crate) network: &'a str,
-    /// The names of nodes, if there are some.
-    pub(crate) names: Option<&'a str>,
-    /// The FIFO in which the operator's lines come; none: standard input.
-    pub(crate) operator: Option<&'a str>,
-    pub(crate) journal: JournalPath<'a>,
-    /// To what each thing that is told is written, if it is.
-    pub(crate) events: Option<&'a str>,
-}
-
 /// The fault of an operator's file that can't be opened, or is no FIFO.
 fn operator_fault<E: Write>(err: &mut E, kind: ErrorKind) -> u8
     ensures { result ≡ 3 }
@@ -149,15 +127,6 @@ fn read_names_file<R: Files + AllocGlobal, E: Write>(
     }
 }
 
-/// What is wrong with the paths to which is written, if something is: none is the network list itself.
-fn wrong_path<R: Files>(rt: &R, paths: &LivePaths<'_>) -> Option<&'static str> {
-    if is_list(rt, paths.network, paths.events) {
-        Some("the file of the events is the network list")
-    } else {
-        None
-    }
-}
-
 /// Opens what events are written to, if they are: it is made where it isn't there, and what it has stays. A FIFO is opened both ways,
 /// so that nobody needs to read it.
 fn open_events<R: Files<File = File>>(rt: &R, path: Option<&str>) -> io::Result<Option<File>> {
@@ -172,23 +141,52 @@ fn open_events<R: Files<File = File>>(rt: &R, path: Option<&str>) -> io::Result<
     Ok(Some(file))
 }
 
+/// Where the report so far is written, if it is.
+fn status_file<F: Drop>(
+    alloc: Global,
+    path: Option<&str>,
+    files: F,
+) -> io::Result<Option<StatusFile<F>>> {
+    let Some(path) = path else {
+        return Ok(None);
+    };
+    let path = String::from_str(alloc, path)?;
+    Ok(Some(StatusFile { files, path }))
+}
+
+/// Opens where other programs follow a live run.
+fn open_followed<R: Files<File = File> + AllocGlobal, F: Drop>(
+    rt: &R,
+    paths: &LivePaths<'_>,
+    files: F,
+) -> io::Result<Followed<File, F>> {
+    let events = open_events(rt, paths.events)?;
+    let status = status_file(rt.alloc(), paths.status, files)?;
+    Ok(Followed { events, status })
+}
+
 /// What a live run reads and writes, opened.
 #[derive(Drop)]
-struct OpenEnds {
-    ends: LiveEnds<File, OperatorInput, BufWriter<File>, File>,
+struct OpenEnds<F> {
+    ends: LiveEnds<File, OperatorInput, BufWriter<File>, File, F>,
     messages: Outlet<BufWriter<File>>,
     /// The bus itself.
     sent: File,
 }
 
 /// Opens what a live run reads and writes, but for its journal. The answer is else the exit status.
-fn open_ends<R: Files<File = File> + Input<Reader = StdinLock<'static>> + AllocGlobal, E: Write>(
+fn open_ends<
+    R: Files<File = File> + Input<Reader = StdinLock<'static>> + AllocGlobal,
+    F: Drop,
+    E: Write,
+>(
     rt: &R,
     paths: &LivePaths<'_>,
     bus: &BusPaths<'_>,
     options: &LiveOptions,
+    files: F,
     err: &mut E,
-) -> Result<OpenEnds, u8>
+) -> Result<OpenEnds<F>, u8>
     requires workers { (1 ≤ options.now.workers) × (options.now.workers ≤ 16) }
     ensures { IfErr result (λ status. status ≡ 3) }
 {
@@ -208,8 +206,8 @@ fn open_ends<R: Files<File = File> + Input<Reader = StdinLock<'static>> + AllocG
     let (Some(writer), Some(error_control)) = (written.pop(), written.pop()) else {
         return Err(fault_line(err, FAILED, "out of memory"));
     };
-    let events = match open_events(rt, paths.events) {
-        Ok(events) => events,
+    let followed = match open_followed(rt, paths, files) {
+        Ok(followed) => followed,
         Err(error) => return Err(write_fault(err, error.kind())),
     };
     Ok(OpenEnds {
@@ -218,7 +216,7 @@ fn open_ends<R: Files<File = File> + Input<Reader = StdinLock<'static>> + AllocG
             typed,
             written,
             error_control,
-            events,
+            followed,
         },
         messages: Outlet::new(writer, options.format),
         sent,
@@ -238,6 +236,7 @@ fn live_over<
         + Sync
         + Drop
         + 'static,
+    F: ReplaceFile + Send + Drop + 'static,
     O: Write,
     E: Write,
 >(
@@ -245,7 +244,7 @@ fn live_over<
     text: &[u8],
     journal: JournalPath<'_>,
     options: LiveOptions,
-    opened: OpenEnds,
+    opened: OpenEnds<F>,
     out: &mut O,
     shown: &mut ShownLines<'_, R, E>,
 ) -> u8
@@ -293,6 +292,7 @@ pub(crate) fn live_file<
         + Sync
         + Drop
         + 'static,
+    F: ReplaceFile + Send + Drop + 'static,
     O: Write,
     E: Write,
 >(
@@ -300,6 +300,7 @@ pub(crate) fn live_file<
     paths: LivePaths<'_>,
     bus: &BusPaths<'_>,
     options: LiveOptions,
+    files: F,
     out: &mut O,
     err: &mut E,
     is_coloured: bool,
@@ -322,7 +323,7 @@ pub(crate) fn live_file<
         Ok(names) => names,
         Err(status) => return status,
     };
-    let opened = match open_ends(rt, &paths, bus, &options, err) {
+    let opened = match open_ends(rt, &paths, bus, &options, files, err) {
         Ok(opened) => opened,
         Err(status) => return status,
     };

@@ -1,36 +1,32 @@
 //! The register of a live run, as its threads see it.
 
-ghost use Rattle.std.specs.Prelude.{IfOk, IfSome, reverse};
-ghost use Rattle.cm_history.specs.Legal.{IsLegal};
-ghost use Rattle.cm_netlist.specs.Network.{listing};
-ghost use Rattle.cm_seat.specs.Reads.{IsKnown};
-ghost use Rattle.cm_sequential.specs.Standing.{Stands};
+ghost use Rattle.std.specs.Prelude.{◌≡◌, ◌++◌, [], IfNone, IfSome};
 
+use cm_history::Entry;
 use cm_nmt::Wire;
-use cm_register::{CopyFault, Recorder, Register, RunName, Seat, SharedManager, SoFar};
-use cm_sequential::Manager;
-use std::alloc::Global;
+use cm_past::Past;
+use cm_register::{Recorder, Register, RunName, SharedManager};
 use std::sync::Wait;
 
-/// A manager that the threads of a live run share, and of which the one that watches reads more.
+/// A manager that the threads of a live run share, whose entries the one that watches takes in batches.
 pub(crate) trait LiveRegister<K: RunName, R: Wait>: SharedManager<K, R> {
-    /// The manager now, as a copy, as the register gives it to this seat. It waits for the lock.
-    fn manager(&self, rt: &R, seat: &Seat<K>) -> Option<Manager>
-        ensures { IfSome result (λ m. (h : _) × IsLegal (listing K.net) (reverse h)
-            × IsKnown h seat.now × Stands m K.net (reverse h)) };
+    /// The history up to now, as what is known of it from now on. It waits for the lock.
+    fn past(&self, rt: &R) -> Past<K>;
 
-    /// The history up to now, and the manager that stands for it, as copies, as the register gives them to this
-    /// seat. It waits for the lock.
-    fn so_far(&self, rt: &R, seat: &Seat<K>, alloc: Global) -> Result<SoFar, CopyFault>
-        ensures { IfOk result (λ s. Stands s.manager K.net (reverse s.history.items)) };
+    /// Copies of the entries behind what is known already, as many as the buffer has room for, and what is known with
+    /// them. It waits for the lock, and holds it for these copies alone.
+    fn entries_from(&self, rt: &R, known: &Past<K>, buffer: &mut Vec<Entry>) -> Option<Past<K>>
+        requires { buffer.old.items ≡ [] }
+        ensures taken { IfSome result (λ p. p ≡ known.now ++ buffer.new.items) }
+        ensures none { IfNone result (buffer.new ≡ buffer.old) };
 }
 
 impl<'n, W: Wire, K: RunName, J: Recorder, R: Wait> LiveRegister<K, R> for Register<'n, W, K, J> {
-    fn manager(&self, rt: &R, seat: &Seat<K>) -> Option<Manager> {
-        Register::manager(self, rt, seat)
+    fn past(&self, rt: &R) -> Past<K> {
+        Register::past(self, rt)
     }
 
-    fn so_far(&self, rt: &R, seat: &Seat<K>, alloc: Global) -> Result<SoFar, CopyFault> {
-        Register::so_far(self, rt, seat, alloc)
+    fn entries_from(&self, rt: &R, known: &Past<K>, buffer: &mut Vec<Entry>) -> Option<Past<K>> {
+        Register::entries_from(self, rt, known, buffer)
     }
 }

@@ -7,10 +7,12 @@ ghost use Rattle.canboot.specs.Going.{Follows};
 ghost use Rattle.canboot.specs.Running.{AreRunningOn};
 
 use crate::live::register::LiveRegister;
+use crate::live::versions::manager_seen;
 use crate::live::watching::{MOST_TAKEN, Watcher, is_set};
 use canboot_words::{EntryWords, Nodes, RunEnds, running_by, say, tell_entry, tell_told};
 use cm_live::{BusName, Happening};
 use cm_register::RunName;
+use cm_versions::Publisher;
 use cm_watch::Event;
 use crossbeam_channel::Receiver;
 use std::io::Write;
@@ -27,14 +29,26 @@ impl<'w, 'a, 'n, R: Wait + Clock + Drop, K: RunName, B: BusName, M: LiveRegister
     B,
     M,
 > {
-    /// The nodes that are operational now, as the register's manager knows it, if the register gives one.
-    fn running(&self) -> Option<Nodes>
-        ensures { self.now.network.now ≡ K.net
-            → IfSome result (λ nodes. AreRunningOn K.net self.now.operator nodes.0.items) }
+    /// The nodes that are operational, as the manager of the newest version knows it, if that has all that the operator's seat knows.
+    fn running(&mut self) -> Option<Nodes>
+        ensures running { self.old.network.now ≡ K.net
+            → IfSome result (λ nodes. AreRunningOn K.net self.old.operator nodes.0.items) }
+        ensures progress { self.new.progress ≡ self.old.progress }
+        ensures network { self.new.network ≡ self.old.network }
+        ensures calls { self.new.operator ≡ self.old.operator }
     {
         let seat = self.operator.as_seat();
-        let manager = self.register.manager(self.setting.rt, seat)?;
+        let manager = manager_seen(&mut self.versions, seat)?;
         Some(running_by(self.network, &manager))
+    }
+
+    /// The same, where the network was halted.
+    fn running_if(&mut self, is_halted: bool) -> Option<Nodes>
+        ensures progress { self.new.progress ≡ self.old.progress }
+        ensures network { self.new.network ≡ self.old.network }
+        ensures calls { self.new.operator ≡ self.old.operator }
+    {
+        if is_halted { self.running() } else { None }
     }
 
     /// Tells the next entry that waits, if its frames were handed to the wire; at the end of the run, also if not. Whether
@@ -60,17 +74,13 @@ impl<'w, 'a, 'n, R: Wait + Clock + Drop, K: RunName, B: BusName, M: LiveRegister
                 .unbooted(&untold.value, &self.progress.watch),
         };
         let _ = tell_entry(err, &words);
-        let running = if untold.told.is_halted {
-            self.running()
-        } else {
-            None
-        };
+        let running = self.running_if(untold.told.is_halted);
         let _ = tell_told(err, &running, &untold.value, &untold.told);
         self.follow_told(&untold, is_handed, &running);
         true
     }
 
-    /// Tells once what can't be written: the journal, the events.
+    /// Tells once what can't be written: the journal, the file of the status, the events.
     fn tell_unwritten<E: Write>(&mut self, err: &mut E)
         ensures progress { self.new.progress ≡ self.old.progress }
         ensures network { self.new.network ≡ self.old.network }
@@ -80,6 +90,10 @@ impl<'w, 'a, 'n, R: Wait + Clock + Drop, K: RunName, B: BusName, M: LiveRegister
             self.is_unrecorded_told = true;
             let _ = say(err, &"journal: write failed; what follows isn't recorded");
             self.follow(&Event::JournalFailed);
+        }
+        if is_set(&self.setting.unshown) && !self.is_unshown_told {
+            self.is_unshown_told = true;
+            let _ = say(err, &"status: write failed; it is tried again each second");
         }
         if self.events.take_cut() {
             let _ = say(
@@ -106,7 +120,12 @@ impl<'w, 'a, 'n, R: Wait + Clock + Drop, K: RunName, B: BusName, M: LiveRegister
     }
 
     /// Tells what was recorded by now and wasn't told yet, at the end of the run, and which nodes run on.
-    pub(crate) fn tell_rest<E: Write>(&mut self, err: &mut E, happenings: &Receiver<Happening>)
+    pub(crate) fn tell_rest<E: Write>(
+        &mut self,
+        err: &mut E,
+        happenings: &Receiver<Happening>,
+        publisher: &mut Publisher<K, R>,
+    )
         ensures calls { self.new.operator ≡ self.old.operator }
     {
         for _ in 0..MOST_TAKEN {
@@ -120,6 +139,8 @@ impl<'w, 'a, 'n, R: Wait + Clock + Drop, K: RunName, B: BusName, M: LiveRegister
                 }
             }
         }
+        self.show(publisher);
+        self.report_if_due(err);
         self.tell(err, true);
         let running = self.running();
         let _ = say(err, &RunEnds(&running));

@@ -26,6 +26,8 @@ pub(crate) struct Setting<'a, 'n, R> {
     pub(crate) broken: Arc<AtomicBool>,
     /// Set once a line of the journal couldn't be written.
     pub(crate) unrecorded: Arc<AtomicBool>,
+    /// Set once the file of the status couldn't be written.
+    pub(crate) unshown: Arc<AtomicBool>,
     /// Set once an entry couldn't be told, since memory was refused.
     pub(crate) untold: Arc<AtomicBool>,
     /// How many NMT frames were written.
@@ -68,6 +70,7 @@ pub(crate) fn set_up<'a, 'n, R: Clock>(
         heartbeats: Arc::new(alloc, Heartbeats::new(alloc)?)?,
         broken: Arc::new(alloc, AtomicBool::new(false))?,
         unrecorded: Arc::new(alloc, AtomicBool::new(false))?,
+        unshown: Arc::new(alloc, AtomicBool::new(false))?,
         untold: Arc::new(alloc, AtomicBool::new(false))?,
         handed: Arc::new(alloc, AtomicU64::new(0))?,
         happenings: tells,

@@ -16,6 +16,7 @@ use crate::live::ending::{Ending, can_go_on};
 use crate::live::events::Events;
 use crate::live::operator_seat::OperatorSeat;
 use crate::live::progress::{Progress, note_heartbeats};
+use crate::live::publishing::Batches;
 use crate::live::register::LiveRegister;
 use crate::live::setting::Setting;
 use cm_history::{Call, Entry};
@@ -23,6 +24,7 @@ use cm_live::{BusName, Happening, Outlet, TypedLine};
 use cm_netlist::Network;
 use cm_nmt::NodeId;
 use cm_register::{CallFault, RunName};
+use cm_versions::{Publisher, VersionReader};
 use cm_watch::{Happening as Watched, Notices, Pace, Settings};
 use crossbeam_channel::{Receiver, Sender};
 use std::io::Write;
@@ -58,9 +60,16 @@ pub(crate) struct Watcher<
     pub(crate) progress: Progress<Entry>,
     pub(crate) notices: Notices,
     pub(crate) events: Events,
+    /// Who reads versions of the history.
+    pub(crate) versions: VersionReader<K>,
+    batches: Batches,
+    /// The operator has asked for the report.
+    pub(crate) is_report_due: bool,
     pace: Pace,
     /// It was told that a line of the journal couldn't be written.
     pub(crate) is_unrecorded_told: bool,
+    /// It was told that the file of the status couldn't be written.
+    pub(crate) is_unshown_told: bool,
 }
 
 /// Whether this was set by another thread.
@@ -95,6 +104,7 @@ impl<'w, 'a, 'n, R: Wait + Clock + Drop, K: RunName, B: BusName, M: LiveRegister
         typed: Receiver<TypedLine<B>>,
         jobs: Vec<Sender<NodeId>>,
         events: Events,
+        versions: VersionReader<K>,
     ) -> Watcher<'w, 'a, 'n, R, K, B, M>
         ensures operator { result.operator ≡ operator }
         ensures network { result.network ≡ setting.now.network }
@@ -115,9 +125,18 @@ impl<'w, 'a, 'n, R: Wait + Clock + Drop, K: RunName, B: BusName, M: LiveRegister
             progress: Progress::new(setting.alloc, settings),
             notices: Notices::new(),
             events,
+            versions,
+            batches: Batches::new(setting.alloc),
+            is_report_due: false,
             pace: Pace::new(),
             is_unrecorded_told: false,
+            is_unshown_told: false,
         }
+    }
+
+    /// No slave is handed to a worker any more, by which each ends once it has done what it has.
+    pub(crate) fn release_workers(&mut self) {
+        self.jobs.clear();
     }
 
     /// The operator's seat, once nothing is watched any more.
@@ -287,18 +306,30 @@ impl<'w, 'a, 'n, R: Wait + Clock + Drop, K: RunName, B: BusName, M: LiveRegister
         Ok(())
     }
 
-    /// One turn: takes what has happened, sends what is to be sent for error control, and looks at the time once that was all that
-    /// was received.
+    /// Shows readers a version with all that the register has; where memory is refused the next turn does.
+    pub(crate) fn show(&mut self, publisher: &mut Publisher<K, R>)
+        ensures progress { self.new.progress ≡ self.old.progress }
+        ensures network { self.new.network ≡ self.old.network }
+        ensures calls { self.new.operator ≡ self.old.operator }
+    {
+        let _ = self.batches.show(self.setting.rt, self.register, publisher);
+    }
+
+    /// One turn: takes what has happened, shows readers a version of it, sends what is to be sent for error control, and looks at the
+    /// time once that was all that was received.
     fn turn<E: Write, W: Write + Drop>(
         &mut self,
         err: &mut E,
         happenings: &Receiver<Happening>,
         outlet: &mut Outlet<W>,
+        publisher: &mut Publisher<K, R>,
     ) -> Result<(), Ending>
         ensures goes_on { IfOk result
             (λ _. GoesOn self.old.network.now self.old.progress self.new.network.now self.new.progress) }
     {
         self.take_all(err, happenings)?;
+        self.show(publisher);
+        self.report_if_due(err);
         let now = self.now();
         let heartbeats = &self.setting.heartbeats;
         note_heartbeats(&mut self.progress.watch, self.network, heartbeats, now);
@@ -317,16 +348,18 @@ impl<'w, 'a, 'n, R: Wait + Clock + Drop, K: RunName, B: BusName, M: LiveRegister
         Ok(())
     }
 
-    /// Watches the network until the run is to end. What is sent for error control is written to this outlet.
+    /// Watches the network until the run is to end. What is sent for error control is written to this outlet, and versions are shown
+    /// by this publisher.
     pub(crate) fn watch<E: Write, W: Write + Drop>(
         &mut self,
         err: &mut E,
         happenings: &Receiver<Happening>,
         outlet: &mut Outlet<W>,
+        publisher: &mut Publisher<K, R>,
     ) -> Ending {
         for _ in self.setting.rt.forever() {
-            if let Err(ending) = self.turn(err, happenings, outlet) {
-                self.tell_rest(err, happenings);
+            if let Err(ending) = self.turn(err, happenings, outlet, publisher) {
+                self.tell_rest(err, happenings, publisher);
                 return ending;
             }
         }

@@ -2,7 +2,7 @@ use crate::cases::case::{Case, Source};
 use crate::cases::compared::Compared;
 use crate::cases::text::{Part, Text};
 use crate::cases::watching::tell_story;
-use canboot::run_words;
+use canboot::{NoFiles, run_words};
 use std::alloc::{AllocError, Global};
 use std::fs::{self, File};
 use std::io::{self, StdinLock, Write};
@@ -148,7 +148,15 @@ pub fn run_case<
         run_story(alloc, &mut input, &mut out)?
     } else {
         let words = words_of(alloc, case)?;
-        run_words(rt, words.as_slice(), &mut input, &mut out, &mut err, false)
+        run_words(
+            rt,
+            words.as_slice(),
+            &mut input,
+            &mut out,
+            &mut err,
+            NoFiles,
+            false,
+        )
     };
     Ok(Outcome {
         same_out: out.is_same()?,

@@ -10,19 +10,23 @@ use Rattle.canboot.proofs.Going.{heard_on, on_and_on, steps_on, still}
 use Rattle.canboot.proofs.live.watching.Watcher.turn.Goals as goal
 use Rattle.canboot.proofs.live.watching.Watcher.turn.Goals.{After-send_error_control}
 
--- what happened was taken, and told, and what is sent for error control was sent
+-- what happened was taken, shown and told, and what is sent for error control was sent
 so_far : (g : _) (c : After-send_error_control g)
     → ((s : Settings) (past : Past) → Follows c.tell_left_out.new.self.progress c.tell_left_out.new.self.network.now s past
     → Follows c.send_error_control.new.self.progress c.tell_left_out.new.self.network.now s (given c.now-now.result (error_control_at c.tell_left_out.new.self.network.now s past c.now-now.result) past))
     → GoesOn c.args.self.now.network.now c.args.self.now.progress c.send_error_control.new.self.network.now c.send_error_control.new.self.progress
 so_far g c sends =
-    let taken = c.take_all.new.self in
+    let took = c.take_all.new.self in
+    let taken = c.report_if_due.new.self in
     let heard : Progress Entry = record { watch = c.note_heartbeats.new.watch; waiting = taken.progress.waiting; tried = taken.progress.tried } in
     let told = c.tell_left_out.new.self in
     let sent = c.send_error_control.new.self in
     on_and_on c.args.self.now.network.now c.args.self.now.progress told.network.now told.progress sent.network.now sent.progress
     (on_and_on c.args.self.now.network.now c.args.self.now.progress taken.network.now heard told.network.now told.progress
-    (on_and_on c.args.self.now.network.now c.args.self.now.progress taken.network.now taken.progress taken.network.now heard c.in_ok-take_all.ensures.goes_on
+    (on_and_on c.args.self.now.network.now c.args.self.now.progress taken.network.now taken.progress taken.network.now heard
+    (on_and_on c.args.self.now.network.now c.args.self.now.progress took.network.now took.progress taken.network.now taken.progress c.in_ok-take_all.ensures.goes_on
+    (still took.network.now took.progress taken.network.now taken.progress (ap (λ n. n.now) (c.report_if_due.ensures.network ∙ c.show.ensures.network))
+    (λ s past f. subst (λ (p : Progress Entry). Follows p took.network.now s past) (sym (c.report_if_due.ensures.progress ∙ c.show.ensures.progress)) f)))
     (heard_on taken.network.now taken.progress heard c.now-now.result refl refl c.note_heartbeats.ensures.told))
     (still taken.network.now heard told.network.now told.progress (ap (λ n. n.now) (c.tell_left_out.ensures.network ∙ c.tell.ensures.network))
     (λ s past f. subst (λ (p : Progress Entry). Follows p taken.network.now s past) (sym c.tell_left_out.ensures.progress) (c.tell.ensures.follows s past f))))
