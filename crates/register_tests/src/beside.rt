@@ -58,12 +58,12 @@ fn boots_beside<'a, K: RunName + Send + Sync, R: Wait + Threads + Abort + Send +
 ) -> Booted<HeldBus<'a>, K> {
     let buses = held(rt, alloc, register.network(), 1, asked, called, 1);
     let attempts = story.attempts;
-    thread::scope(thread::scope_env(), rt, |scope| {
-        let boot = scope.spawn(move || boot_all(rt, alloc, register, seats, buses, attempts));
-        let boot = boot.ok().expect(rt, "a thread");
-        calls_when_asked(rt, register, operator, story, asked, called);
-        boot.join(rt).ok().expect(rt, "all booted")
-    })
+    let (booted, ()) = thread::join(
+        rt,
+        move || boot_all(rt, alloc, register, seats, buses, attempts),
+        || calls_when_asked(rt, register, &mut *operator, story, asked, called),
+    );
+    booted.ok().expect(rt, "all booted")
 }
 
 /// The operator calls while the worker asks node 2; the worker's seat comes back.

@@ -19,25 +19,11 @@ const HEARTBEAT: Write = Write {
     value: 100,
 };
 
-/// These bytes, and zeros behind them.
-fn padded(data: &[u8]) -> [u8; 8] {
-    let mut bytes = [0; 8];
-    for (byte, place) in data.iter().zip(bytes.iter_mut()) {
-        *place = *byte;
-    }
-    bytes
-}
-
 /// A data frame.
 fn frame(rt: &impl Abort, id: u16, data: &[u8]) -> CanFrame {
     let id = CanId::new(id).expect(rt, "an identifier");
-    let len = if data.len() < 8 { data.len() as u8 } else { 8 };
-    CanFrame {
-        id,
-        kind: Kind::Data,
-        len,
-        bytes: padded(data),
-    }
+    assert!(rt; data.len() <= 8);
+    CanFrame::with(id, data)
 }
 
 /// Asserts which frame asks node 2 this question.

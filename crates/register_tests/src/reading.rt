@@ -56,12 +56,12 @@ fn boots_beside<'a, K: RunName + Send + Sync, R: Wait + Threads + Abort + Send +
     let workers = seats.len();
     let net = register.network();
     let buses = held(rt, alloc, net, workers, asked, reads, HELD_FOR);
-    thread::scope(thread::scope_env(), rt, |scope| {
-        let boot = scope.spawn(move || boot_all(rt, alloc, register, seats, buses, 2));
-        let boot = boot.ok().expect(rt, "a thread");
-        reads_in_turn(rt, reader, asked, reads);
-        boot.join(rt).ok().expect(rt, "all booted")
-    })
+    let (booted, ()) = thread::join(
+        rt,
+        move || boot_all(rt, alloc, register, seats, buses, 2),
+        || reads_in_turn(rt, &mut *reader, asked, reads),
+    );
+    booted.ok().expect(rt, "all booted")
 }
 
 /// Asserts that the seat sees both slaves booted, though it made no call but the start.

@@ -57,6 +57,17 @@ fn start<R: Wait, K: RunName>(
     }
 }
 
+/// What was booted, with the nanoseconds that it took, where the clock gave them.
+fn timed<K: RunName, B: Bus>(
+    nanos: Option<u128>,
+    booted: Booted<B, K>,
+) -> Option<(u128, Booted<B, K>)> {
+    match nanos {
+        Some(nanos) => Some((nanos, booted)),
+        None => None,
+    }
+}
+
 /// Boots the network by the workers of these seats, and gives the nanoseconds that it took. `None` where the clock
 /// failed, and where not every slave was booted.
 fn boot_by<R: Clock + Threads + Wait + Send + Sync, K: RunName + Send + Sync, B: Bus + Send>(
@@ -65,10 +76,12 @@ fn boot_by<R: Clock + Threads + Wait + Send + Sync, K: RunName + Send + Sync, B:
     register: &Register<SimWire, K>,
     seats: Vec<Seat<K>>,
     buses: Vec<B>,
-) -> (Option<u128>, Option<Booted<B, K>>) {
+) -> Option<(u128, Booted<B, K>)> {
     let from = Instant::now(rt).ok();
-    let booted = boot_all(rt, alloc, register, seats, buses, ATTEMPTS).ok();
-    (nanos_since(rt, from), booted)
+    match boot_all(rt, alloc, register, seats, buses, ATTEMPTS) {
+        Ok(booted) => timed(nanos_since(rt, from), booted),
+        Err(_) => None,
+    }
 }
 
 /// Nanoseconds since then. `None` where the clock fails, or had failed.
@@ -92,6 +105,21 @@ fn booting_of<K: RunName, B: Bus>(
     }
 }
 
+/// Boots the network that this operator has started. All seats come back.
+fn boot_started<R: Clock + Threads + Wait + Send + Sync, K: RunName + Send + Sync, B: Bus + Send>(
+    rt: &R,
+    alloc: Global,
+    register: &Register<SimWire, K>,
+    seats: Vec<Seat<K>>,
+    buses: Vec<B>,
+    operator: Seat<K>,
+) -> Option<(Booting<B>, Vec<Seat<K>>)> {
+    match boot_by(rt, alloc, register, seats, buses) {
+        Some((nanos, booted)) => booting_of(nanos, booted, operator),
+        None => None,
+    }
+}
+
 /// Starts the network by the last seat, and boots it by the others. All seats come back.
 fn start_and_boot<R: Clock + Threads + Wait + Send + Sync, K: RunName + Send + Sync, B: Bus + Send>(
     rt: &R,
@@ -100,10 +128,9 @@ fn start_and_boot<R: Clock + Threads + Wait + Send + Sync, K: RunName + Send + S
     mut seats: Vec<Seat<K>>,
     buses: Vec<B>,
 ) -> Option<(Booting<B>, Vec<Seat<K>>)> {
-    let operator = start(rt, register, &mut seats)?;
-    match boot_by(rt, alloc, register, seats, buses) {
-        (Some(nanos), Some(booted)) => booting_of(nanos, booted, operator),
-        _ => None,
+    match start(rt, register, &mut seats) {
+        Some(operator) => boot_started(rt, alloc, register, seats, buses, operator),
+        None => None,
     }
 }
 
@@ -113,6 +140,35 @@ fn has_all(left: Option<Left>, slaves: usize) -> bool {
     match left {
         Some(left) => left.entries == wanted,
         None => false,
+    }
+}
+
+/// A boot behind which the register closes with two calls of each slave. `None` where it doesn't.
+fn booting_closed<K: RunName, B: Bus>(
+    register: Register<SimWire, K>,
+    seats: Vec<Seat<K>>,
+    booting: Booting<B>,
+    slaves: usize,
+) -> Option<Booting<B>> {
+    if has_all(left_by(register, seats), slaves) {
+        Some(booting)
+    } else {
+        None
+    }
+}
+
+/// One boot by the seats of this register, which closes behind it. `None` as of [`run_boot`].
+fn boot_register<R: Clock + Threads + Wait + Send + Sync, K: RunName + Send + Sync, B: Bus + Send>(
+    rt: &R,
+    alloc: Global,
+    register: Register<SimWire, K>,
+    seats: Vec<Seat<K>>,
+    buses: Vec<B>,
+    slaves: usize,
+) -> Option<Booting<B>> {
+    match start_and_boot(rt, alloc, &register, seats, buses) {
+        Some((booting, seats)) => booting_closed(register, seats, booting, slaves),
+        None => None,
     }
 }
 
@@ -127,12 +183,9 @@ fn run_boot<R: Clock + Threads + Wait + Send + Sync, K: RunName + Send + Sync, B
 ) -> Option<Booting<B>>
     requires { Names K.RunName opened }
 {
-    let (register, seats) = opened.named::<K>().ok()?;
-    let (booting, seats) = start_and_boot(rt, alloc, &register, seats, buses)?;
-    if has_all(left_by(register, seats), slaves) {
-        Some(booting)
-    } else {
-        None
+    match opened.named::<K>() {
+        Ok((register, seats)) => boot_register(rt, alloc, register, seats, buses, slaves),
+        Err(_) => None,
     }
 }
 
