@@ -7,6 +7,7 @@ pub mod Sendings
 pub mod Asking
 pub mod Run
 pub mod Program
+pub mod Tell
 pub mod Typing
 pub mod Workers
 pub mod Heard

@@ -1,10 +1,11 @@
 //! canboot, the NMT master of a CANopen network, as a library: its command line over any streams,
-//! and `canboot check`, `canboot run`, `canboot live` and `canboot replay` over any reader and writer. The program is
+//! and `canboot check`, `canboot run`, `canboot live`, `canboot replay` and `canboot tell` over any reader and writer. The program is
 //! `canboot_main`.
 #![tactic(auto)]
 
 mod live;
 mod program;
+mod tell;
 
 pub use canboot_check::{
     DONE, FAILED, LONGEST_JOURNAL, LONGEST_LIST, MISUSED, REFUSED, check_text, replay_text,
@@ -18,3 +19,4 @@ pub use live::{
     live_round, live_text,
 };
 pub use program::{run, run_words};
+pub use tell::tell_text;

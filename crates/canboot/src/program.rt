@@ -5,6 +5,7 @@ ghost use Rattle.canboot.specs.Program.{EndsWithout, is_same_file};
 use crate::live::files::{format_of, live_file};
 use crate::live::paths::{JournalPath, LivePaths};
 use crate::live::{LiveOptions, ReplaceFile};
+use crate::tell::tell_text;
 use canboot_check::{
     FAILED, MISUSED, check_file, fault_line, mend_text, output_status, read_fault, replay_text,
 };
@@ -183,6 +184,7 @@ pub fn run_words<
         }
         Ok(Action::Replay) => replay_text(rt.alloc(), input, out, err),
         Ok(Action::Mend) => mend_text(rt.alloc(), input, out, err),
+        Ok(Action::Tell { node }) => tell_text(rt.alloc(), input, node, out, err),
         Err(none) => say(&none, out, err),
     }
 }

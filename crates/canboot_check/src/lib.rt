@@ -12,5 +12,5 @@ mod status;
 pub use check::{CheckFault, LONGEST_LIST, check_text, read_list, refuse};
 pub use mend::{mend_text, mends_one, mends_torn};
 pub use program::{check_file, read_fault, run, run_words};
-pub use replay::{LONGEST_JOURNAL, replay_text};
-pub use status::{DONE, FAILED, MISUSED, REFUSED, fault_line, output_status};
+pub use replay::{LONGEST_JOURNAL, refuse_journal, replay_text};
+pub use status::{DONE, FAILED, MISUSED, REFUSED, fault_line, input_fault_line, output_status};

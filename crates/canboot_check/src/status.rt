@@ -22,7 +22,7 @@ pub fn fault_line<E: Write>(err: &mut E, status: u8, text: impl Display + Drop) 
 }
 
 /// Writes the line of an input that wasn't read, and gives its exit status.
-pub(crate) fn input_fault_line<E: Write>(err: &mut E, fault: InputFault) -> u8
+pub fn input_fault_line<E: Write>(err: &mut E, fault: InputFault) -> u8
     ensures { result ≡ 3 }
 {
     match fault {

@@ -1,3 +1,4 @@
 pub mod Filters
 pub mod NodeNames
 pub mod ShownWords
+pub mod Tellers

@@ -13,3 +13,4 @@ IsInRange (action.Live n bus workers attempts answer settle heartbeat seconds op
     × ((heartbeat ≡ 0) ⊎ (10 ≤ heartbeat))
 IsInRange action.Replay = Unit {0}
 IsInRange action.Mend = Unit {0}
+IsInRange (action.Tell n) = Unit {0}

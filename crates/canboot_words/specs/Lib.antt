@@ -4,3 +4,5 @@ pub mod Shown
 pub mod Words
 pub mod ToldLines
 pub mod NoticeWords
+pub mod ToldHistory
+pub mod Tellers

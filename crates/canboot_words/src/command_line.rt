@@ -2,8 +2,8 @@ ghost use Rattle.std.specs.Prelude.{◌≤◌, IfOk};
 ghost use Rattle.canboot_words.specs.CommandLine.{IsInRange};
 
 use crate::help::{
-    ABOUT, ABOUT_CHECK, ABOUT_MEND, ABOUT_REPLAY, ABOUT_RUN, AFTER, HELP_CHECK, HELP_MEND,
-    HELP_REPLAY, HELP_RUN,
+    ABOUT, ABOUT_CHECK, ABOUT_MEND, ABOUT_REPLAY, ABOUT_RUN, ABOUT_TELL, AFTER, HELP_CHECK,
+    HELP_MEND, HELP_REPLAY, HELP_RUN, HELP_TELL,
 };
 use crate::live::{live_action, live_command};
 use clap::error::ErrorKind;
@@ -73,6 +73,11 @@ pub enum Action<'a> {
     Replay,
     /// Read a journal that a crash may have torn, and print it whole.
     Mend,
+    /// Read a journal, and print its history in words.
+    Tell {
+        /// The node whose calls are told; none: all.
+        node: Option<NodeId>,
+    },
 }
 
 /// Why a command line asks for no run.
@@ -178,6 +183,15 @@ fn mend_command<'a>(alloc: Global) -> Command<'a> {
     described(alloc, "mend", ABOUT_MEND, HELP_MEND)
 }
 
+fn node_argument<'a>(alloc: Global) -> Arg<'a> {
+    let help = "The node-ID whose calls are told, 1 to 127";
+    option(alloc, "node", "ID", help).value_parser(value_parser!(u8).range(1..128))
+}
+
+fn tell_command<'a>(alloc: Global) -> Result<Command<'a>, AllocError> {
+    described(alloc, "tell", ABOUT_TELL, HELP_TELL).arg(node_argument(alloc))
+}
+
 fn subcommands<'a>(alloc: Global) -> Result<Vec<Command<'a>>, AllocError> {
     listed(
         alloc,
@@ -187,6 +201,7 @@ fn subcommands<'a>(alloc: Global) -> Result<Vec<Command<'a>>, AllocError> {
             live_command(alloc),
             Ok(replay_command(alloc)),
             Ok(mend_command(alloc)),
+            tell_command(alloc),
         ],
     )
 }
@@ -222,6 +237,11 @@ pub(crate) fn number_of(given: &ArgMatches<'_>, name: &str, most: u8) -> u8
     }
 }
 
+/// The node of this name, if one is given.
+fn node_of(given: &ArgMatches<'_>, name: &str) -> Option<NodeId> {
+    given.get_one::<u8>(name).and_then(NodeId::new)
+}
+
 fn run_action<'a>(given: &ArgMatches<'a>) -> Action<'a>
     ensures { IsInRange result }
 {
@@ -229,7 +249,7 @@ fn run_action<'a>(given: &ArgMatches<'a>) -> Action<'a>
         network: text_of(given, "network"),
         workers: number_of(given, "workers", 16),
         attempts: number_of(given, "attempts", 10),
-        silent: given.get_one::<u8>("silent").and_then(NodeId::new),
+        silent: node_of(given, "silent"),
         journal: given.get_str("journal"),
     }
 }
@@ -247,6 +267,9 @@ fn action_of<'a>(alloc: Global, matches: &ArgMatches<'a>) -> Result<Action<'a>, 
         "run" => Ok(run_action(given)),
         "live" => live_action(alloc, given),
         "mend" => Ok(Action::Mend),
+        "tell" => Ok(Action::Tell {
+            node: node_of(given, "node"),
+        }),
         _ => Ok(Action::Replay),
     }
 }

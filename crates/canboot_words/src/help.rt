@@ -70,6 +70,48 @@ Nothing is printed on standard output where nothing is mended, or the input can'
 
 Example: canboot mend < torn.journal > whole.journal";
 
+pub(crate) const ABOUT_TELL: &str =
+    "Reads a journal on standard input and prints its history in words";
+
+pub(crate) const HELP_TELL: &str =
+    "Reads a journal on standard input to its end, as 'canboot replay' does, makes
+sure that it is a legal history, and prints that history on standard output in
+words: a line for each call but the time, the oldest first, as 'canboot live'
+tells it, with its place in the history where it isn't of one node alone; and
+behind it what became of the network and of slaves.
+
+  network started
+  node 7: begun 1
+  node 7: status M (product code 00000457, expected 00000456)
+  network halted: node 7 has status M; once that is mended, type start
+
+With --node ID it prints just the lines of the calls that name the node.
+
+Statuses of a boot (CiA 302-2), by the question that ended it:
+
+  Ok all as expected                        J  a write of its configuration failed
+  A  the node isn't listed                  K  no heartbeat behind its configuration
+  B  no device type (1000h) was read        L  found operational, and kept so
+  C  another device type than expected      M  another product code (1018h sub 2)
+  D  another vendor-ID (1018h sub 1)        N  another revision (1018h sub 3)
+  E  no heartbeat at the state check        O  another serial number (1018h sub 4)
+  F  no guard response at the state check
+  G  its software version isn't verified    H and I never come
+
+Exit statuses:
+  0  the history is printed
+  1  the journal is refused; the line on standard error names its first line
+     with a fault, as 'canboot replay' does
+  2  the command line is wrong
+  3  a failed read (an input that is too long among them), a failed write, or
+     want of memory
+
+Nothing is printed on standard output where the journal is refused.
+
+Examples:
+  canboot tell < examples/wrong-drive.journal
+  canboot tell --node 3 < day.journal";
+
 pub(crate) const ABOUT_CHECK: &str =
     "Reads a network list in TOML and prints how many slaves it lists";
 
@@ -352,6 +394,6 @@ Examples, of which the last has no operator, and ends by itself after 10 seconds
 
 pub(crate) const AFTER: &str =
     "'canboot check --help' says what a network list holds, 'canboot replay --help' what a journal \
-holds, 'canboot mend --help' what becomes of a torn one, 'canboot run --help' what is simulated, \
+holds, 'canboot mend --help' what becomes of a torn one, 'canboot tell --help' how it is told in words, 'canboot run --help' what is simulated, \
 'canboot live --help' how a CAN bus is reached and what an operator types, and each what the exit \
 statuses mean.";

@@ -15,5 +15,5 @@ pub use shown::ShownLines;
 pub use told::{
     Bad, ENTRIES_LEFT, EntryWords, GivenUp, LeftOut, NEARLY_FULL, NoBootOf, NoFrames, Nodes,
     RunEnds, TimeOver, given_up, has_words, open_nodes, running_by, say, say_notice, tell_entry,
-    tell_told,
+    tell_history, tell_told,
 };

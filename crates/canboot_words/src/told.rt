@@ -1,5 +1,6 @@
 //! What a live run tells of what happens, in words: entries, slaves, the network, what else the bus says.
 
+mod history;
 mod judged;
 mod lines;
 mod nodes;
@@ -7,6 +8,7 @@ mod notices;
 mod telling;
 mod words;
 
+pub use history::tell_history;
 pub use lines::{Bad, GivenUp, LeftOut, NoBootOf, NoFrames, RunEnds, TimeOver};
 pub use nodes::{Nodes, open_nodes, running_by};
 pub use notices::say_notice;

@@ -46,7 +46,7 @@ pub fn say<E: Write, D: Display>(err: &mut E, what: &D) -> io::Result<()>
 }
 
 /// Writes a line, if it is to be told.
-fn say_if<E: Write, D: Display>(err: &mut E, is_said: bool, what: &D) -> io::Result<()>
+pub(crate) fn say_if<E: Write, D: Display>(err: &mut E, is_said: bool, what: &D) -> io::Result<()>
     ensures { OnOk result (IfSome (D.output what.now) (λ text.
         Appends (E.contents err.old) (E.contents err.new) (line_if is_said text))) }
 {
