@@ -23,6 +23,11 @@ CANBOOT = os.environ.get('CANBOOT') or str(BUILT)
 LONGEST, PATIENCE = 150, 60
 # how many parts run side by side
 SIDE_BY_SIDE = 4
+# a part that fails is played again where its test was held for so many seconds meanwhile, at most so often in all: devices that are
+# silent for long, since the machine's host took its processors away, are lost in earnest
+TOO_LONG_HELD, MOST_PLAYED = 0.5, 3
+# for how long the tests of the part that is played were held at most
+HELD = []
 # how often a device sends its heartbeat, and how soon it is missed; how long an answer, and a boot-up message behind a
 # reset, are waited for, in ms
 BEAT, MISSED, ANSWERED, SETTLE = 100, 3000, 1000, 3000
@@ -177,6 +182,7 @@ class Run:
                 self.act()
             self.process.wait(PATIENCE)
         finally:
+            HELD.append(max(self.held, time.monotonic() - turn))
             self.process.kill()
             self.process.wait()
         return self
@@ -282,12 +288,22 @@ def none(_):
     """What is done where nothing is."""
 
 
-def why_not(part):
-    """Plays a part: what isn't as it has to be, or None."""
+def fault_of(part):
+    """Plays a part once: what isn't as it has to be, or None."""
     try:
         part()
     except Exception as it:
         return str(it) if isinstance(it, Differs) else repr(it)
+
+
+def why_not(part):
+    """Plays a part: what isn't as it has to be, or None; again, where it was held."""
+    for _ in range(MOST_PLAYED):
+        HELD.clear()
+        why = fault_of(part)
+        if why is None or max(HELD, default=0) < TOO_LONG_HELD:
+            break
+    return why
 
 
 def play_parts(parts, words):
