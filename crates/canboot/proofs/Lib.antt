@@ -13,3 +13,4 @@ pub mod Steps
 pub mod Sendings
 pub mod Going
 pub mod JournalNames
+pub mod Inputs

@@ -2,9 +2,8 @@ ghost use Rattle.std.specs.Prelude.{◌≡◌, ◌≤◌, ◌⊎◌, IfOk, None,
 ghost use Rattle.std.specs.Io.KnownBytes.{Appends};
 ghost use Rattle.canboot.specs.Program.{EndsWithout, is_same_file};
 
-use crate::live::files::{format_of, live_file};
-use crate::live::paths::{JournalPath, LivePaths};
-use crate::live::{LiveOptions, ReplaceFile};
+use crate::live::ReplaceFile;
+use crate::live::files::live_file;
 use crate::tell::tell_text;
 use canboot_check::{
     FAILED, MISUSED, check_file, fault_line, mend_text, output_status, read_fault, replay_text,
@@ -142,46 +141,7 @@ pub fn run_words<
             };
             run_file(rt, network, options, journal, out, err)
         }
-        Ok(
-            Action::Live {
-                network,
-                bus,
-                workers,
-                attempts,
-                answer_ms,
-                settle_ms,
-                heartbeat_ms,
-                seconds,
-                operator,
-                names,
-                events,
-                status,
-                journal,
-                is_synced,
-            },
-        ) => {
-            let options = LiveOptions {
-                workers,
-                attempts,
-                answer_ms,
-                settle_ms,
-                heartbeat_ms,
-                seconds,
-                format: format_of(&bus),
-            };
-            let paths = LivePaths {
-                network,
-                names,
-                operator,
-                journal: JournalPath {
-                    path: journal,
-                    is_synced,
-                },
-                events,
-                status,
-            };
-            live_file(rt, paths, &bus, options, files, out, err, is_coloured)
-        }
+        Ok(Action::Live(words)) => live_file(rt, &words, files, out, err, is_coloured),
         Ok(Action::Replay) => replay_text(rt.alloc(), input, out, err),
         Ok(Action::Mend) => mend_text(rt.alloc(), input, out, err),
         Ok(Action::Tell { node }) => tell_text(rt.alloc(), input, node, out, err),

@@ -8,9 +8,9 @@ use Rattle.canboot_words.specs.declared.command_line.Action.TheVariants as actio
 abbrev pub IsInRange : Action → Type 0
 IsInRange (action.Check n) = Unit {0}
 IsInRange (action.Run n workers attempts silent journal) = (1 ≤ workers) × (workers ≤ 16) × (1 ≤ attempts) × (attempts ≤ 10)
-IsInRange (action.Live n bus workers attempts answer settle heartbeat seconds operator journal synced names events status) =
-    (1 ≤ workers) × (workers ≤ 16) × (1 ≤ attempts) × (attempts ≤ 10) × (1 ≤ answer) × (answer ≤ 60000)
-    × ((heartbeat ≡ 0) ⊎ (10 ≤ heartbeat))
+IsInRange (action.Live l) =
+    (1 ≤ l.workers) × (l.workers ≤ 16) × (1 ≤ l.attempts) × (l.attempts ≤ 10) × (1 ≤ l.answer_ms) × (l.answer_ms ≤ 60000)
+    × ((l.heartbeat_ms ≡ 0) ⊎ (10 ≤ l.heartbeat_ms))
 IsInRange action.Replay = Unit {0}
 IsInRange action.Mend = Unit {0}
 IsInRange (action.Tell n) = Unit {0}

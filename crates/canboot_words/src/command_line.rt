@@ -12,7 +12,7 @@ use cm_nmt::NodeId;
 use std::alloc::{AllocError, Global};
 
 /// Where the frames of a CAN bus come from, and where frames are sent to.
-#[derive(Clone, Copy, Debug, PartialEq, Eq)]
+#[derive(Clone, Copy)]
 pub enum BusPaths<'a> {
     /// Lines of can-utils: they are read from one path, and written to another.
     CanUtils { receive: &'a str, send: &'a str },
@@ -20,8 +20,52 @@ pub enum BusPaths<'a> {
     Adapter { device: &'a str },
 }
 
+/// What a live run writes its journal to, and how.
+#[derive(Clone, Copy)]
+pub struct JournalPath<'a> {
+    /// The path of its file, if it is written.
+    pub path: Option<&'a str>,
+    /// Whether each line is put on the disk before its frames are sent.
+    pub is_synced: bool,
+}
+
+/// The files of a live run, besides those of the bus.
+#[derive(Clone, Copy)]
+pub struct LivePaths<'a> {
+    /// The network list.
+    pub network: &'a str,
+    /// The TOML file with names of nodes, if there is one.
+    pub names: Option<&'a str>,
+    /// The FIFO in which the operator's lines come; none: standard input.
+    pub operator: Option<&'a str>,
+    pub journal: JournalPath<'a>,
+    /// To what each thing that is told is written as a JSON object, if it is.
+    pub events: Option<&'a str>,
+    /// The file that has the report so far as a JSON object, if there is one.
+    pub status: Option<&'a str>,
+}
+
+/// What a live run is asked for.
+#[derive(Clone, Copy)]
+pub struct LiveWords<'a> {
+    pub bus: BusPaths<'a>,
+    pub paths: LivePaths<'a>,
+    /// How many workers boot slaves, 1 to 16.
+    pub workers: u8,
+    /// How often a slave is tried at most, 1 to 10.
+    pub attempts: u8,
+    /// How long an SDO answer or a guard answer is waited for, in ms, 1 to 60,000.
+    pub answer_ms: u32,
+    /// How long boot-up messages are waited for behind a reset, in ms, 0 to 600,000.
+    pub settle_ms: u32,
+    /// How often the manager sends its own heartbeat, in ms, 10 to 65,535; 0: it sends none.
+    pub heartbeat_ms: u16,
+    /// How long the run goes on behind the end of the operator's input, in seconds, up to 31,536,000; none: until it ends otherwise.
+    pub seconds: Option<u32>,
+}
+
 /// What the command line asks for.
-#[derive(Clone, Copy, Debug, PartialEq, Eq)]
+#[derive(Clone, Copy)]
 pub enum Action<'a> {
     /// Read the network list of this path, and print how many slaves it lists.
     Check {
@@ -39,36 +83,8 @@ pub enum Action<'a> {
         silent: Option<NodeId>,
         journal: Option<&'a str>,
     },
-    /// Boot the network of the list of this path on a CAN bus and watch it, print the report, and
-    /// write the journal to this path, if there is one.
-    Live {
-        network: &'a str,
-        bus: BusPaths<'a>,
-        /// How many workers boot slaves, 1 to 16.
-        workers: u8,
-        /// How often a slave is tried at most, 1 to 10.
-        attempts: u8,
-        /// How long an SDO answer or a guard answer is waited for, in ms, 1 to 60,000.
-        answer_ms: u32,
-        /// How long boot-up messages are waited for behind a reset, in ms, 0 to 600,000.
-        settle_ms: u32,
-        /// How often the manager sends its own heartbeat, in ms, 10 to 65,535; 0: it sends none.
-        heartbeat_ms: u16,
-        /// How long the run goes on behind the end of the operator's input, in seconds, up to
-        /// 31,536,000; none: until it ends otherwise.
-        seconds: Option<u32>,
-        /// The path of the FIFO in which the operator's lines come; none: standard input.
-        operator: Option<&'a str>,
-        journal: Option<&'a str>,
-        /// Whether each line of the journal is put on the disk before its frames are sent.
-        is_synced: bool,
-        /// The path of the TOML file with names of nodes, if there is one.
-        names: Option<&'a str>,
-        /// The path to which each thing that is told is written as a JSON object, if there is one.
-        events: Option<&'a str>,
-        /// The path of the file that has the report so far as a JSON object, if there is one.
-        status: Option<&'a str>,
-    },
+    /// Boot a network on a CAN bus and watch it, print the report, and write the journal, if there is a path for it.
+    Live(LiveWords<'a>),
     /// Read a journal, and print its report.
     Replay,
     /// Read a journal that a crash may have torn, and print it whole.
@@ -81,7 +97,7 @@ pub enum Action<'a> {
 }
 
 /// Why a command line asks for no run.
-#[derive(Debug, Drop)]
+#[derive(Drop)]
 pub enum NoAction {
     /// It asks for this text: help, or the version.
     Shown(String),

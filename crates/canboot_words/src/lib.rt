@@ -9,7 +9,7 @@ mod names;
 mod shown;
 mod told;
 
-pub use command_line::{Action, BusPaths, NoAction, read_words};
+pub use command_line::{Action, BusPaths, JournalPath, LivePaths, LiveWords, NoAction, read_words};
 pub use names::{Names, NamesFault, read_names};
 pub use shown::ShownLines;
 pub use told::{

@@ -2,8 +2,9 @@ ghost use Rattle.std.specs.Prelude.{◌≡◌, ◌≤◌, ◌⊎◌, IfOk};
 ghost use Rattle.canboot_words.specs.CommandLine.{IsInRange};
 
 use crate::command_line::{
-    Action, BusPaths, NoAction, argument, attempts_argument, described, journal_argument, listed,
-    network_argument, number_of, option, text_of, workers_argument,
+    Action, BusPaths, JournalPath, LivePaths, LiveWords, NoAction, argument, attempts_argument,
+    described, journal_argument, listed, network_argument, number_of, option, text_of,
+    workers_argument,
 };
 use crate::help::{ABOUT_LIVE, HELP_LIVE, USAGE_LIVE};
 use clap::{Arg, ArgAction, ArgGroup, ArgMatches, Command, value_parser};
@@ -173,25 +174,34 @@ fn bus_paths<'a>(given: &ArgMatches<'a>) -> BusPaths<'a> {
     }
 }
 
+/// The files that these words name.
+fn live_paths<'a>(given: &ArgMatches<'a>) -> LivePaths<'a> {
+    LivePaths {
+        network: text_of(given, "network"),
+        names: given.get_str("names"),
+        operator: given.get_str("operator"),
+        journal: JournalPath {
+            path: given.get_str("journal"),
+            is_synced: given.get_flag("journal-sync"),
+        },
+        events: given.get_str("events"),
+        status: given.get_str("status"),
+    }
+}
+
 /// What these words of `canboot live` ask for.
 pub(crate) fn live_action<'a>(alloc: Global, given: &ArgMatches<'a>) -> Result<Action<'a>, NoAction>
     ensures { IfOk result IsInRange }
 {
     let heartbeat_ms = heartbeat_of(alloc, given)?;
-    Ok(Action::Live {
-        network: text_of(given, "network"),
+    Ok(Action::Live(LiveWords {
         bus: bus_paths(given),
+        paths: live_paths(given),
         workers: number_of(given, "workers", 16),
         attempts: number_of(given, "attempts", 10),
         answer_ms: milliseconds_of(given, "answer", 1, 60_000),
         settle_ms: milliseconds_of(given, "settle", 0, 600_000),
         heartbeat_ms,
         seconds: given.get_one::<u32>("for"),
-        operator: given.get_str("operator"),
-        journal: given.get_str("journal"),
-        is_synced: given.get_flag("journal-sync"),
-        names: given.get_str("names"),
-        events: given.get_str("events"),
-        status: given.get_str("status"),
-    })
+    }))
 }

@@ -1,6 +1,7 @@
 //! Histories of calls to the NMT master: the calls with their replies, refusals and orders, a set of
 //! node-IDs as the open slaves are, and, in specs/, what a history says, what the answer to a call is
-//! after it, and the frames that orders send. Nothing here takes memory.
+//! after it, and the frames that orders send; and a [`Recorder`], what each entry is handed to before its frames are sent. Nothing
+//! here takes memory.
 //!
 //! What holds in every legal history stands here as laws over the definitions alone: no boot starts a
 //! slave of wrong identity, the network becomes operational only with every mandatory slave booted,
@@ -12,6 +13,7 @@ mod call;
 mod laws;
 mod node_set;
 mod phase;
+mod recorder;
 mod refusal;
 mod same_call;
 mod slave;
@@ -22,6 +24,7 @@ pub use laws::{
 };
 pub use node_set::NodeSet;
 pub use phase::Phase;
+pub use recorder::{Recorder, Unrecorded};
 pub use refusal::Refusal;
 pub use same_call::is_same_call;
 pub use slave::{MISSING, Slave, UNKNOWN, state_reported};

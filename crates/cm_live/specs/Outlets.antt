@@ -6,7 +6,7 @@ use Rattle.cm_nmt.specs.Frames.{frame_bytes}
 use Rattle.cm_can.specs.declared.frame.CanFrame.{CanFrame}
 use Rattle.cm_can.specs.Frames.{IsData}
 use Rattle.cm_can.specs.Lines.{IsAdapterText, IsFrameText}
-use Rattle.cm_recorder.specs.Fronts.{AppendsFront}
+use Rattle.cm_text.specs.Fronts.{AppendsFront}
 use Rattle.cm_live.specs.declared.outlet.Format.{Format}
 use Rattle.cm_live.specs.declared.outlet.Outlet.{Outlet}
 use Rattle.cm_live.specs.declared.outlet.Format.TheVariants.{CanUtils, Adapter}

@@ -4,7 +4,7 @@ ghost use Rattle.cm_live.specs.Outlets.{IsLine, Writes, WritesFront, adapter_lin
 
 use arrayvec::ArrayVec;
 use cm_can::{CanFrame, adapter_text, frame_text};
-use cm_recorder::put_front;
+use cm_text::put_front;
 use std::io::Write;
 
 /// In what lines frames are written.

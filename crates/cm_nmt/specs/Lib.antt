@@ -3,6 +3,7 @@ pub mod NodeId
 pub mod Codes
 pub mod Frames
 pub mod Bits
+pub mod Guarding
 pub mod Size
 pub mod Write
 pub mod Listing

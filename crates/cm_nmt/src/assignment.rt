@@ -1,11 +1,11 @@
 ghost use Rattle.std.specs.Prelude.{⊤, ◌≡◌, [], ◌∷◌, codes};
 ghost use Rattle.cm_nmt.specs.Bits.{has_bit};
+ghost use Rattle.cm_nmt.specs.Guarding.{guard_time, retry_factor};
 
 use bitflags::{Flag, Flags, bitflag_items};
 
 /// Object 1F81h of one node, slave assignment (CiA 302-2). Bits without a name are carried and
-/// mean nothing here; bits 8 to 15 are the guard retry factor, bits 16 to 31 the guard time in
-/// milliseconds.
+/// mean nothing here; [`Assignment::retry_factor`] and [`Assignment::guard_time_ms`] are numbers in it.
 #[derive(Clone, Copy, Debug, PartialEq, Eq)]
 pub struct Assignment(pub u32);
 
@@ -82,5 +82,20 @@ impl Assignment {
         ensures { result ≡ has_bit self.now.0 5 }
     {
         self.contains(Assignment::VERIFY_SOFTWARE)
+    }
+
+    /// The retry factor of node guarding: bits 8 to 15. After so many guard times without an answer the slave is lost
+    /// (CiA 301); 0: it isn't guarded.
+    pub fn retry_factor(&self) -> u8
+        ensures { result ≡ retry_factor self.now.0 }
+    {
+        (self.0 / 0x0100 % 0x0100) as u8
+    }
+
+    /// The guard time, in ms: bits 16 to 31. So often the slave is asked for its state (CiA 301); 0: it isn't guarded.
+    pub fn guard_time_ms(&self) -> u16
+        ensures { result ≡ guard_time self.now.0 }
+    {
+        (self.0 / 0x0001_0000) as u16
     }
 }

@@ -7,10 +7,9 @@ ghost use Rattle.cm_register.specs.BookInvariant.{MayClose};
 ghost use Rattle.cm_register.specs.Closing.{IsCloseCause, IsClosed, close_number};
 
 use crate::book::Book;
-use cm_history::Entry;
+use cm_history::{Entry, Recorder, Unrecorded};
 use cm_nmt::Wire;
 use cm_past::Past;
-use cm_recorder::{Recorder, Unrecorded};
 use cm_seat::{RunName, Seat, SeatList, are_apart, are_known};
 use cm_sequential::Manager;
 use std::sync::ledger::Share;

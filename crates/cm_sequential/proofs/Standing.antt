@@ -69,6 +69,13 @@ pub stands_next : (m : Manager) (s' : NetworkState) (net : Network) (past : List
 stands_next m s' net past e st goes =
     shows_next (listing net) m.state s' past e st.same_state (subst (λ (l : Listing). GoneOn l m.state e.call e.reply e.orders s') st.same_listing goes)
 
+-- a manager that stands for what was before and a call with these answers stands for it and an entry that has them
+pub stands_by : (m : Manager) (net : Network) (past : List Entry) (e : Entry) (reply : Reply) (orders : Orders)
+    → ◌≡◌ {A = Reply × Orders} (reply, orders) (e.reply, e.orders)
+    → Stands m net (record { seat = e.seat; call = e.call; reply = reply; orders = orders } ∷ past) → Stands m net (e ∷ past)
+stands_by m net past e reply orders same stands =
+    subst (λ (p : Reply × Orders). Stands m net (record { seat = e.seat; call = e.call; reply = p.0; orders = p.1 } ∷ past)) same stands
+
 begun_most : (r : Reply) (n : ℕ) → begun_after r n ≤ n + 1
 begun_most r n = elim (is_some (begun_number r)) as (λ b. cond b (n + 1) n ≤ n + 1) [ true ↦ omega arith | false ↦ omega arith ]
 

@@ -8,3 +8,4 @@ pub mod Writes
 pub mod Ends
 pub mod Heads
 pub mod Same
+pub mod Beginnings

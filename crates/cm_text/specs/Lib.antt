@@ -7,3 +7,4 @@ pub mod Left
 pub mod FieldReading
 pub mod Ends
 pub mod Input
+pub mod Fronts

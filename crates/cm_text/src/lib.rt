@@ -13,10 +13,13 @@
 //! of it than is allowed. Contracts hold for every reader. What they say of the bytes is what
 //! `std::io::Read` lets a reader promise; any error of a reader is a failed read, and nothing is
 //! tried again. No clause can say that no other error comes, however long the input is.
+//!
+//! `put_front` writes bytes of which the first are known to be written, where a write fails.
 #![tactic(auto)]
 
 mod decimal;
 mod fields;
+mod fronts;
 mod hex;
 mod near;
 mod places;
@@ -24,6 +27,7 @@ mod reading;
 mod words;
 
 pub use fields::Fields;
+pub use fronts::put_front;
 pub use hex::{digit, hex2, hex4, hex8, read_hex8};
 pub use reading::{Block, ENDLESS, InputFault, read_input, read_until, skip_rest};
 pub use words::is_word;

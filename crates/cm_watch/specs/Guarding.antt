@@ -1,7 +1,8 @@
 -- Node guarding of slaves that have no heartbeat time (CiA 301, node guarding; CiA 302-2, slave assignment).
-use Rattle.std.specs.Prelude.{◌==◌, ◌&&◌, ◌||◌, if◌then◌else◌, ◌*◌, ◌-◌, ◌/◌, ◌%◌, ◌∷◌, [], ℕ, Bool, true, false, not}
+use Rattle.std.specs.Prelude.{◌==◌, ◌&&◌, ◌||◌, if◌then◌else◌, ◌*◌, ◌-◌, ◌%◌, ◌∷◌, [], ℕ, Bool, true, false, not}
 use Rattle.std.specs.Prelude.{nat_le, nat_lt, Option, Some, None, is_some, unwrap_or}
 use Rattle.std.specs.Option.{option_map_or, option_or}
+use Rattle.cm_nmt.specs.Guarding.{guard_time, retry_factor}
 use Rattle.cm_netlist.specs.Network.{Network, entry, is_kept}
 use Rattle.cm_netlist.specs.declared.entry.SlaveEntry.{SlaveEntry}
 use Rattle.cm_watch.specs.Pasts.{Past}
@@ -15,14 +16,6 @@ use Rattle.cm_watch.specs.declared.schedule.Cause.{Cause}
 use Rattle.cm_watch.specs.declared.schedule.Cause.TheVariants as cause
 
 -- ---- how often, and for how long
-
--- the retry factor: bits 8 to 15 of 1F81h (CiA 302-2, slave assignment)
-abbrev pub retry_factor : ℕ → ℕ
-retry_factor a = a / 0x0100 % 0x0100
-
--- the guard time, in ms: bits 16 to 31 of 1F81h (CiA 302-2, slave assignment)
-abbrev pub guard_time : ℕ → ℕ
-guard_time a = a / 0x00010000
 
 -- how often a slave is asked for its state, in ms; 0 where it isn't: it has a heartbeat time, which precedes (CiA 301), or its
 -- retry factor or its guard time is 0

@@ -1,35 +1,21 @@
 //! Node guarding of slaves that have no heartbeat time (CiA 301).
 
 ghost use Rattle.std.specs.Prelude.{◌≡◌};
-ghost use Rattle.cm_watch.specs.Guarding.{counts_for, guard_by, guard_of, guard_of_entry, guard_time, has_toggle};
-ghost use Rattle.cm_watch.specs.Guarding.{is_asked_again, most_silence_of, most_silence_of_entry, retry_factor};
+ghost use Rattle.cm_watch.specs.Guarding.{counts_for, guard_by, guard_of, guard_of_entry, has_toggle};
+ghost use Rattle.cm_watch.specs.Guarding.{is_asked_again, most_silence_of, most_silence_of_entry};
 ghost use Rattle.cm_watch.specs.Guarding.{toggle_by, toggle_by_cause, turned};
 
 use crate::happening::{Happening, Moment, Step};
 use crate::schedule::{Cause, cause_by};
 use cm_netlist::{Network, SlaveEntry};
-use cm_nmt::{Assignment, NodeId};
-
-/// The retry factor: bits 8 to 15 of 1F81h (CiA 302-2).
-fn retry_factor(assignment: Assignment) -> u8
-    ensures { result ≡ retry_factor assignment.0 }
-{
-    (assignment.0 / 0x0100 % 0x0100) as u8
-}
-
-/// The guard time, in ms: bits 16 to 31 of 1F81h (CiA 302-2).
-fn guard_time(assignment: Assignment) -> u16
-    ensures { result ≡ guard_time assignment.0 }
-{
-    (assignment.0 / 0x0001_0000) as u16
-}
+use cm_nmt::NodeId;
 
 /// How often a slave of this entry is asked for its state, in ms; 0 where it isn't.
 fn guard_of_entry(entry: &SlaveEntry) -> u16
     ensures { result ≡ guard_of_entry entry.now }
 {
-    if entry.heartbeat_ms == 0 && 0 < retry_factor(entry.assignment) {
-        guard_time(entry.assignment)
+    if entry.heartbeat_ms == 0 && 0 < entry.assignment.retry_factor() {
+        entry.assignment.guard_time_ms()
     } else {
         0
     }
@@ -51,7 +37,7 @@ fn most_silence_of_entry(entry: &SlaveEntry) -> u32
     ensures { result ≡ most_silence_of_entry entry.now }
 {
     if entry.heartbeat_ms == 0 {
-        u32::from(guard_time(entry.assignment)) * u32::from(retry_factor(entry.assignment))
+        u32::from(entry.assignment.guard_time_ms()) * u32::from(entry.assignment.retry_factor())
     } else {
         u32::from(entry.heartbeat_ms)
     }

@@ -5,13 +5,15 @@ ghost use Rattle.canboot.specs.Program.{channel_closing, channel_opening, format
 
 use crate::live::journal_file::make_journal;
 use crate::live::operator_input::{OperatorInput, open_operator};
-use crate::live::paths::{JournalPath, LivePaths, wrong_path};
+use crate::live::paths::wrong_path;
 use crate::live::{Followed, LiveEnds, LiveOptions, ReplaceFile, StatusFile, live_text};
 use crate::program::write_fault;
 use canboot_check::{
     CheckFault, FAILED, LONGEST_LIST, MISUSED, REFUSED, fault_line, read_fault, read_list, refuse,
 };
-use canboot_words::{BusPaths, Names, NamesFault, ShownLines, read_names};
+use canboot_words::{
+    BusPaths, JournalPath, LivePaths, LiveWords, Names, NamesFault, ShownLines, read_names,
+};
 use cm_live::{Format, Outlet};
 use cm_text::{InputFault, read_input};
 use std::alloc::Global;
@@ -23,12 +25,27 @@ use std::thread::Threads;
 use std::time::Clock;
 
 /// In what lines the frames of a bus come and go.
-pub(crate) fn format_of(bus: &BusPaths<'_>) -> Format
+fn format_of(bus: &BusPaths<'_>) -> Format
     ensures { result ≡ format_of bus.now }
 {
     match bus {
         BusPaths::CanUtils { .. } => Format::CanUtils,
         BusPaths::Adapter { .. } => Format::Adapter,
+    }
+}
+
+/// How the network is booted and watched, as these words say.
+fn options_of(words: &LiveWords<'_>) -> LiveOptions
+    ensures { result.workers ≡ words.now.workers }
+{
+    LiveOptions {
+        workers: words.workers,
+        attempts: words.attempts,
+        answer_ms: words.answer_ms,
+        settle_ms: words.settle_ms,
+        heartbeat_ms: words.heartbeat_ms,
+        seconds: words.seconds,
+        format: format_of(&words.bus),
     }
 }
 
@@ -278,8 +295,9 @@ fn live_over<
     status
 }
 
-/// `canboot live`, over the files of these paths. The list is read first; where it has no fault, the names are read and the rest is opened, and then the journal's file is made, if there is one, before a byte goes to the
-/// bus. Where the start will be refused no journal is made.
+/// `canboot live`, over the files that these words name. The list is read first; where it has no fault, the names are read and the
+/// rest is opened, and then the journal's file is made, if there is one, before a byte goes to the bus. Where the start will be
+/// refused no journal is made.
 pub(crate) fn live_file<
     R: Files<File = File>
         + Input<Reader = StdinLock<'static>>
@@ -297,17 +315,16 @@ pub(crate) fn live_file<
     E: Write,
 >(
     rt: &R,
-    paths: LivePaths<'_>,
-    bus: &BusPaths<'_>,
-    options: LiveOptions,
+    words: &LiveWords<'_>,
     files: F,
     out: &mut O,
     err: &mut E,
     is_coloured: bool,
 ) -> u8
-    requires workers { (1 ≤ options.workers) × (options.workers ≤ 16) }
+    requires workers { (1 ≤ words.now.workers) × (words.now.workers ≤ 16) }
     ensures statuses { result ≤ 3 }
 {
+    let (paths, options) = (&words.paths, options_of(words));
     let text = match read_file(rt, paths.network) {
         Ok(text) => text,
         Err(fault) => return refuse(err, fault),
@@ -316,14 +333,14 @@ pub(crate) fn live_file<
         Ok(network) => network.startup().is_master(),
         Err(fault) => return refuse(err, fault),
     };
-    if let Some(wrong) = wrong_path(rt, &paths) {
+    if let Some(wrong) = wrong_path(rt, paths) {
         return fault_line(err, MISUSED, wrong);
     }
     let names = match read_names_file(rt, paths.names, err) {
         Ok(names) => names,
         Err(status) => return status,
     };
-    let opened = match open_ends(rt, &paths, bus, &options, files, err) {
+    let opened = match open_ends(rt, paths, &words.bus, &options, files, err) {
         Ok(opened) => opened,
         Err(status) => return status,
     };

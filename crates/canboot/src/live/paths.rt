@@ -1,32 +1,8 @@
 //! The paths of the files of a live run.
 
 use crate::program::is_list;
+use canboot_words::LivePaths;
 use std::rt::Files;
-
-/// What a live run writes its journal to, and how.
-#[derive(Clone, Copy, Debug, PartialEq, Eq)]
-pub(crate) struct JournalPath<'a> {
-    /// The path of its file, if it is written.
-    pub(crate) path: Option<&'a str>,
-    /// Whether each line is put on the disk before the next step.
-    pub(crate) is_synced: bool,
-}
-
-/// The files of a live run, besides those of the bus.
-#[derive(Clone, Copy, Debug, PartialEq, Eq)]
-pub(crate) struct LivePaths<'a> {
-    /// The network list.
-    pub(crate) network: &'a str,
-    /// The names of nodes, if there are some.
-    pub(crate) names: Option<&'a str>,
-    /// The FIFO in which the operator's lines come; none: standard input.
-    pub(crate) operator: Option<&'a str>,
-    pub(crate) journal: JournalPath<'a>,
-    /// To what each thing that is told is written, if it is.
-    pub(crate) events: Option<&'a str>,
-    /// To what the report so far is written, if it is.
-    pub(crate) status: Option<&'a str>,
-}
 
 /// Whether the file of the status is this other file of the run, by the same path or by another.
 fn is_status<R: Files>(rt: &R, status: Option<&str>, other: Option<&str>) -> bool {

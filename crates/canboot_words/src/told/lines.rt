@@ -11,18 +11,18 @@ use cm_live::{BadLine, Format};
 use cm_netlist::Network;
 use cm_nmt::{NodeId, Status};
 use cm_watch::NoBoot;
-use std::fmt;
+use std::fmt::{self, Display};
 
 /// The status of the last boot, if there was one, before what follows from it.
 #[derive(Drop)]
 struct Last(Option<Status>);
 
-impl fmt::Display for Last {
+impl Display for Last {
     ghost output = { λ l. Some (last_words l.0) };
 
     fn fmt<W: fmt::Write>(&self, f: &mut fmt::Formatter<W>) -> fmt::Result {
         match self.0 {
-            Some(Status::B) => write!(f, "no answer, "),
+            Some(Status::B) => f.write_str("no answer, "),
             Some(status) => write!(f, "status {}, ", status.letter()),
             None => Ok(()),
         }
@@ -56,7 +56,7 @@ pub struct GivenUp<'a> {
     pub status: Option<Status>,
 }
 
-impl<'a> fmt::Display for GivenUp<'a> {
+impl<'a> Display for GivenUp<'a> {
     ghost output = { λ g. Some (given_up_words g.network.now g.id g.attempts g.status) };
 
     fn fmt<W: fmt::Write>(&self, f: &mut fmt::Formatter<W>) -> fmt::Result {
@@ -85,7 +85,7 @@ impl Back {
     }
 }
 
-impl fmt::Display for Back {
+impl Display for Back {
     ghost output = { λ b. Some (back_words b.0) };
 
     fn fmt<W: fmt::Write>(&self, f: &mut fmt::Formatter<W>) -> fmt::Result {
@@ -110,7 +110,7 @@ impl Unwatched {
     }
 }
 
-impl fmt::Display for Unwatched {
+impl Display for Unwatched {
     ghost output = { λ u. Some (unwatched_words u.0) };
 
     fn fmt<W: fmt::Write>(&self, f: &mut fmt::Formatter<W>) -> fmt::Result {
@@ -136,7 +136,7 @@ impl LeftOut {
     }
 }
 
-impl fmt::Display for LeftOut {
+impl Display for LeftOut {
     ghost output = { λ l. Some (left_out_words l.0 l.1) };
 
     fn fmt<W: fmt::Write>(&self, f: &mut fmt::Formatter<W>) -> fmt::Result {
@@ -150,7 +150,7 @@ impl fmt::Display for LeftOut {
 #[derive(Drop)]
 pub struct NoBootOf(pub NodeId, pub NoBoot);
 
-impl fmt::Display for NoBootOf {
+impl Display for NoBootOf {
     ghost output = { λ n. Some (no_boot_words n.0 n.1) };
 
     fn fmt<W: fmt::Write>(&self, f: &mut fmt::Formatter<W>) -> fmt::Result {
@@ -168,13 +168,13 @@ impl fmt::Display for NoBootOf {
 #[derive(Drop)]
 pub(crate) struct StoppedBy<'a>(pub(crate) &'a Entry);
 
-impl<'a> fmt::Display for StoppedBy<'a> {
+impl<'a> Display for StoppedBy<'a> {
     ghost output = { λ s. Some (stopped_words s.0.now) };
 
     fn fmt<W: fmt::Write>(&self, f: &mut fmt::Formatter<W>) -> fmt::Result {
         match &self.0.call {
             Call::Lost(id) => write!(f, "all nodes are stopped: node {} was lost", id.get()),
-            _ => write!(f, "all nodes are stopped"),
+            _ => f.write_str("all nodes are stopped"),
         }
     }
 }
@@ -183,7 +183,7 @@ impl<'a> fmt::Display for StoppedBy<'a> {
 #[derive(Drop)]
 struct HaltedBy<'a>(&'a Entry);
 
-impl<'a> fmt::Display for HaltedBy<'a> {
+impl<'a> Display for HaltedBy<'a> {
     ghost output = { λ h. Some (halted_by h.0.now.call h.0.now.reply) };
 
     fn fmt<W: fmt::Write>(&self, f: &mut fmt::Formatter<W>) -> fmt::Result {
@@ -200,12 +200,12 @@ impl<'a> fmt::Display for HaltedBy<'a> {
 #[derive(Drop)]
 struct Running<'a>(&'a Option<Nodes>);
 
-impl<'a> fmt::Display for Running<'a> {
+impl<'a> Display for Running<'a> {
     ghost output = { λ r. Some (running_words (option_map (λ n. n.0.items) r.0.now)) };
 
     fn fmt<W: fmt::Write>(&self, f: &mut fmt::Formatter<W>) -> fmt::Result {
         match self.0 {
-            None => write!(f, "; which nodes run on isn't known"),
+            None => f.write_str("; which nodes run on isn't known"),
             Some(nodes) if nodes.0.is_empty() => Ok(()),
             Some(nodes) => {
                 let count = nodes.0.len();
@@ -223,7 +223,7 @@ pub(crate) struct Halted<'a> {
     pub(crate) running: &'a Option<Nodes>,
 }
 
-impl<'a> fmt::Display for Halted<'a> {
+impl<'a> Display for Halted<'a> {
     ghost output = { λ h. Some (halted_words h.by.now (option_map (λ n. n.0.items) h.running.now)) };
 
     fn fmt<W: fmt::Write>(&self, f: &mut fmt::Formatter<W>) -> fmt::Result {
@@ -240,7 +240,7 @@ impl<'a> fmt::Display for Halted<'a> {
 #[derive(Drop)]
 pub struct RunEnds<'a>(pub &'a Option<Nodes>);
 
-impl<'a> fmt::Display for RunEnds<'a> {
+impl<'a> Display for RunEnds<'a> {
     ghost output = { λ e. Some (ends_words (option_map (λ n. n.0.items) e.0.now)) };
 
     fn fmt<W: fmt::Write>(&self, f: &mut fmt::Formatter<W>) -> fmt::Result {
@@ -253,7 +253,7 @@ impl<'a> fmt::Display for RunEnds<'a> {
 #[derive(Drop)]
 pub struct TimeOver(pub Nodes);
 
-impl fmt::Display for TimeOver {
+impl Display for TimeOver {
     ghost output = { λ t. Some (time_over_words t.0.0.items) };
 
     fn fmt<W: fmt::Write>(&self, f: &mut fmt::Formatter<W>) -> fmt::Result {
@@ -266,18 +266,25 @@ impl fmt::Display for TimeOver {
     }
 }
 
+/// That nothing that was read is a frame, in words.
+fn no_frames_words(format: Format) -> &'static str
+    ensures { result.now ≡ no_frames_words format }
+{
+    match format {
+        Format::CanUtils => "nothing that was read is a frame: candump needs -L",
+        Format::Adapter => "nothing that was read is a frame of a serial adapter",
+    }
+}
+
 /// That nothing that was read is a frame, and how it is asked for.
 #[derive(Drop)]
 pub struct NoFrames(pub Format);
 
-impl fmt::Display for NoFrames {
+impl Display for NoFrames {
     ghost output = { λ n. Some (no_frames_words n.0) };
 
     fn fmt<W: fmt::Write>(&self, f: &mut fmt::Formatter<W>) -> fmt::Result {
-        match self.0 {
-            Format::CanUtils => write!(f, "nothing that was read is a frame: candump needs -L"),
-            Format::Adapter => write!(f, "nothing that was read is a frame of a serial adapter"),
-        }
+        f.write_str(no_frames_words(self.0))
     }
 }
 
@@ -285,13 +292,13 @@ impl fmt::Display for NoFrames {
 #[derive(Drop)]
 pub struct Bad(pub BadLine);
 
-impl fmt::Display for Bad {
+impl Display for Bad {
     ghost output = { λ b. Some (bad_words b.0) };
 
     fn fmt<W: fmt::Write>(&self, f: &mut fmt::Formatter<W>) -> fmt::Result {
         match self.0 {
             BadLine::Empty => Ok(()),
-            BadLine::NoSuchWord => write!(f, "bad line: no such word; 'help' has them"),
+            BadLine::NoSuchWord => f.write_str("bad line: no such word; 'help' has them"),
             BadLine::Wants(usage) => write!(f, "bad line: it is {usage}"),
         }
     }
@@ -301,7 +308,7 @@ impl fmt::Display for Bad {
 #[derive(Drop)]
 pub(crate) struct NearlyFull(pub(crate) u64);
 
-impl fmt::Display for NearlyFull {
+impl Display for NearlyFull {
     ghost output = { λ n. Some (nearly_full_words n.0) };
 
     fn fmt<W: fmt::Write>(&self, f: &mut fmt::Formatter<W>) -> fmt::Result {

@@ -11,14 +11,14 @@ use cm_can::{BusState, Emergency};
 use cm_netlist::Network;
 use cm_nmt::{Command, Frame, NodeId, Target};
 use cm_watch::{ErrorNotice, HexFour, HexTwo, Notice};
-use std::fmt;
+use std::fmt::{self, Display};
 use std::io::{self, Write};
 
 /// Bytes in digits, with spaces between them.
 #[derive(Drop)]
 struct Bytes<'a>(&'a [u8]);
 
-impl<'a> fmt::Display for Bytes<'a> {
+impl<'a> Display for Bytes<'a> {
     ghost output = { λ b. Some (bytes_words b.0.now) };
 
     fn fmt<W: fmt::Write>(&self, f: &mut fmt::Formatter<W>) -> fmt::Result {
@@ -51,7 +51,7 @@ struct EmergencyWords<'a> {
     emergency: &'a Emergency,
 }
 
-impl<'a> fmt::Display for EmergencyWords<'a> {
+impl<'a> Display for EmergencyWords<'a> {
     ghost output = { λ e. Some (emergency_words e.network.now e.id e.emergency.now) };
 
     fn fmt<W: fmt::Write>(&self, f: &mut fmt::Formatter<W>) -> fmt::Result {
@@ -85,7 +85,7 @@ fn command_words(command: Command) -> &'static str
 #[derive(Drop)]
 struct TargetWords(Target);
 
-impl fmt::Display for TargetWords {
+impl Display for TargetWords {
     ghost output = { λ t. Some (target_words t.0) };
 
     fn fmt<W: fmt::Write>(&self, f: &mut fmt::Formatter<W>) -> fmt::Result {
@@ -94,7 +94,7 @@ impl fmt::Display for TargetWords {
                 let number = id.get();
                 write!(f, "node {number}")
             }
-            Target::All => write!(f, "all nodes"),
+            Target::All => f.write_str("all nodes"),
         }
     }
 }
@@ -103,7 +103,7 @@ impl fmt::Display for TargetWords {
 #[derive(Drop)]
 struct MessageWords(Frame);
 
-impl fmt::Display for MessageWords {
+impl Display for MessageWords {
     ghost output = { λ m. Some (message_words m.0) };
 
     fn fmt<W: fmt::Write>(&self, f: &mut fmt::Formatter<W>) -> fmt::Result {
@@ -135,7 +135,7 @@ struct NoticeWords<'a> {
     notice: &'a Notice,
 }
 
-impl<'a> fmt::Display for NoticeWords<'a> {
+impl<'a> Display for NoticeWords<'a> {
     ghost output = { λ w. Some (notice_words w.network.now w.notice.now) };
 
     fn fmt<W: fmt::Write>(&self, f: &mut fmt::Formatter<W>) -> fmt::Result {
@@ -148,7 +148,7 @@ impl<'a> fmt::Display for NoticeWords<'a> {
                     id,
                     emergency,
                 };
-                write!(f, "{words}")
+                words.fmt(f)
             }
             Notice::EmergenciesLeftOut(id, count) => {
                 let number = id.get();
@@ -166,7 +166,7 @@ impl<'a> fmt::Display for NoticeWords<'a> {
                 write!(f, "node {number} isn't listed, and has booted up")
             }
             Notice::Bus(ErrorNotice::Unacknowledged) => {
-                write!(f, "bus: no other node acknowledges")
+                f.write_str("bus: no other node acknowledges")
             }
             Notice::Bus(ErrorNotice::State(state)) => {
                 let words = state_words(*state);

@@ -30,3 +30,8 @@ loop-passed-preserved g c = (
   c.push_reserved.ensures.capacity ∙ c.loop-passed.invariant.1,
   omega (arith, c.loop-passed.invariant.2),
 )
+
+pub returns-in_default-clause-given : goal.returns-in_default-clause-given
+returns-in_default-clause-given g c =
+    subst (λ (r : Option Reply). IsGiven g.B.BusName.format g.B.BusName.text c.args.id c.args.question.now (answer_in r) c.args.last.now c.loop-passed.last) (sym c.expire.ensures.none)
+    (given_silent g.B.BusName.format g.B.BusName.text c.args.id c.args.question.now c.args.last.now c.loop-passed.last c.loop-passed.last c.loop-passed.invariant.2 refl)

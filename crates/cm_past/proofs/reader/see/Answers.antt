@@ -41,3 +41,17 @@ returns-else-found-status-clause-looked g c =
     let is = split_is net ys c.args.id c.look-node_word.result c.found-found.result.since c.found-found.result.state c.found-found.result.before c.eq.result of low small there
     (c.eq.ensures ∙ ap (λ (k : ℕ). c.args.id == k) c.requires.own) c.found-found.ensures in
     looked_before net ys c.args.id c.look-node_word.result c.found-found.result.since c.found-found.result.before of low small there is.0 is.2 (omega (arith, c.if-found-status.false))
+
+pub returns-then-found-status-clause-book : goal.returns-then-found-status-clause-book
+returns-then-found-status-clause-book g c = c.look-node_word.ensures.book ∙ c.look-word.ensures.book
+
+pub returns-then-found-status-clause-later : goal.returns-then-found-status-clause-later
+returns-then-found-status-clause-later g c =
+    prefix_trans c.args.seen.now.log c.look-word.new.seen.log c.look-node_word.new.seen.log c.look-word.ensures.later c.look-node_word.ensures.later
+
+pub returns-else-found-status-clause-book : goal.returns-else-found-status-clause-book
+returns-else-found-status-clause-book g c = c.look-node_word.ensures.book ∙ c.look-word.ensures.book
+
+pub returns-else-found-status-clause-later : goal.returns-else-found-status-clause-later
+returns-else-found-status-clause-later g c =
+    prefix_trans c.args.seen.now.log c.look-word.new.seen.log c.look-node_word.new.seen.log c.look-word.ensures.later c.look-node_word.ensures.later

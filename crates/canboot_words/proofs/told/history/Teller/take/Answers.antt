@@ -1,8 +1,6 @@
-use Rattle.std.proofs.Common.{ℕ, ◌+◌, ◌∷◌, ◌∙◌, ap, refl, subst, sym, arith}
+use Rattle.std.proofs.Common.{ℕ, ◌+◌, ◌∷◌, ◌∙◌, ap, refl, sym, arith}
 use Rattle.cm_history.specs.Phases.{is_halted}
-use Rattle.cm_history.specs.declared.call.Reply.{Reply}
-use Rattle.cm_history.specs.declared.call.Orders.{Orders}
-use Rattle.cm_sequential.specs.Standing.{Stands}
+use Rattle.cm_sequential.proofs.Standing.{stands_by}
 use Rattle.canboot_words.specs.ToldHistory.{no_settings, past_of}
 use Rattle.canboot_words.proofs.told.history.Teller.take.Goals as goal
 
@@ -10,8 +8,7 @@ pub returns-clause-says : goal.returns-clause-says
 returns-clause-says c = λ before knows answered.
     let net = c.args.self.now.network.now in
     let e = c.args.entry.now in
-    let P : Reply × Orders → Type 0 = λ p. Stands c.apply.new.self net (record { seat = e.seat; call = e.call; reply = p.0; orders = p.1 } ∷ before) in
-    let stands = subst P (c.apply.ensures.answer net before knows.stands ∙ sym answered) (c.apply.ensures.stands net before e.seat knows.stands) in
+    let stands = stands_by c.apply.new.self net before e _ _ (c.apply.ensures.answer net before knows.stands ∙ sym answered) (c.apply.ensures.stands net before e.seat knows.stands) in
     record {
       handed = refl;
       halted = c.is_halted-is_halted.ensures ∙ ap is_halted (c.phase.ensures net no_settings (past_of before) knows.watches);
@@ -25,10 +22,9 @@ pub returns-clause-knows : goal.returns-clause-knows
 returns-clause-knows c = λ before knows answered.
     let net = c.args.self.now.network.now in
     let e = c.args.entry.now in
-    let P : Reply × Orders → Type 0 = λ p. Stands c.apply.new.self net (record { seat = e.seat; call = e.call; reply = p.0; orders = p.1 } ∷ before) in
     record {
       network = refl;
-      stands = subst P (c.apply.ensures.answer net before knows.stands ∙ sym answered) (c.apply.ensures.stands net before e.seat knows.stands);
+      stands = stands_by c.apply.new.self net before e _ _ (c.apply.ensures.answer net before knows.stands ∙ sym answered) (c.apply.ensures.stands net before e.seat knows.stands);
       watches = c.take-told.ensures.taken no_settings (past_of before) knows.watches;
       tries = c.count.ensures 0 (past_of before) knows.tries;
       count = omega (arith, knows.count);
