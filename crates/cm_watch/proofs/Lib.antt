@@ -12,3 +12,4 @@ pub mod Entries
 pub mod Waits
 pub mod Tries
 pub mod Limiting
+pub mod EventEntries

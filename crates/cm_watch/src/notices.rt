@@ -144,18 +144,12 @@ impl Notices {
     {
         match remark {
             Remark::Emergency(id, emergency) => {
-                if self.take(id.get(), now_ms) {
-                    Some(Notice::Emergency(*id, *emergency))
-                } else {
-                    None
-                }
+                let is_told = self.take(id.get(), now_ms);
+                is_told.then_some(Notice::Emergency(*id, *emergency))
             }
             Remark::BootUp(id) => {
-                if self.meet(network, *id) {
-                    Some(Notice::Unlisted(*id))
-                } else {
-                    None
-                }
+                let is_told = self.meet(network, *id);
+                is_told.then_some(Notice::Unlisted(*id))
             }
             Remark::Message(message) => {
                 if self.sent.hear(*message) || !self.take(MASTERS, now_ms) {
