@@ -19,8 +19,8 @@ mod taking;
 
 pub use book::Book;
 pub use closing::{Abandoned, BookFault, CloseKind, Closed};
-pub use cm_nmt::Wire;
 pub use cm_history::{Recorder, Unrecorded};
+pub use cm_nmt::Wire;
 pub use cm_seat::{
     CallFault, Made, ReadFault, Receipt, RunName, Seat, SeatList, Seen, SharedManager,
 };

@@ -313,14 +313,7 @@ pub(crate) fn live_file<
     F: ReplaceFile + Send + Drop + 'static,
     O: Write,
     E: Write,
->(
-    rt: &R,
-    words: &LiveWords<'_>,
-    files: F,
-    out: &mut O,
-    err: &mut E,
-    is_coloured: bool,
-) -> u8
+>(rt: &R, words: &LiveWords<'_>, files: F, out: &mut O, err: &mut E, is_coloured: bool) -> u8
     requires workers { (1 ≤ words.now.workers) × (words.now.workers ≤ 16) }
     ensures statuses { result ≤ 3 }
 {

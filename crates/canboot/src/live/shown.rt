@@ -59,11 +59,7 @@ fn open_shown<
 ) -> Result<Shown<K, R, F>, NoHistory>
     ensures { result ≡ Err NoHistory.NotMaster → ⊥ }
 {
-    let (publisher, reader, versions) = kept(open_versions(
-        setting.alloc,
-        setting.rt,
-        register,
-    ))?;
+    let (publisher, reader, versions) = kept(open_versions(setting.alloc, setting.rt, register))?;
     let keeper = keeper_of(setting.alloc, reader, status);
     Ok(Shown {
         publisher,
