@@ -19,7 +19,7 @@
 
 mod decimal;
 mod fields;
-mod fronts;
+mod front;
 mod hex;
 mod near;
 mod places;
@@ -27,7 +27,7 @@ mod reading;
 mod words;
 
 pub use fields::Fields;
-pub use fronts::put_front;
+pub use front::put_front;
 pub use hex::{digit, hex2, hex4, hex8, read_hex8};
 pub use reading::{Block, ENDLESS, InputFault, read_input, read_until, skip_rest};
 pub use words::is_word;
