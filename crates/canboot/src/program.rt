@@ -93,8 +93,8 @@ fn has_no_color<R: Env + AllocGlobal>(rt: &R) -> bool {
 }
 
 /// Runs canboot on these words, of which the first is the program's name, with these streams, and
-/// gives its exit status: that of [`check_file`], [`run_text`], [`live_text`](crate::live_text) or [`replay_text`], 0 for help and the
-/// version, 2 for wrong words, 3 for a file that can't be opened or made. Where `err` is a terminal, a live run
+/// gives its exit status: that of [`check_file`], [`run_text`], [`live_text`](crate::live_text), [`replay_text`], [`mend_text`] or
+/// [`tell_text`], 0 for help and the version, 2 for wrong words, 3 for a file that can't be opened or made. Where `err` is a terminal, a live run
 /// says the time with each line there.
 pub fn run_words<
     R: Files<File = File>
