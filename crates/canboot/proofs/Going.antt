@@ -37,6 +37,11 @@ pub both_ok : {X E P Q S : Type 0} (r : Result X E) → IfOk r (λ _. P) → IfO
 both_ok (Ok x) p q f = f p q
 both_ok (Err e) p q f = tt
 
+-- what holds whatever comes of it
+pub ok_always : {X E P : Type 0} (r : Result X E) → P → IfOk r (λ _. P)
+ok_always (Ok x) p = p
+ok_always (Err e) p = tt
+
 -- ---- moments that are no entries
 
 no_entry : (m : Moment) (placed : List (Placed Entry)) → may_change_boots m ≡ false → placed_by m placed ≡ placed

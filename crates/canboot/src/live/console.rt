@@ -15,16 +15,19 @@ ghost use Rattle.canboot.specs.Asking.{asked_of, asked_unless, is_start_of_all, 
 ghost use Rattle.cm_live.specs.declared.console.Command.TheVariants.{Start};
 
 use crate::live::ending::Ending;
+use crate::live::progress::Course;
 use crate::live::register::LiveRegister;
 use crate::live::versions::report_seen;
 use crate::live::watching::Watcher;
-use canboot_words::{Bad, NoBootOf, say};
+use canboot_words::say;
 use cm_history::Call;
 use cm_live::{BadLine, BusName, Command, TypedLine, read_command};
 use cm_netlist::Network;
 use cm_nmt::NodeId;
-use cm_register::RunName;
-use cm_watch::{Event, Happening as Watched, NoBoot, Watch};
+use cm_register::{RunName, Seat};
+use cm_versions::VersionReader;
+use cm_watch::{Happening as Watched, NoBoot, Watch};
+use std::alloc::Global;
 use std::io::{self, Write};
 use std::sync::Wait;
 use std::time::Clock;
@@ -78,6 +81,62 @@ fn is_start_of_all(watch: &Watch) -> bool
     watch.is_stopped() && !watch.phase().is_halted()
 }
 
+/// Shows the report of what has happened so far, of a version that has all that the operator's seat knows.
+pub(crate) fn show_report<K: RunName, E: Write>(
+    err: &mut E,
+    alloc: Global,
+    versions: &mut VersionReader<K>,
+    network: &Network,
+    seat: &Seat<K>,
+)
+    requires { network.now ≡ K.net }
+{
+    let mut text = Vec::new(alloc);
+    let _ = if report_seen(versions, network, seat, &mut text) {
+        write_lines(err, text.as_slice())
+    } else {
+        writeln!(err, "canboot: out of memory")
+    };
+}
+
+impl<'w, 'a, 'n, R: Wait + Clock> Course<'w, 'a, 'n, R> {
+    /// Asks the watch for a boot of the slave.
+    fn boot_now<E: Write>(&mut self, err: &mut E, id: NodeId, now: u64)
+        requires { now < 2 ^ 63 }
+        ensures network { self.new.network ≡ self.old.network }
+        ensures told { (s : WatchSettings) (past : Past) → Follows self.old.progress self.old.network.now s past
+            → Follows self.new.progress self.old.network.now s
+            (asked_unless (no_boot_of self.old.network.now past id) id now ++ past) }
+    {
+        match no_boot(self.network, &self.progress.watch, id) {
+            Some(none) => self.teller.tell_no_boot(err, self.setting.rt, id, none),
+            None => self.note(err, &Watched::Asked(id), now),
+        }
+    }
+
+    /// Does what an operator asks for of the watch, and shows what there is to type; what else is asked for is left to whoever makes
+    /// the calls.
+    fn ask<E: Write>(&mut self, err: &mut E, command: &Command, now: u64)
+        requires { now < 2 ^ 63 }
+        ensures told { (s : WatchSettings) (past : Past) → Follows self.old.progress self.old.network.now s past
+            → Follows self.new.progress self.old.network.now s
+            (asked_of (Some command.now) self.old.network.now past now ++ past) }
+        ensures network { self.new.network ≡ self.old.network }
+    {
+        match command {
+            Command::Boot(id) => {
+                let _in_range = id.get();
+                self.boot_now(err, *id, now);
+            }
+            Command::Quit => self.note(err, &Watched::Ends(now), now),
+            Command::Help => {
+                let _ = say(err, &TYPING);
+            }
+            Command::Make(_) | Command::Request(_, _) | Command::Start | Command::Status => {}
+        }
+    }
+}
+
 impl<'w, 'a, 'n, R: Wait + Clock + Drop, K: RunName, B: BusName, M: LiveRegister<K, R>> Watcher<
     'w,
     'a,
@@ -91,10 +150,9 @@ impl<'w, 'a, 'n, R: Wait + Clock + Drop, K: RunName, B: BusName, M: LiveRegister
     fn request(&mut self, line: &TypedLine<B>, target: u8, value: u8) -> Result<(), Ending>
         ensures made { IfOk result
             (λ _. HasMadeOrNot (RequestCall target value) self.old.operator self.new.operator) }
-        ensures progress { self.new.progress ≡ self.old.progress }
-        ensures network { self.new.network ≡ self.old.network }
+        ensures course { self.new.course ≡ self.old.course }
     {
-        let rt = self.setting.rt;
+        let rt = self.course.setting.rt;
         self.operator
             .request(rt, self.register, line, target, value)?;
         Ok(())
@@ -103,71 +161,24 @@ impl<'w, 'a, 'n, R: Wait + Clock + Drop, K: RunName, B: BusName, M: LiveRegister
     /// Starts the network: where all nodes are stopped, by a request to all.
     fn start(&mut self, line: &TypedLine<B>) -> Result<(), Ending>
         ensures made { IfOk result (λ _. HasObeyed Start self.old.operator self.new.operator) }
-        ensures progress { self.new.progress ≡ self.old.progress }
-        ensures network { self.new.network ≡ self.old.network }
+        ensures course { self.new.course ≡ self.old.course }
     {
-        if is_start_of_all(&self.progress.watch) {
+        if is_start_of_all(&self.course.progress.watch) {
             self.request(line, 128, 5)
         } else {
             self.call(Call::StartNetwork)
         }
     }
 
-    /// Asks the watch for a boot of the slave.
-    fn boot_now<E: Write>(&mut self, err: &mut E, id: NodeId, now: u64)
-        requires { now < 2 ^ 63 }
-        ensures calls { self.new.operator ≡ self.old.operator }
-        ensures network { self.new.network ≡ self.old.network }
-        ensures told { (s : WatchSettings) (past : Past) → Follows self.old.progress self.old.network.now s past
-            → Follows self.new.progress self.old.network.now s
-            (asked_unless (no_boot_of self.old.network.now past id) id now ++ past) }
-    {
-        match no_boot(self.network, &self.progress.watch, id) {
-            Some(none) => {
-                let _ = say(err, &NoBootOf(id, none));
-                self.follow(&Event::NotBooted(id, none));
-            }
-            None => self.note(err, &Watched::Asked(id), now),
-        }
-    }
-
-    /// Shows the report of what has happened so far.
-    fn report<E: Write>(&mut self, err: &mut E)
-        ensures progress { self.new.progress ≡ self.old.progress }
-        ensures network { self.new.network ≡ self.old.network }
-        ensures calls { self.new.operator ≡ self.old.operator }
-    {
-        let mut text = Vec::new(self.setting.alloc);
-        let seat = self.operator.as_seat();
-        let network = self.register.network();
-        let _ = if report_seen(&mut self.versions, network, seat, &mut text) {
-            write_lines(err, text.as_slice())
-        } else {
-            writeln!(err, "canboot: out of memory")
-        };
-    }
-
-    /// Shows the report, if the operator has asked for it, once a version was shown with all that has happened.
-    pub(crate) fn report_if_due<E: Write>(&mut self, err: &mut E)
-        ensures progress { self.new.progress ≡ self.old.progress }
-        ensures network { self.new.network ≡ self.old.network }
-        ensures calls { self.new.operator ≡ self.old.operator }
-    {
-        if self.is_report_due {
-            self.is_report_due = false;
-            self.report(err);
-        }
-    }
-
     /// Does what the operator has typed next, if there is a line.
     pub(crate) fn obey_next<E: Write>(&mut self, err: &mut E, now: u64) -> Result<(), Ending>
         requires { now < 2 ^ 63 }
-        ensures obeyed { (s : WatchSettings) (past : Past) → Follows self.old.progress self.old.network.now s past
-            → IfOk result (λ _. HasTaken Typed self.old.setting.now.options.seconds B.typed
-            self.new.progress self.old.network.now s past now self.old.operator self.new.operator) }
-        ensures network { IfOk result (λ _. self.new.network ≡ self.old.network) }
+        ensures obeyed { (s : WatchSettings) (past : Past) → Follows self.old.course.progress self.old.course.network.now s past
+            → IfOk result (λ _. HasTaken Typed self.old.course.setting.now.options.seconds B.typed
+            self.new.course.progress self.old.course.network.now s past now self.old.operator self.new.operator) }
+        ensures network { IfOk result (λ _. self.new.course.network ≡ self.old.course.network) }
     {
-        match self.typed.try_recv(self.setting.rt) {
+        match self.typed.try_recv(self.course.setting.rt) {
             Ok(line) => self.obey(err, &line, now),
             Err(_) => Ok(()),
         }
@@ -184,26 +195,22 @@ impl<'w, 'a, 'n, R: Wait + Clock + Drop, K: RunName, B: BusName, M: LiveRegister
         requires time { now < 2 ^ 63 }
         requires plain { AsksPlainly command.now }
         ensures made { IfOk result (λ _. HasObeyed command.now self.old.operator self.new.operator) }
-        ensures told { (s : WatchSettings) (past : Past) → Follows self.old.progress self.old.network.now s past
-            → IfOk result (λ _. Follows self.new.progress self.old.network.now s
-            (asked_of (Some command.now) self.old.network.now past now ++ past)) }
-        ensures network { IfOk result (λ _. self.new.network ≡ self.old.network) }
+        ensures told { (s : WatchSettings) (past : Past) → Follows self.old.course.progress self.old.course.network.now s past
+            → IfOk result (λ _. Follows self.new.course.progress self.old.course.network.now s
+            (asked_of (Some command.now) self.old.course.network.now past now ++ past)) }
+        ensures network { IfOk result (λ _. self.new.course.network ≡ self.old.course.network) }
     {
+        self.course.ask(err, command, now);
         match command {
-            Command::Make(call) => self.call(*call)?,
-            Command::Request(target, value) => self.request(line, *target, *value)?,
-            Command::Boot(id) => {
-                let _in_range = id.get();
-                self.boot_now(err, *id, now);
+            Command::Make(call) => self.call(*call),
+            Command::Request(target, value) => self.request(line, *target, *value),
+            Command::Start => self.start(line),
+            Command::Status => {
+                self.is_report_due = true;
+                Ok(())
             }
-            Command::Start => self.start(line)?,
-            Command::Status => self.is_report_due = true,
-            Command::Help => {
-                let _ = say(err, &TYPING);
-            }
-            Command::Quit => self.note(err, &Watched::Ends(now), now),
+            Command::Boot(_) | Command::Help | Command::Quit => Ok(()),
         }
-        Ok(())
     }
 
     /// Does what a line asks for that the operator has typed.
@@ -211,17 +218,17 @@ impl<'w, 'a, 'n, R: Wait + Clock + Drop, K: RunName, B: BusName, M: LiveRegister
         requires { now < 2 ^ 63 }
         ensures stands { LineStandsIn B.typed line.now.place line.now.line }
         ensures made { IfOk result (λ _. HasObeyedIf (asked_by line.now.line) self.old.operator self.new.operator) }
-        ensures told { (s : WatchSettings) (past : Past) → Follows self.old.progress self.old.network.now s past
-            → IfOk result (λ _. Follows self.new.progress self.old.network.now s
-            (asked_of (asked_by line.now.line) self.old.network.now past now ++ past)) }
-        ensures network { IfOk result (λ _. self.new.network ≡ self.old.network) }
+        ensures told { (s : WatchSettings) (past : Past) → Follows self.old.course.progress self.old.course.network.now s past
+            → IfOk result (λ _. Follows self.new.course.progress self.old.course.network.now s
+            (asked_of (asked_by line.now.line) self.old.course.network.now past now ++ past)) }
+        ensures network { IfOk result (λ _. self.new.course.network ≡ self.old.course.network) }
     {
         match read_command(line.line()) {
             Ok(command) => self.carry_out(err, line, &command, now),
             Err(BadLine::Empty) => Ok(()),
             Err(bad) => {
-                let _ = say(err, &Bad(bad));
-                self.follow(&Event::BadLine);
+                let rt = self.course.setting.rt;
+                self.course.teller.tell_bad_line(err, rt, bad);
                 Ok(())
             }
         }

@@ -9,12 +9,10 @@ ghost use Rattle.canboot.specs.Going.{Follows};
 ghost use Rattle.canboot.specs.Sendings.{HasSentSteps, IsFrameFor, is_frame};
 
 use crate::live::ending::Ending;
-use crate::live::register::LiveRegister;
-use crate::live::watching::Watcher;
+use crate::live::progress::Course;
 use cm_can::{CanFrame, ErrorControl, error_control_frame, guard_request};
-use cm_live::{BusName, Outlet};
+use cm_live::Outlet;
 use cm_netlist::Network;
-use cm_register::RunName;
 use cm_watch::Step;
 use std::io::Write;
 use std::sync::Wait;
@@ -63,15 +61,7 @@ fn send_steps<W: Write + Drop>(network: &Network, steps: &[Step], outlet: &mut O
     }
 }
 
-impl<'w, 'a, 'n, R: Wait + Clock + Drop, K: RunName, B: BusName, M: LiveRegister<K, R>> Watcher<
-    'w,
-    'a,
-    'n,
-    R,
-    K,
-    B,
-    M,
-> {
+impl<'w, 'a, 'n, R: Wait + Clock> Course<'w, 'a, 'n, R> {
     /// Sends what the watch gives now for error control. Where it can't be written, the run ends.
     pub(crate) fn send_error_control<W: Write + Drop>(
         &mut self,
@@ -86,7 +76,6 @@ impl<'w, 'a, 'n, R: Wait + Clock + Drop, K: RunName, B: BusName, M: LiveRegister
             → IfOk result (λ _. Follows self.new.progress self.old.network.now s
             (given now (error_control_at self.old.network.now s past now) past)) }
         ensures network { self.new.network ≡ self.old.network }
-        ensures calls { self.new.operator ≡ self.old.operator }
     {
         let alloc = self.setting.alloc;
         let steps = self.progress.watch.error_control(alloc, self.network, now)?;

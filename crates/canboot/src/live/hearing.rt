@@ -8,83 +8,72 @@ ghost use Rattle.cm_watch.specs.Echoes.{behind_sent_all, count_at};
 ghost use Rattle.cm_watch.specs.Notices.{left_out_by, notice_by};
 ghost use Rattle.canboot_words.specs.NoticeWords.{notice_line};
 
-use crate::live::register::LiveRegister;
-use crate::live::watching::Watcher;
+use crate::live::events::Events;
+use crate::live::saying::Teller;
 use canboot_words::say_notice;
 use cm_can::Remark;
 use cm_history::Entry;
-use cm_live::BusName;
-use cm_register::RunName;
+use cm_netlist::Network;
 use cm_sequential::frames;
-use cm_watch::{Event, Notice};
+use cm_watch::{Event, Notice, Notices};
 use std::io::{self, Write};
 use std::sync::Wait;
 use std::time::Clock;
 
-impl<'w, 'a, 'n, R: Wait + Clock + Drop, K: RunName, B: BusName, M: LiveRegister<K, R>> Watcher<
-    'w,
-    'a,
-    'n,
-    R,
-    K,
-    B,
-    M,
-> {
-    /// The frames of an entry are ours: each comes back at most once. It is recorded before they are sent, so that none has come
-    /// back yet.
-    pub(crate) fn count_sent(&mut self, entry: &Entry)
-        ensures sent { (k : ℕ) → k < 640 → count_at self.new.notices.sent k
-            ≡ behind_sent_all (frames_of (listing self.old.network.now) entry.now.orders) k (count_at self.old.notices.sent k) }
-        ensures progress { self.new.progress ≡ self.old.progress }
-        ensures calls { self.new.operator ≡ self.old.operator }
-        ensures network { self.new.network ≡ self.old.network }
-    {
-        let sent = frames(self.network, entry.orders);
-        self.notices.send(sent.as_slice());
-    }
+/// The frames of an entry are ours: each comes back at most once. It is recorded before they are sent, so that none has come back yet.
+pub(crate) fn count_sent(notices: &mut Notices, network: &Network, entry: &Entry)
+    ensures { (k : ℕ) → k < 640 → count_at notices.new.sent k
+        ≡ behind_sent_all (frames_of (listing network.now) entry.now.orders) k (count_at notices.old.sent k) }
+{
+    let sent = frames(network, entry.orders);
+    notices.send(sent.as_slice());
+}
 
-    /// Tells other programs what is told of what the bus says, if something is.
-    fn follow_notice(&mut self, notice: &Option<Notice>)
-        ensures progress { self.new.progress ≡ self.old.progress }
-        ensures network { self.new.network ≡ self.old.network }
-        ensures calls { self.new.operator ≡ self.old.operator }
-    {
+impl Events {
+    /// Tells what is told of what the bus says, if something is.
+    fn tell_notice<R: Wait + Clock>(
+        &mut self,
+        rt: &R,
+        network: &Network,
+        notice: &Option<Notice>,
+    ) {
         if let Some(notice) = notice {
-            self.follow(&Event::Notice {
-                network: self.network,
-                notice,
-            });
+            self.tell(rt, &Event::Notice { network, notice });
         }
     }
+}
 
+impl Teller {
     /// The bus says this, which is told where it is to be.
-    pub(crate) fn tell_remark<E: Write>(
+    pub(crate) fn tell_remark<R: Wait + Clock, E: Write>(
         &mut self,
         err: &mut E,
+        rt: &R,
+        network: &Network,
         remark: &Remark,
         now: u64,
     ) -> io::Result<()>
-        ensures told { OnOk result (Appends (E.contents err.old) (E.contents err.new)
-            (notice_line self.old.network.now (notice_by self.old.notices self.old.network.now now remark.now))) }
-        ensures progress { self.new.progress ≡ self.old.progress }
-        ensures calls { self.new.operator ≡ self.old.operator }
-        ensures network { self.new.network ≡ self.old.network }
+        ensures { OnOk result (Appends (E.contents err.old) (E.contents err.new)
+            (notice_line network.now (notice_by self.old.notices network.now now remark.now))) }
     {
-        let notice = self.notices.hear(self.network, now, remark);
-        self.follow_notice(&notice);
-        say_notice(err, self.network, notice)
+        let notice = self.notices.hear(network, now, remark);
+        self.events.tell_notice(rt, network, &notice);
+        say_notice(err, network, notice)
     }
 
     /// How many messages were left out is told, where it is to be.
-    pub(crate) fn tell_left_out<E: Write>(&mut self, err: &mut E, now: u64) -> io::Result<()>
-        ensures told { OnOk result (Appends (E.contents err.old) (E.contents err.new)
-            (notice_line self.old.network.now (left_out_by self.old.notices now))) }
-        ensures progress { self.new.progress ≡ self.old.progress }
-        ensures calls { self.new.operator ≡ self.old.operator }
-        ensures network { self.new.network ≡ self.old.network }
+    pub(crate) fn tell_left_out<R: Wait + Clock, E: Write>(
+        &mut self,
+        err: &mut E,
+        rt: &R,
+        network: &Network,
+        now: u64,
+    ) -> io::Result<()>
+        ensures { OnOk result (Appends (E.contents err.old) (E.contents err.new)
+            (notice_line network.now (left_out_by self.old.notices now))) }
     {
         let notice = self.notices.turn(now);
-        self.follow_notice(&notice);
-        say_notice(err, self.network, notice)
+        self.events.tell_notice(rt, network, &notice);
+        say_notice(err, network, notice)
     }
 }

@@ -1,6 +1,7 @@
 //! How far a live run has come.
 
-ghost use Rattle.std.specs.Prelude.{◌≡◌, ◌<◌, ◌^◌, [], ◌∷◌, ◌++◌, false, IfNone, IfSome, OnOk, Some};
+ghost use Rattle.std.specs.Prelude.{◌≡◌, ◌<◌, ◌^◌, [], ◌∷◌, ◌++◌, ℕ, List, Option, false, IfNone, IfOk, IfSome, OnOk, Some};
+ghost use Rattle.cm_seat.specs.Views.{SeatView};
 ghost use Rattle.cm_netlist.specs.Network.{Network as NetworkList};
 ghost use Rattle.cm_watch.specs.Guarding.{guard_of, heard_at};
 ghost use Rattle.cm_watch.specs.Pasts.{Past};
@@ -8,18 +9,30 @@ ghost use Rattle.cm_watch.specs.Signals.{state_heard};
 ghost use Rattle.cm_watch.specs.Tried.{may_change_boots};
 ghost use Rattle.cm_watch.specs.Watches.{Watches};
 ghost use Rattle.canboot.specs.Again.{HasHeardAgain, state_again};
-ghost use Rattle.canboot.specs.Going.{ComesNext, Follows};
-ghost use Rattle.cm_watch.specs.declared.happening.Happening.TheVariants.{Called};
+ghost use Rattle.canboot.specs.Going.{ComesNext, Follows, GoesOn, HasTaken, HasToldEntries, ends_behind};
+ghost use Rattle.cm_watch.specs.declared.happening.Happening.TheVariants.{Called, Ended};
 ghost use Rattle.cm_watch.specs.declared.happening.Moment.TheVariants.{Happened};
 ghost use Rattle.cm_watch.specs.declared.settings.Settings.{Settings as WatchSettings};
 
+use crate::live::ending::{Ending, can_go_on};
+use crate::live::events::Events;
+use crate::live::hearing::count_sent;
+use crate::live::saying::Teller;
+use crate::live::setting::Setting;
+use crate::live::watching::{MOST_TAKEN, is_set};
 use cm_history::Entry;
-use cm_live::Heartbeats;
+use cm_live::{Happening as Heard, Heartbeats, Outlet};
 use cm_netlist::Network;
 use cm_nmt::NodeId;
+use cm_register::{CallFault, RunName, Seat};
 use cm_sequential::frames;
+use cm_versions::VersionReader;
 use cm_watch::{Happening, Settings, Tried, Waiting, Watch, guard_of};
+use crossbeam_channel::Receiver;
 use std::alloc::{AllocError, Global};
+use std::io::Write;
+use std::sync::Wait;
+use std::time::Clock;
 
 /// What the watch keeps of a live run, what waits to be told in words, and what came of the boots of slaves.
 #[derive(Drop)]
@@ -97,6 +110,197 @@ impl Progress<Entry> {
         self.tried.count(&entry);
         let count = frames(network, entry.orders).len() as u64;
         self.waiting.wait(entry, told, is_halted, count)
+    }
+
+    /// The entries that come next in the history are told to the watch, and wait to be told in words.
+    fn take_entries<R: Wait>(
+        &mut self,
+        rt: &R,
+        network: &Network,
+        now: u64,
+    ) -> Result<(), AllocError>
+        requires { now < 2 ^ 63 }
+        ensures { (s : WatchSettings) (past : Past) → Follows self.old network.now s past
+            → IfOk result (λ _. HasToldEntries self.new network.now s past now) }
+    {
+        for _ in rt.forever() {
+            match self.next_entry() {
+                Some(entry) => self.take_entry(network, entry, now)?,
+                None => break,
+            }
+        }
+        Ok(())
+    }
+
+    /// An entry of the history was recorded, before which so many stand.
+    fn enter<R: Wait>(
+        &mut self,
+        rt: &R,
+        network: &Network,
+        position: u64,
+        entry: Entry,
+        now: u64,
+    ) -> Result<(), AllocError>
+        requires { now < 2 ^ 63 }
+        ensures { (s : WatchSettings) (past : Past) → Follows self.old network.now s past
+            → IfOk result (λ _. HasToldEntries self.new network.now s past now) }
+    {
+        self.waiting.take(position, entry)?;
+        self.take_entries(rt, network, now)
+    }
+}
+
+/// How a live run goes on: how far it has come, and by what it is told.
+#[derive(Drop)]
+pub(crate) struct Course<'w, 'a, 'n, R> {
+    pub(crate) setting: &'w Setting<'a, 'n, R>,
+    pub(crate) network: &'n Network,
+    pub(crate) progress: Progress<Entry>,
+    pub(crate) teller: Teller,
+}
+
+impl<'w, 'a, 'n, R: Wait + Clock> Course<'w, 'a, 'n, R> {
+    /// Nothing has happened.
+    pub(crate) fn new(setting: &'w Setting<'a, 'n, R>, events: Events) -> Course<'w, 'a, 'n, R>
+        ensures network { result.network ≡ setting.now.network }
+        ensures follows { (net : NetworkList) → Follows result.progress net
+            (record { settle_ms = setting.now.options.settle_ms; heartbeat_ms = setting.now.options.heartbeat_ms }) [] }
+    {
+        let settings = Settings {
+            settle_ms: setting.options.settle_ms,
+            heartbeat_ms: setting.options.heartbeat_ms,
+        };
+        Course {
+            setting,
+            network: setting.network,
+            progress: Progress::new(setting.alloc, settings),
+            teller: Teller::new(events),
+        }
+    }
+
+    /// What the watch is told beside entries, and what an operator is told with it.
+    pub(crate) fn note<E: Write>(&mut self, err: &mut E, happening: &Happening, now: u64)
+        requires time { now < 2 ^ 63 }
+        requires other { may_change_boots (Happened happening.now) ≡ false }
+        ensures told { (s : WatchSettings) (past : Past) → Follows self.old.progress self.old.network.now s past
+            → Follows self.new.progress self.old.network.now s ((now, Happened happening.now) ∷ past) }
+        ensures network { self.new.network ≡ self.old.network }
+    {
+        if let Some(id) = self.progress.note(self.network, happening, now) {
+            let rt = self.setting.rt;
+            let tried = &self.progress.tried;
+            self.teller.tell_given_up(err, rt, self.network, tried, id);
+        }
+    }
+
+    /// A worker's attempts at a slave have ended; where a call couldn't be made, the run does.
+    fn end<E: Write>(
+        &mut self,
+        err: &mut E,
+        id: NodeId,
+        fault: Option<CallFault>,
+        now: u64,
+    ) -> Result<(), Ending>
+        requires { now < 2 ^ 63 }
+        ensures told { (s : WatchSettings) (past : Past) → Follows self.old.progress self.old.network.now s past
+            → IfOk result (λ _. Follows self.new.progress self.old.network.now s ((now, Happened (Ended id)) ∷ past)) }
+        ensures network { self.new.network ≡ self.old.network }
+    {
+        if let Some(fault) = fault {
+            return Err(Ending::NotCalled(fault));
+        }
+        self.note(err, &Happening::Ended(id), now);
+        Ok(())
+    }
+
+    /// The operator types no more: the run is to end so many seconds later, if it was said how many.
+    fn end_behind<E: Write>(&mut self, err: &mut E, now: u64)
+        requires { now < 2 ^ 63 }
+        ensures told { (s : WatchSettings) (past : Past) → Follows self.old.progress self.old.network.now s past
+            → Follows self.new.progress self.old.network.now s
+            (ends_behind self.old.setting.now.options.seconds now ++ past) }
+        ensures network { self.new.network ≡ self.old.network }
+    {
+        match self.setting.options.seconds {
+            Some(seconds) => {
+                let rest_ms = u64::from(seconds) * 1000;
+                self.note(err, &Happening::Ends(now + rest_ms), now);
+            }
+            None => {}
+        }
+    }
+
+    /// Takes one thing that has happened; a line that was typed is left to whoever obeys it.
+    pub(crate) fn take<E: Write>(
+        &mut self,
+        err: &mut E,
+        happening: Heard,
+        now: u64,
+    ) -> Result<(), Ending>
+        requires { now < 2 ^ 63 }
+        ensures told { (s : WatchSettings) (past : Past) → Follows self.old.progress self.old.network.now s past
+            → IfOk result (λ _. (typed : Option (List ℕ)) (seat : SeatView)
+            → HasTaken happening self.old.setting.now.options.seconds typed
+            self.new.progress self.old.network.now s past now seat seat) }
+        ensures network { self.new.network ≡ self.old.network }
+    {
+        let rt = self.setting.rt;
+        match happening {
+            Heard::Entered(position, entry) => {
+                count_sent(&mut self.teller.notices, self.network, &entry);
+                self.progress.enter(rt, self.network, position, entry, now)?;
+            }
+            Heard::Ended(id, fault) => self.end(err, id, fault, now)?,
+            Heard::Told(id, byte) => self.progress.hear(self.network, id, byte, now),
+            Heard::Said(remark) => {
+                let _ = self.teller.tell_remark(err, rt, self.network, &remark, now);
+            }
+            Heard::Typed => {}
+            Heard::NoMoreTyped => self.end_behind(err, now),
+            Heard::NoFrames => self.teller.tell_no_frames(err, rt, self.setting.options.format),
+            Heard::NoMoreHeard => return Err(Ending::NotHeard),
+        }
+        Ok(())
+    }
+
+    /// At the end of the run, takes the entries that were recorded by now and weren't taken yet.
+    pub(crate) fn take_rest(&mut self, happenings: &Receiver<Heard>) {
+        let rt = self.setting.rt;
+        for _ in 0..MOST_TAKEN {
+            let Ok(happening) = happenings.try_recv(rt) else {
+                return;
+            };
+            if let Heard::Entered(position, entry) = happening {
+                let now = self.setting.now();
+                let entered = self.progress.enter(rt, self.network, position, entry, now);
+                if entered.is_err() {
+                    return;
+                }
+            }
+        }
+    }
+
+    /// Notes which slaves were heard again, tells what is to be told by now, and sends what is to be sent for error control. Where
+    /// a frame or an entry was lost, the run ends.
+    pub(crate) fn keep_up<K: RunName, E: Write, W: Write + Drop>(
+        &mut self,
+        err: &mut E,
+        outlet: &mut Outlet<W>,
+        versions: &mut VersionReader<K>,
+        seat: &Seat<K>,
+        now: u64,
+    ) -> Result<(), Ending>
+        requires { now < 2 ^ 63 }
+        ensures { IfOk result
+            (λ _. GoesOn self.old.network.now self.old.progress self.new.network.now self.new.progress) }
+    {
+        let heartbeats = &self.setting.heartbeats;
+        note_heartbeats(&mut self.progress.watch, self.network, heartbeats, now);
+        self.tell(err, versions, seat, false);
+        let rt = self.setting.rt;
+        let _ = self.teller.tell_left_out(err, rt, self.network, now);
+        self.send_error_control(outlet, now)?;
+        can_go_on(is_set(&self.setting.broken), is_set(&self.setting.untold))
     }
 }
 

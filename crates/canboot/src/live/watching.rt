@@ -1,31 +1,28 @@
 //! How a live run goes on: what happens is told to the watch, and the steps that it gives are made.
 
-ghost use Rattle.std.specs.Prelude.{◌≡◌, ◌<◌, ◌^◌, ◌++◌, ◌∷◌, [], false, IfOk};
+ghost use Rattle.std.specs.Prelude.{◌≡◌, ◌<◌, ◌^◌, ◌++◌, ◌∷◌, [], IfOk};
 ghost use Rattle.cm_netlist.specs.Network.{Network as NetworkList};
 ghost use Rattle.cm_live.specs.Console.{IsOfWatch};
-ghost use Rattle.cm_watch.specs.Guarding.{heard_at};
 ghost use Rattle.cm_watch.specs.Pasts.{Past};
-ghost use Rattle.cm_watch.specs.Tried.{may_change_boots};
-ghost use Rattle.cm_watch.specs.declared.happening.Happening.TheVariants.{Ended};
-ghost use Rattle.cm_watch.specs.declared.happening.Moment.TheVariants.{Happened};
 ghost use Rattle.cm_watch.specs.declared.settings.Settings.{Settings as WatchSettings};
-ghost use Rattle.canboot.specs.Going.{Follows, GoesOn, HasTaken, HasToldEntries, ends_behind};
+ghost use Rattle.canboot.specs.Going.{Follows, GoesOn, HasTaken};
 ghost use Rattle.canboot.specs.Steps.{calls_made};
 
-use crate::live::ending::{Ending, can_go_on};
+use crate::live::console::show_report;
+use crate::live::ending::Ending;
 use crate::live::events::Events;
 use crate::live::operator_seat::OperatorSeat;
-use crate::live::progress::{Progress, note_heartbeats};
+use crate::live::progress::Course;
 use crate::live::publishing::Batches;
 use crate::live::register::LiveRegister;
+use crate::live::saying::running;
 use crate::live::setting::Setting;
-use cm_history::{Call, Entry};
+use cm_history::Call;
 use cm_live::{BusName, Happening, Outlet, TypedLine};
-use cm_netlist::Network;
 use cm_nmt::NodeId;
-use cm_register::{CallFault, RunName};
+use cm_register::RunName;
 use cm_versions::{Publisher, VersionReader};
-use cm_watch::{Happening as Watched, Notices, Pace, Settings};
+use cm_watch::Pace;
 use crossbeam_channel::{Receiver, Sender};
 use std::io::Write;
 use std::sync::Wait;
@@ -49,27 +46,19 @@ pub(crate) struct Watcher<
     B: BusName,
     M: LiveRegister<K, R>,
 > {
-    pub(crate) setting: &'w Setting<'a, 'n, R>,
-    pub(crate) network: &'n Network,
+    pub(crate) course: Course<'w, 'a, 'n, R>,
     pub(crate) register: &'w M,
     pub(crate) operator: OperatorSeat<K, B>,
     /// The lines that the operator types.
     pub(crate) typed: Receiver<TypedLine<B>>,
     /// The slaves that each worker is to boot.
     pub(crate) jobs: Vec<Sender<NodeId>>,
-    pub(crate) progress: Progress<Entry>,
-    pub(crate) notices: Notices,
-    pub(crate) events: Events,
     /// Who reads versions of the history.
-    pub(crate) versions: VersionReader<K>,
+    versions: VersionReader<K>,
     batches: Batches,
     /// The operator has asked for the report.
     pub(crate) is_report_due: bool,
     pace: Pace,
-    /// It was told that a line of the journal couldn't be written.
-    pub(crate) is_unrecorded_told: bool,
-    /// It was told that the file of the status couldn't be written.
-    pub(crate) is_unshown_told: bool,
 }
 
 /// Whether this was set by another thread.
@@ -84,6 +73,15 @@ pub(crate) fn since<R: Clock>(rt: &R, start: Instant) -> u64
     match start.elapsed(rt) {
         Ok(time) => u64::try_from(time.as_millis()).unwrap_or(0).min(1 << 62),
         Err(_) => 0,
+    }
+}
+
+impl<'a, 'n, R: Clock> Setting<'a, 'n, R> {
+    /// The time since the run began, in ms.
+    pub(crate) fn now(&self) -> u64
+        ensures { result < 2 ^ 63 }
+    {
+        since(self.rt, self.start)
     }
 }
 
@@ -107,30 +105,20 @@ impl<'w, 'a, 'n, R: Wait + Clock + Drop, K: RunName, B: BusName, M: LiveRegister
         versions: VersionReader<K>,
     ) -> Watcher<'w, 'a, 'n, R, K, B, M>
         ensures operator { result.operator ≡ operator }
-        ensures network { result.network ≡ setting.now.network }
-        ensures follows { (net : NetworkList) → Follows result.progress net
+        ensures network { result.course.network ≡ setting.now.network }
+        ensures follows { (net : NetworkList) → Follows result.course.progress net
             (record { settle_ms = setting.now.options.settle_ms; heartbeat_ms = setting.now.options.heartbeat_ms }) [] }
     {
-        let settings = Settings {
-            settle_ms: setting.options.settle_ms,
-            heartbeat_ms: setting.options.heartbeat_ms,
-        };
         Watcher {
-            setting,
-            network: setting.network,
+            course: Course::new(setting, events),
             register,
             operator,
             typed,
             jobs,
-            progress: Progress::new(setting.alloc, settings),
-            notices: Notices::new(),
-            events,
             versions,
             batches: Batches::new(setting.alloc),
             is_report_due: false,
             pace: Pace::new(),
-            is_unrecorded_told: false,
-            is_unshown_told: false,
         }
     }
 
@@ -147,141 +135,29 @@ impl<'w, 'a, 'n, R: Wait + Clock + Drop, K: RunName, B: BusName, M: LiveRegister
         operator
     }
 
-    /// The time since the run began, in ms.
-    pub(crate) fn now(&self) -> u64
-        ensures { result < 2 ^ 63 }
-    {
-        since(self.setting.rt, self.setting.start)
-    }
-
     /// Makes a call that is neither a report nor a request.
     pub(crate) fn call(&mut self, call: Call) -> Result<(), Ending>
         requires { IsOfWatch call }
         ensures made { IfOk result (λ _. calls_made self.new.operator ≡ calls_made self.old.operator ++ call ∷ []) }
-        ensures progress { self.new.progress ≡ self.old.progress }
-        ensures network { self.new.network ≡ self.old.network }
+        ensures course { self.new.course ≡ self.old.course }
     {
-        self.operator.call(self.setting.rt, self.register, call)?;
+        let rt = self.course.setting.rt;
+        self.operator.call(rt, self.register, call)?;
         Ok(())
-    }
-
-    /// What the watch is told beside entries, and what an operator is told with it.
-    pub(crate) fn note<E: Write>(&mut self, err: &mut E, happening: &Watched, now: u64)
-        requires time { now < 2 ^ 63 }
-        requires other { may_change_boots (Happened happening.now) ≡ false }
-        ensures told { (s : WatchSettings) (past : Past) → Follows self.old.progress self.old.network.now s past
-            → Follows self.new.progress self.old.network.now s ((now, Happened happening.now) ∷ past) }
-        ensures calls { self.new.operator ≡ self.old.operator }
-        ensures network { self.new.network ≡ self.old.network }
-    {
-        if let Some(id) = self.progress.note(self.network, happening, now) {
-            self.tell_given_up(err, id);
-        }
-    }
-
-    /// The entries that come next in the history are told to the watch, and wait to be told in words.
-    fn take_entries(&mut self, now: u64) -> Result<(), Ending>
-        requires { now < 2 ^ 63 }
-        ensures told { (s : WatchSettings) (past : Past) → Follows self.old.progress self.old.network.now s past
-            → IfOk result (λ _. HasToldEntries self.new.progress self.old.network.now s past now) }
-        ensures network { self.new.network ≡ self.old.network }
-        ensures calls { self.new.operator ≡ self.old.operator }
-    {
-        for _ in self.setting.rt.forever() {
-            match self.progress.next_entry() {
-                Some(entry) => self.progress.take_entry(self.network, entry, now)?,
-                None => break,
-            }
-        }
-        Ok(())
-    }
-
-    /// An entry of the history was recorded, before which so many stand.
-    pub(crate) fn enter(&mut self, position: u64, entry: Entry, now: u64) -> Result<(), Ending>
-        requires { now < 2 ^ 63 }
-        ensures told { (s : WatchSettings) (past : Past) → Follows self.old.progress self.old.network.now s past
-            → IfOk result (λ _. HasToldEntries self.new.progress self.old.network.now s past now) }
-        ensures network { self.new.network ≡ self.old.network }
-        ensures calls { self.new.operator ≡ self.old.operator }
-    {
-        self.progress.waiting.take(position, entry)?;
-        self.take_entries(now)
-    }
-
-    /// A worker's attempts at a slave have ended; where a call couldn't be made, the run does.
-    fn end<E: Write>(
-        &mut self,
-        err: &mut E,
-        id: NodeId,
-        fault: Option<CallFault>,
-        now: u64,
-    ) -> Result<(), Ending>
-        requires { now < 2 ^ 63 }
-        ensures told { (s : WatchSettings) (past : Past) → Follows self.old.progress self.old.network.now s past
-            → IfOk result (λ _. Follows self.new.progress self.old.network.now s ((now, Happened (Ended id)) ∷ past)) }
-        ensures calls { self.new.operator ≡ self.old.operator }
-        ensures network { self.new.network ≡ self.old.network }
-    {
-        if let Some(fault) = fault {
-            return Err(Ending::NotCalled(fault));
-        }
-        self.note(err, &Watched::Ended(id), now);
-        Ok(())
-    }
-
-    /// An error control message of a node came, which is news.
-    fn hear(&mut self, id: NodeId, byte: u8, now: u64)
-        requires { now < 2 ^ 63 }
-        ensures told { (s : WatchSettings) (past : Past) → Follows self.old.progress self.old.network.now s past
-            → Follows self.new.progress self.old.network.now s (heard_at self.old.network.now past now id byte ++ past) }
-        ensures calls { self.new.operator ≡ self.old.operator }
-        ensures network { self.new.network ≡ self.old.network }
-    {
-        self.progress.hear(self.network, id, byte, now);
-    }
-
-    /// The operator types no more: the run is to end so many seconds later, if it was said how many.
-    fn end_behind<E: Write>(&mut self, err: &mut E, now: u64)
-        requires { now < 2 ^ 63 }
-        ensures told { (s : WatchSettings) (past : Past) → Follows self.old.progress self.old.network.now s past
-            → Follows self.new.progress self.old.network.now s
-            (ends_behind self.old.setting.now.options.seconds now ++ past) }
-        ensures calls { self.new.operator ≡ self.old.operator }
-        ensures network { self.new.network ≡ self.old.network }
-    {
-        match self.setting.options.seconds {
-            Some(seconds) => {
-                let rest_ms = u64::from(seconds) * 1000;
-                self.note(err, &Watched::Ends(now + rest_ms), now);
-            }
-            None => {}
-        }
     }
 
     /// Takes one thing that has happened.
     fn take<E: Write>(&mut self, err: &mut E, happening: Happening, now: u64) -> Result<(), Ending>
         requires { now < 2 ^ 63 }
-        ensures told { (s : WatchSettings) (past : Past) → Follows self.old.progress self.old.network.now s past
-            → IfOk result (λ _. HasTaken happening self.old.setting.now.options.seconds B.typed
-            self.new.progress self.old.network.now s past now self.old.operator self.new.operator) }
-        ensures network { IfOk result (λ _. self.new.network ≡ self.old.network) }
+        ensures told { (s : WatchSettings) (past : Past) → Follows self.old.course.progress self.old.course.network.now s past
+            → IfOk result (λ _. HasTaken happening self.old.course.setting.now.options.seconds B.typed
+            self.new.course.progress self.old.course.network.now s past now self.old.operator self.new.operator) }
+        ensures network { IfOk result (λ _. self.new.course.network ≡ self.old.course.network) }
     {
         match happening {
-            Happening::Entered(position, entry) => {
-                self.count_sent(&entry);
-                self.enter(position, entry, now)?;
-            }
-            Happening::Ended(id, fault) => self.end(err, id, fault, now)?,
-            Happening::Told(id, byte) => self.hear(id, byte, now),
-            Happening::Said(remark) => {
-                let _ = self.tell_remark(err, &remark, now);
-            }
-            Happening::Typed => self.obey_next(err, now)?,
-            Happening::NoMoreTyped => self.end_behind(err, now),
-            Happening::NoFrames => self.tell_no_frames(err),
-            Happening::NoMoreHeard => return Err(Ending::NotHeard),
+            Happening::Typed => self.obey_next(err, now),
+            _ => self.course.take(err, happening, now),
         }
-        Ok(())
     }
 
     /// Takes what has happened, if something has within a turn's time, and then all else that has.
@@ -290,29 +166,36 @@ impl<'w, 'a, 'n, R: Wait + Clock + Drop, K: RunName, B: BusName, M: LiveRegister
         err: &mut E,
         happenings: &Receiver<Happening>,
     ) -> Result<(), Ending>
-        ensures goes_on { IfOk result
-            (λ _. GoesOn self.old.network.now self.old.progress self.new.network.now self.new.progress) }
+        ensures goes_on { IfOk result (λ _. GoesOn self.old.course.network.now self.old.course.progress
+            self.new.course.network.now self.new.course.progress) }
     {
+        let setting = self.course.setting;
         let wait = Duration::from_millis(TURN_MS);
-        let mut next = happenings.recv_timeout(self.setting.rt, wait).ok();
+        let mut next = happenings.recv_timeout(setting.rt, wait).ok();
         for _ in 0..MOST_TAKEN {
             let Some(happening) = next else {
                 return Ok(());
             };
-            let now = self.now();
-            self.take(err, happening, now)?;
-            next = happenings.try_recv(self.setting.rt).ok();
+            self.take(err, happening, setting.now())?;
+            next = happenings.try_recv(setting.rt).ok();
         }
         Ok(())
     }
 
-    /// Shows readers a version with all that the register has; where memory is refused the next turn does.
-    pub(crate) fn show(&mut self, publisher: &mut Publisher<K, R>)
-        ensures progress { self.new.progress ≡ self.old.progress }
-        ensures network { self.new.network ≡ self.old.network }
+    /// Shows readers a version with all that the register has, where memory is refused the next turn does; and then the report, if the
+    /// operator has asked for it.
+    fn show<E: Write>(&mut self, err: &mut E, publisher: &mut Publisher<K, R>)
+        ensures course { self.new.course ≡ self.old.course }
         ensures calls { self.new.operator ≡ self.old.operator }
     {
-        let _ = self.batches.show(self.setting.rt, self.register, publisher);
+        let setting = self.course.setting;
+        let _ = self.batches.show(setting.rt, self.register, publisher);
+        if self.is_report_due {
+            self.is_report_due = false;
+            let network = self.register.network();
+            let seat = self.operator.as_seat();
+            show_report(err, setting.alloc, &mut self.versions, network, seat);
+        }
     }
 
     /// One turn: takes what has happened, shows readers a version of it, sends what is to be sent for error control, and looks at the
@@ -324,28 +207,41 @@ impl<'w, 'a, 'n, R: Wait + Clock + Drop, K: RunName, B: BusName, M: LiveRegister
         outlet: &mut Outlet<W>,
         publisher: &mut Publisher<K, R>,
     ) -> Result<(), Ending>
-        ensures goes_on { IfOk result
-            (λ _. GoesOn self.old.network.now self.old.progress self.new.network.now self.new.progress) }
+        ensures goes_on { IfOk result (λ _. GoesOn self.old.course.network.now self.old.course.progress
+            self.new.course.network.now self.new.course.progress) }
     {
         self.take_all(err, happenings)?;
-        self.show(publisher);
-        self.report_if_due(err);
-        let now = self.now();
-        let heartbeats = &self.setting.heartbeats;
-        note_heartbeats(&mut self.progress.watch, self.network, heartbeats, now);
-        self.tell(err, false);
-        let _ = self.tell_left_out(err, now);
-        self.send_error_control(outlet, now)?;
-        let is_broken = is_set(&self.setting.broken);
-        let is_untold = is_set(&self.setting.untold);
-        can_go_on(is_broken, is_untold)?;
-        if !self.pace.look(now, self.setting.listening.received()) {
+        self.show(err, publisher);
+        let setting = self.course.setting;
+        let now = setting.now();
+        let seat = self.operator.as_seat();
+        self.course
+            .keep_up(err, outlet, &mut self.versions, seat, now)?;
+        if !self.pace.look(now, setting.listening.received()) {
             return Ok(());
         }
         if self.make_steps(err, now)? {
             return Err(Ending::Asked);
         }
         Ok(())
+    }
+
+    /// Tells what was recorded by now and wasn't told yet, at the end of the run, and which nodes run on.
+    fn tell_rest<E: Write>(
+        &mut self,
+        err: &mut E,
+        happenings: &Receiver<Happening>,
+        publisher: &mut Publisher<K, R>,
+    )
+        ensures calls { self.new.operator ≡ self.old.operator }
+    {
+        self.course.take_rest(happenings);
+        self.show(err, publisher);
+        let seat = self.operator.as_seat();
+        self.course.tell(err, &mut self.versions, seat, true);
+        let running = running(&mut self.versions, self.course.network, seat);
+        let rt = self.course.setting.rt;
+        self.course.teller.tell_end(err, rt, &running);
     }
 
     /// Watches the network until the run is to end. What is sent for error control is written to this outlet, and versions are shown
@@ -357,7 +253,7 @@ impl<'w, 'a, 'n, R: Wait + Clock + Drop, K: RunName, B: BusName, M: LiveRegister
         outlet: &mut Outlet<W>,
         publisher: &mut Publisher<K, R>,
     ) -> Ending {
-        for _ in self.setting.rt.forever() {
+        for _ in self.course.setting.rt.forever() {
             if let Err(ending) = self.turn(err, happenings, outlet, publisher) {
                 self.tell_rest(err, happenings, publisher);
                 return ending;

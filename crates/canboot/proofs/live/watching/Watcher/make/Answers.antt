@@ -1,4 +1,4 @@
-use Rattle.std.proofs.Common.{◌∙◌, ◌∷◌, sym, subst}
+use Rattle.std.proofs.Common.{◌∙◌, ◌∷◌, ap, sym, subst}
 use Rattle.cm_history.specs.declared.call.Entry.{Entry}
 use Rattle.cm_watch.specs.Tried.{Tries}
 use Rattle.cm_watch.specs.declared.happening.Moment.TheVariants.{Gave}
@@ -7,7 +7,7 @@ use Rattle.canboot.proofs.live.watching.Watcher.make.Goals as goal
 
 pub returns-in-Some-clause-tries : goal.returns-in-Some-clause-tries
 returns-in-Some-clause-tries g c = λ now past t.
-    subst (λ (p : Progress Entry). Tries p.tried ((now, Gave c.args.step.now) ∷ past)) (sym (c.call.ensures.progress ∙ c.do_beside.ensures.progress))
+    subst (λ (p : Progress Entry). Tries p.tried ((now, Gave c.args.step.now) ∷ past)) (sym (ap (λ k. k.progress) c.call.ensures.course ∙ c.do_beside.ensures.progress))
     (c.give.ensures now past t)
 
 pub returns-in-None-clause-tries : goal.returns-in-None-clause-tries

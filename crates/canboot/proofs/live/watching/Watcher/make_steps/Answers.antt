@@ -25,7 +25,7 @@ loop-step-preserved g c =
           subst (λ (xs : List Step). HasMade xs c.args.self.now.operator c.make.new.self.operator) (sym grown)
           (steps_more (take i steps) c.step-item.result c.args.self.now.operator c.loop-step.self.operator c.make.new.self.operator was.made c.in_ok-make.ensures.made);
       tries = λ past t.
-          subst (λ (p : Past). Tries c.make.new.self.progress.tried p) (sym (ap (λ (xs : List Step). given now xs past) grown ∙ given_more now (take i steps) c.step-item.result past))
+          subst (λ (p : Past). Tries c.make.new.self.course.progress.tried p) (sym (ap (λ (xs : List Step). given now xs past) grown ∙ given_more now (take i steps) c.step-item.result past))
           (c.make.ensures.tries now (given now (take i steps) past) (was.tries past t));
       waiting = c.make.ensures.waiting ∙ was.waiting;
       watch = c.make.ensures.watch ∙ was.watch;
@@ -34,7 +34,7 @@ loop-step-preserved g c =
 
 pub returns-clause-given : goal.returns-clause-given
 returns-clause-given g c = λ s past f.
-    let net = c.args.self.now.network.now in
+    let net = c.args.self.now.course.network.now in
     let now = c.args.now in
     let steps : List Step = steps_at net s past now in
     let was = c.loop-step.invariant in
@@ -42,9 +42,9 @@ returns-clause-given g c = λ s past f.
     let all : take c.loop-step.step-index c.as_slice-step-items.result.now ≡ c.in_ok-steps.steps.items =
     take_all c.loop-step.step-index c.as_slice-step-items.result.now (omega arith) ∙ c.as_slice-step-items.ensures.value in
     let turned : Watches c.turn.new.self net s (given now c.in_ok-steps.steps.items past) = c.in_ok-steps.ensures.given s past f.watches in
-    follows_given c.args.self.now.progress c.loop-step.self.progress net s past now steps was.waiting f
+    follows_given c.args.self.now.course.progress c.loop-step.self.course.progress net s past now steps was.waiting f
     (subst (λ (v : Watch). Watches v net s (given now steps past)) (sym was.watch) (subst (λ (xs : List Step). Watches c.turn.new.self net s (given now xs past)) are turned))
-    (subst (λ (xs : List Step). Tries c.loop-step.self.progress.tried (given now xs past)) (all ∙ are) (was.tries past f.tries))
+    (subst (λ (xs : List Step). Tries c.loop-step.self.course.progress.tried (given now xs past)) (all ∙ are) (was.tries past f.tries))
 
 pub returns-in_err-make-clause-network : goal.returns-in_err-make-clause-network
 returns-in_err-make-clause-network g c = c.make.ensures.network ∙ c.loop-step.invariant.network

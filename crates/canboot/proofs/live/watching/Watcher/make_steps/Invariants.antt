@@ -9,9 +9,9 @@ use Rattle.canboot.proofs.live.watching.Watcher.make_steps.Given as goal
 abbrev pub invariant-loop-step : goal.invariant-loop-step
 invariant-loop-step g l = record {
   made : HasMade (take l.step-index l.step-items) l.fn.self.operator l.self.operator;
-  tries : (past : Past) → Tries l.initial.self.progress.tried past
-      → Tries l.self.progress.tried (given l.now (take l.step-index l.step-items) past);
-  waiting : l.self.progress.waiting ≡ l.initial.self.progress.waiting;
-  watch : l.self.progress.watch ≡ l.initial.self.progress.watch;
-  network : l.self.network ≡ l.initial.self.network;
+  tries : (past : Past) → Tries l.initial.self.course.progress.tried past
+      → Tries l.self.course.progress.tried (given l.now (take l.step-index l.step-items) past);
+  waiting : l.self.course.progress.waiting ≡ l.initial.self.course.progress.waiting;
+  watch : l.self.course.progress.watch ≡ l.initial.self.course.progress.watch;
+  network : l.self.course.network ≡ l.initial.self.course.network;
 }

@@ -8,7 +8,7 @@ use Rattle.canboot.proofs.live.watching.Watcher.obey.Goals as goal
 
 pub returns-in-Ok-clause-told : goal.returns-in-Ok-clause-told
 returns-in-Ok-clause-told g c = λ s past f.
-    let net = c.args.self.now.network.now in
+    let net = c.args.self.now.course.network.now in
     let asked : asked_by c.args.line.now.line ≡ Some c.in-Ok.command = ap asked_by (sym c.line.ensures.line) ∙ c.in-Ok.ensures.taken in
-    subst (λ (o : Option Command). IfOk c.carry_out.result (λ _. Follows c.carry_out.new.self.progress net s (asked_of o net past c.args.now ++ past))) (sym asked)
+    subst (λ (o : Option Command). IfOk c.carry_out.result (λ _. Follows c.carry_out.new.self.course.progress net s (asked_of o net past c.args.now ++ past))) (sym asked)
     (c.carry_out.ensures.told s past f)

@@ -1,47 +1,37 @@
-use Rattle.std.proofs.Common.{◌∙◌, ap, refl, subst, sym}
+use Rattle.std.proofs.Common.{ap, subst, sym}
 use Rattle.cm_history.specs.declared.call.Entry.{Entry}
 use Rattle.canboot.specs.Going.{Follows, GoesOn}
 use Rattle.canboot.specs.declared.live.progress.Progress.{Progress}
-use Rattle.cm_watch.specs.ErrorControl.{error_control_at}
-use Rattle.cm_watch.specs.Pasts.{Past}
-use Rattle.cm_watch.specs.Steps.{given, steps_at}
-use Rattle.cm_watch.specs.declared.settings.Settings.{Settings}
-use Rattle.canboot.proofs.Going.{heard_on, on_and_on, steps_on, still}
+use Rattle.cm_watch.specs.Steps.{steps_at}
+use Rattle.canboot.proofs.Going.{on_and_on, steps_on, still}
 use Rattle.canboot.proofs.live.watching.Watcher.turn.Goals as goal
-use Rattle.canboot.proofs.live.watching.Watcher.turn.Goals.{After-send_error_control}
+use Rattle.canboot.proofs.live.watching.Watcher.turn.Goals.{After-keep_up}
 
--- what happened was taken, shown and told, and what is sent for error control was sent
-so_far : (g : _) (c : After-send_error_control g)
-    → ((s : Settings) (past : Past) → Follows c.tell_left_out.new.self.progress c.tell_left_out.new.self.network.now s past
-    → Follows c.send_error_control.new.self.progress c.tell_left_out.new.self.network.now s (given c.now-now.result (error_control_at c.tell_left_out.new.self.network.now s past c.now-now.result) past))
-    → GoesOn c.args.self.now.network.now c.args.self.now.progress c.send_error_control.new.self.network.now c.send_error_control.new.self.progress
-so_far g c sends =
-    let took = c.take_all.new.self in
-    let taken = c.report_if_due.new.self in
-    let heard : Progress Entry = record { watch = c.note_heartbeats.new.watch; waiting = taken.progress.waiting; tried = taken.progress.tried } in
-    let told = c.tell_left_out.new.self in
-    let sent = c.send_error_control.new.self in
-    on_and_on c.args.self.now.network.now c.args.self.now.progress told.network.now told.progress sent.network.now sent.progress
-    (on_and_on c.args.self.now.network.now c.args.self.now.progress taken.network.now heard told.network.now told.progress
-    (on_and_on c.args.self.now.network.now c.args.self.now.progress taken.network.now taken.progress taken.network.now heard
-    (on_and_on c.args.self.now.network.now c.args.self.now.progress took.network.now took.progress taken.network.now taken.progress c.in_ok-take_all.ensures.goes_on
-    (still took.network.now took.progress taken.network.now taken.progress (ap (λ n. n.now) (c.report_if_due.ensures.network ∙ c.show.ensures.network))
-    (λ s past f. subst (λ (p : Progress Entry). Follows p took.network.now s past) (sym (c.report_if_due.ensures.progress ∙ c.show.ensures.progress)) f)))
-    (heard_on taken.network.now taken.progress heard c.now-now.result refl refl c.note_heartbeats.ensures.told))
-    (still taken.network.now heard told.network.now told.progress (ap (λ n. n.now) (c.tell_left_out.ensures.network ∙ c.tell.ensures.network))
-    (λ s past f. subst (λ (p : Progress Entry). Follows p taken.network.now s past) (sym c.tell_left_out.ensures.progress) (c.tell.ensures.follows s past f))))
-    (steps_on (λ s past. error_control_at told.network.now s past c.now-now.result) told.network.now told.progress sent.network.now sent.progress c.now-now.result
-    (ap (λ n. n.now) c.send_error_control.ensures.network) sends)
+-- what happened was taken, and shown, and the rest kept up with it
+so_far : (g : _) (c : After-keep_up g) → GoesOn c.show.new.self.course.network.now c.show.new.self.course.progress c.keep_up.new.self.network.now c.keep_up.new.self.progress
+    → GoesOn c.args.self.now.course.network.now c.args.self.now.course.progress c.keep_up.new.self.network.now c.keep_up.new.self.progress
+so_far g c kept =
+    let began = c.args.self.now.course in
+    let took = c.take_all.new.self.course in
+    let shown = c.show.new.self.course in
+    let kept_up = c.keep_up.new.self in
+    on_and_on began.network.now began.progress shown.network.now shown.progress kept_up.network.now kept_up.progress
+    (on_and_on began.network.now began.progress took.network.now took.progress shown.network.now shown.progress c.in_ok-take_all.ensures.goes_on
+    (still took.network.now took.progress shown.network.now shown.progress (ap (λ k. k.network.now) c.show.ensures.course)
+    (λ s past f. subst (λ (p : Progress Entry). Follows p took.network.now s past) (sym (ap (λ k. k.progress) c.show.ensures.course)) f)))
+    kept
 
 pub returns-then-not-look : goal.returns-then-not-look
-returns-then-not-look g c = record { goes_on = so_far g (goal.at.returns-then-not-look g c).After-send_error_control c.in_ok-send_error_control.ensures.given }
+returns-then-not-look g c = record { goes_on = so_far g (goal.at.returns-then-not-look g c).After-keep_up c.in_ok-keep_up.ensures }
 
 pub returns : goal.returns
 returns g c =
-    let sent = c.send_error_control.new.self in
-    let turned = c.make_steps.new.self in
+    let began = c.args.self.now.course in
+    let kept_up = c.keep_up.new.self in
+    let turned = c.make_steps.new.self.course in
     record {
-      goes_on = on_and_on c.args.self.now.network.now c.args.self.now.progress sent.network.now sent.progress turned.network.now turned.progress
-          (so_far g (goal.at.returns g c).After-send_error_control c.in_ok-send_error_control.ensures.given)
-          (steps_on (λ s past. steps_at sent.network.now s past c.now-now.result) sent.network.now sent.progress turned.network.now turned.progress c.now-now.result (ap (λ n. n.now) c.make_steps.ensures.network) c.in_ok-make_steps.ensures.given);
+      goes_on = on_and_on began.network.now began.progress kept_up.network.now kept_up.progress turned.network.now turned.progress
+          (so_far g (goal.at.returns g c).After-keep_up c.in_ok-keep_up.ensures)
+          (steps_on (λ s past. steps_at kept_up.network.now s past c.now-now.result) kept_up.network.now kept_up.progress turned.network.now turned.progress c.now-now.result
+          (ap (λ n. n.now) c.make_steps.ensures.network) c.in_ok-make_steps.ensures.given);
     }

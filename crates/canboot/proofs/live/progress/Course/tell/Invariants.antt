@@ -2,13 +2,12 @@ use Rattle.std.proofs.Common.{◌≡◌}
 use Rattle.cm_watch.specs.Pasts.{Past}
 use Rattle.cm_watch.specs.declared.settings.Settings.{Settings}
 use Rattle.canboot.specs.Going.{Follows}
-use Rattle.canboot.proofs.live.watching.Watcher.tell.Given as goal
+use Rattle.canboot.proofs.live.progress.Course.tell.Given as goal
 
--- to tell changes neither the past nor the calls
+-- to tell changes nothing of the past
 abbrev pub invariant-loop : goal.invariant-loop
 invariant-loop g l = record {
   follows : (s : Settings) (past : Past) → Follows l.initial.self.progress l.initial.self.network.now s past
       → Follows l.self.progress l.initial.self.network.now s past;
   network : l.self.network ≡ l.initial.self.network;
-  calls : l.self.operator ≡ l.initial.self.operator;
 }

@@ -1,12 +1,12 @@
-use Rattle.std.proofs.Common.{◌∙◌, sym, subst}
+use Rattle.std.proofs.Common.{sym, subst}
 use Rattle.cm_history.specs.declared.call.Entry.{Entry}
 use Rattle.canboot.specs.Going.{Follows, counts_in, placed_in}
 use Rattle.canboot.specs.declared.live.progress.Progress.{Progress}
-use Rattle.canboot.proofs.live.watching.Watcher.tell_next.Goals as goal
+use Rattle.canboot.proofs.live.progress.Course.tell_next.Goals as goal
 
 pub returns-clause-follows : goal.returns-clause-follows
 returns-clause-follows g c = λ s past f.
-    subst (λ (p : Progress Entry). Follows p c.args.self.now.network.now s past) (sym (c.follow_told.ensures.progress ∙ c.running_if-running.ensures.progress))
+    subst (λ (p : Progress Entry). Follows p c.args.self.now.network.now s past) (sym c.tell_untold.ensures.progress)
     (record {
       watches = f.watches;
       tries = f.tries;

@@ -6,7 +6,7 @@ use Rattle.cm_watch.specs.declared.happening.Step.{Step}
 use Rattle.canboot.specs.Sendings.{HasSentSteps}
 use Rattle.canboot.proofs.Going.{follows_given}
 use Rattle.canboot.proofs.Sendings.{sent_tried}
-use Rattle.canboot.proofs.live.watching.Watcher.send_error_control.Goals as goal
+use Rattle.canboot.proofs.live.progress.Course.send_error_control.Goals as goal
 
 pub returns-clause-sent : goal.returns-clause-sent
 returns-clause-sent g c = λ s past f.
