@@ -31,12 +31,7 @@ pub(crate) fn count_sent(notices: &mut Notices, network: &Network, entry: &Entry
 
 impl Events {
     /// Tells what is told of what the bus says, if something is.
-    fn tell_notice<R: Wait + Clock>(
-        &mut self,
-        rt: &R,
-        network: &Network,
-        notice: &Option<Notice>,
-    ) {
+    fn tell_notice<R: Wait + Clock>(&mut self, rt: &R, network: &Network, notice: &Option<Notice>) {
         if let Some(notice) = notice {
             self.tell(rt, &Event::Notice { network, notice });
         }

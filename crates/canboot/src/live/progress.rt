@@ -257,7 +257,9 @@ impl<'w, 'a, 'n, R: Wait + Clock> Course<'w, 'a, 'n, R> {
             }
             Heard::Typed => {}
             Heard::NoMoreTyped => self.end_behind(err, now),
-            Heard::NoFrames => self.teller.tell_no_frames(err, rt, self.setting.options.format),
+            Heard::NoFrames => self
+                .teller
+                .tell_no_frames(err, rt, self.setting.options.format),
             Heard::NoMoreHeard => return Err(Ending::NotHeard),
         }
         Ok(())
