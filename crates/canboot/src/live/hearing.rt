@@ -22,7 +22,7 @@ use std::time::Clock;
 
 /// The frames of an entry are ours: each comes back at most once. It is recorded before they are sent, so that none has come back yet.
 pub(crate) fn count_sent(notices: &mut Notices, network: &Network, entry: &Entry)
-    ensures { (k : ℕ) → k < 640 → count_at notices.new.sent k
+    ensures sent { (k : ℕ) → k < 640 → count_at notices.new.sent k
         ≡ behind_sent_all (frames_of (listing network.now) entry.now.orders) k (count_at notices.old.sent k) }
 {
     let sent = frames(network, entry.orders);
@@ -48,7 +48,7 @@ impl Teller {
         remark: &Remark,
         now: u64,
     ) -> io::Result<()>
-        ensures { OnOk result (Appends (E.contents err.old) (E.contents err.new)
+        ensures told { OnOk result (Appends (E.contents err.old) (E.contents err.new)
             (notice_line network.now (notice_by self.old.notices network.now now remark.now))) }
     {
         let notice = self.notices.hear(network, now, remark);
@@ -64,7 +64,7 @@ impl Teller {
         network: &Network,
         now: u64,
     ) -> io::Result<()>
-        ensures { OnOk result (Appends (E.contents err.old) (E.contents err.new)
+        ensures told { OnOk result (Appends (E.contents err.old) (E.contents err.new)
             (notice_line network.now (left_out_by self.old.notices now))) }
     {
         let notice = self.notices.turn(now);

@@ -32,6 +32,12 @@ loop-step-preserved g c =
       network = c.make.ensures.network ∙ was.network;
     }
 
+pub returns-clause-made : goal.returns-clause-made
+returns-clause-made g c = λ s past f.
+    let all : take c.loop-step.step-index c.as_slice-step-items.result.now ≡ c.in_ok-steps.steps.items =
+    take_all c.loop-step.step-index c.as_slice-step-items.result.now (omega arith) ∙ c.as_slice-step-items.ensures.value in
+    subst (λ (xs : List Step). HasMade xs c.args.self.now.operator c.loop-step.self.operator) (all ∙ c.in_ok-steps.ensures.steps s past f.watches) c.loop-step.invariant.made
+
 pub returns-clause-given : goal.returns-clause-given
 returns-clause-given g c = λ s past f.
     let net = c.args.self.now.course.network.now in

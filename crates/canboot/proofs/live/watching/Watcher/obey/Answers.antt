@@ -4,6 +4,7 @@ use Rattle.cm_live.specs.Console.{asked_by}
 use Rattle.cm_live.specs.declared.console.Command.{Command}
 use Rattle.canboot.specs.Asking.{asked_of}
 use Rattle.canboot.specs.Going.{Follows}
+use Rattle.canboot.specs.Steps.{HasObeyedIf}
 use Rattle.canboot.proofs.live.watching.Watcher.obey.Goals as goal
 
 pub returns-in-Ok-clause-told : goal.returns-in-Ok-clause-told
@@ -12,3 +13,8 @@ returns-in-Ok-clause-told g c = λ s past f.
     let asked : asked_by c.args.line.now.line ≡ Some c.in-Ok.command = ap asked_by (sym c.line.ensures.line) ∙ c.in-Ok.ensures.taken in
     subst (λ (o : Option Command). IfOk c.carry_out.result (λ _. Follows c.carry_out.new.self.course.progress net s (asked_of o net past c.args.now ++ past))) (sym asked)
     (c.carry_out.ensures.told s past f)
+
+pub returns-in-Ok-clause-made : goal.returns-in-Ok-clause-made
+returns-in-Ok-clause-made g c =
+    let asked : asked_by c.args.line.now.line ≡ Some c.in-Ok.command = ap asked_by (sym c.line.ensures.line) ∙ c.in-Ok.ensures.taken in
+    subst (λ (o : Option Command). IfOk c.carry_out.result (λ _. HasObeyedIf o c.args.self.now.operator c.carry_out.new.self.operator)) (sym asked) c.carry_out.ensures.made

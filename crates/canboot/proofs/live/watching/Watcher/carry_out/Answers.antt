@@ -1,0 +1,25 @@
+use Rattle.std.proofs.Common.{ap, sym, subst, Some, ◌++◌}
+use Rattle.cm_history.specs.declared.call.Entry.{Entry}
+use Rattle.canboot.specs.Asking.{asked_of}
+use Rattle.canboot.specs.Going.{Follows}
+use Rattle.canboot.specs.declared.live.progress.Progress.{Progress}
+use Rattle.canboot.proofs.Going.{ok_always}
+use Rattle.canboot.proofs.live.watching.Watcher.carry_out.Goals as goal
+
+pub returns-in-Make-clause-told : goal.returns-in-Make-clause-told
+returns-in-Make-clause-told g c = λ s past f.
+    let net = c.args.self.now.course.network.now in
+    ok_always c.call.result
+    (subst (λ (p : Progress Entry). Follows p net s (asked_of (Some c.args.command.now) net past c.args.now ++ past)) (sym (ap (λ k. k.progress) c.call.ensures.course)) (c.ask.ensures.told s past f))
+
+pub returns-in-Request-clause-told : goal.returns-in-Request-clause-told
+returns-in-Request-clause-told g c = λ s past f.
+    let net = c.args.self.now.course.network.now in
+    ok_always c.request.result
+    (subst (λ (p : Progress Entry). Follows p net s (asked_of (Some c.args.command.now) net past c.args.now ++ past)) (sym (ap (λ k. k.progress) c.request.ensures.course)) (c.ask.ensures.told s past f))
+
+pub returns-in-Start-clause-told : goal.returns-in-Start-clause-told
+returns-in-Start-clause-told g c = λ s past f.
+    let net = c.args.self.now.course.network.now in
+    ok_always c.start.result
+    (subst (λ (p : Progress Entry). Follows p net s (asked_of (Some c.args.command.now) net past c.args.now ++ past)) (sym (ap (λ k. k.progress) c.start.ensures.course)) (c.ask.ensures.told s past f))
