@@ -238,9 +238,8 @@ impl<'w, 'a, 'n, R: Wait + Clock> Course<'w, 'a, 'n, R> {
         now: u64,
     ) -> Result<(), Ending>
         requires { now < 2 ^ 63 }
-        ensures told { (s : WatchSettings) (past : Past) → Follows self.old.progress self.old.network.now s past
-            → IfOk result (λ _. (typed : Option (List ℕ)) (seat : SeatView)
-            → HasTaken happening self.old.setting.now.options.seconds typed
+        ensures told { (s : WatchSettings) (past : Past) → Follows self.old.progress self.old.network.now s past → IfOk result
+            (λ _. (typed : Option (List ℕ)) (seat : SeatView) → HasTaken happening self.old.setting.now.options.seconds typed
             self.new.progress self.old.network.now s past now seat seat) }
         ensures network { self.new.network ≡ self.old.network }
     {

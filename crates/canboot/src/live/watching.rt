@@ -182,8 +182,8 @@ impl<'w, 'a, 'n, R: Wait + Clock + Drop, K: RunName, B: BusName, M: LiveRegister
         Ok(())
     }
 
-    /// Shows readers a version with all that the register has, where memory is refused the next turn does; and then the report, if the
-    /// operator has asked for it.
+    /// Shows readers a version with all that the register has; where memory is refused the next turn does. Then shows the report, if
+    /// the operator has asked for it.
     fn show<E: Write>(&mut self, err: &mut E, publisher: &mut Publisher<K, R>)
         ensures course { self.new.course ≡ self.old.course }
         ensures calls { self.new.operator ≡ self.old.operator }
