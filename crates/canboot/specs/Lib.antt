@@ -8,6 +8,8 @@ pub mod Asking
 pub mod Run
 pub mod Program
 pub mod Tell
+pub mod Explain
+pub mod Json
 pub mod Typing
 pub mod Workers
 pub mod Heard

@@ -1,12 +1,11 @@
 -- How canboot ends, and in what lines the frames of a bus come and go.
-use Rattle.std.specs.Prelude.{◌≡◌, ◌⊎◌, ◌++◌, ◌==◌, ◌&&◌, ℕ, Bool, false, List, [], ◌∷◌, Option, Some, codes}
+use Rattle.std.specs.Prelude.{◌≡◌, ◌⊎◌, ◌++◌, ℕ, List, [], ◌∷◌, codes}
 use Rattle.canboot_words.specs.declared.command_line.BusPaths.{BusPaths}
 use Rattle.canboot_words.specs.declared.command_line.BusPaths.TheVariants as bus
 use Rattle.canboot_words.specs.declared.command_line.NoAction.{NoAction}
 use Rattle.canboot_words.specs.declared.command_line.NoAction.TheVariants as none
 use Rattle.cm_live.specs.declared.outlet.Format.{Format}
 use Rattle.cm_live.specs.declared.outlet.Format.TheVariants as format
-use Rattle.canboot.specs.declared.program.FileId.{FileId}
 
 -- the exit status where a command line asks for no run: 2 for a wrong one, 3 for want of memory, 0 for help and the
 -- version, or 3 where they couldn't be written (own)
@@ -29,8 +28,3 @@ channel_opening format.Adapter = codes "O" ++ 13 ∷ []
 abbrev pub channel_closing : Format → List ℕ
 channel_closing format.CanUtils = []
 channel_closing format.Adapter = codes "C" ++ 13 ∷ []
-
--- both are files, on the same device with the same number there (own)
-abbrev pub is_same_file : Option FileId → Option FileId → Bool
-is_same_file (Some here) (Some there) = here.device == there.device && here.number == there.number
-is_same_file _ _ = false

@@ -12,7 +12,7 @@ use Rattle.cm_history.specs.OrderFrames.{frames_in}
 use Rattle.cm_live.specs.Outlets.{IsWell, SendsMessages}
 use Rattle.cm_live.specs.declared.outlet.Outlet.{Outlet}
 use Rattle.cm_format.specs.Unended.{unended_text}
-pub use Rattle.cm_recording.specs.Recorded.{AppendsIfThere, IsWritten}
+pub use Rattle.canboot_run.specs.Recorded.{AppendsIfThere, IsWritten}
 pub use Rattle.canboot_run.specs.Run.{IsRun, IsOfNoMaster, RefusesRun}
 use Rattle.canboot.specs.Heard.{IsAllHeard}
 use Rattle.canboot.specs.Operated.{IsOperatedLive}

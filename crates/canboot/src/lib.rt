@@ -3,6 +3,8 @@
 //! `canboot_main`.
 #![tactic(auto)]
 
+mod explain;
+mod json;
 mod live;
 mod program;
 mod tell;
@@ -10,10 +12,11 @@ mod tell;
 pub use canboot_check::{
     DONE, FAILED, LONGEST_JOURNAL, LONGEST_LIST, MISUSED, REFUSED, check_text, replay_text,
 };
-pub use canboot_run::{LONGEST_RUN, Options, run_text};
-pub use canboot_words::{Action, NoAction, read_words};
+pub use canboot_run::{JournalOutput, LONGEST_RUN, Options, run_text};
+pub use canboot_words::{Action, CheckOutput, NoAction, ReportForm, read_words};
 pub use cm_live::Outlet;
-pub use cm_recording::JournalOutput;
+pub use explain::explain_text;
+pub use json::{check_as_json, replay_as_json};
 pub use live::{
     Followed, HostFiles, LONGEST_LIVE, LiveEnds, LiveOptions, NoFiles, ReplaceFile, StatusFile,
     live_round, live_text,

@@ -22,24 +22,25 @@ use std::str;
 /// The greatest length of a network list's text, in bytes.
 pub const LONGEST_LIST: usize = 1_048_576;
 
-/// How many slaves are mandatory.
-fn count_mandatory(network: &Network) -> usize
+/// How many slaves are mandatory: 1F81h bit 3 (CiA 302-2).
+pub fn count_mandatory(network: &Network) -> usize
     ensures { result ≡ length (mandatory_ids network.now) }
 {
     let ids = network.listed_ids();
     ids.iter().filter(|id| network.mandatory(**id)).count()
 }
 
-/// How many slaves are kept alive.
-fn count_kept(network: &Network) -> usize
+/// How many slaves are kept alive: 1F81h bit 4 (CiA 302-2).
+pub fn count_kept(network: &Network) -> usize
     ensures { result ≡ length (kept_ids network.now) }
 {
     let ids = network.listed_ids();
     ids.iter().filter(|id| network.kept(**id)).count()
 }
 
-/// Writes the line of a network list, and all of it.
-fn put_check<W: Write>(network: &Network, out: &mut W) -> io::Result<()>
+/// Writes the line of a network list: how many slaves it lists, how many of them are mandatory, and how many are kept
+/// alive; and all of it. It fails only where the writer does, and then says nothing of how much was written.
+pub fn put_check<W: Write>(network: &Network, out: &mut W) -> io::Result<()>
     ensures { OnOk result
         (Appends (W.contents out.old) (W.contents out.new) (check_line network.now)) }
 {

@@ -9,7 +9,9 @@ mod program;
 mod replay;
 mod status;
 
-pub use check::{CheckFault, LONGEST_LIST, check_text, read_list, refuse};
+pub use check::{
+    CheckFault, LONGEST_LIST, check_text, count_kept, count_mandatory, put_check, read_list, refuse,
+};
 pub use mend::{mend_text, mends_one, mends_torn};
 pub use program::{check_file, read_fault, run, run_words};
 pub use replay::{LONGEST_JOURNAL, refuse_journal, replay_text};

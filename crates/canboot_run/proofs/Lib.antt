@@ -1,3 +1,4 @@
 pub mod Seats
 pub mod Buses
 pub mod Simulated
+pub mod Beginnings

@@ -7,7 +7,7 @@ use Rattle.cm_format.specs.Text.{JournalView, text}
 use Rattle.cm_format.specs.declared.version.Version.TheVariants.{Two}
 use Rattle.cm_format.specs.Journals.{IsJournal}
 use Rattle.cm_format.specs.Report.{report_text}
-pub use Rattle.cm_recording.specs.Recorded.{AppendsIfThere}
+pub use Rattle.canboot_run.specs.Recorded.{AppendsIfThere}
 use Rattle.canboot_check.specs.Check.{IsFaultyText, IsList}
 use Rattle.canboot_run.specs.Simulated.{IsSimulated}
 

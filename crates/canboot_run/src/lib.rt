@@ -1,11 +1,22 @@
-//! `canboot run` over any reader and writer: a network booted with simulated slaves; and how the register of a run is
-//! started and closed, which a live run shares.
+//! `canboot run` over any reader and writer: a network booted with simulated slaves; how the register of a run is
+//! started and closed, which a live run shares; and a live run's journal, which is written while its history grows: the
+//! lines before its entries where a register is opened, the line of each entry before the entry's frames are sent, and
+//! the last line where the register is closed.
 #![tactic(auto)]
 
+mod files;
+mod fronts;
+mod journal_output;
+mod journal_recorder;
+mod program;
 mod recording;
 mod running;
 mod simulation;
 
+pub use files::{is_list, run_file, write_fault};
+pub use journal_output::JournalOutput;
+pub use journal_recorder::{JournalName, JournalRecorder};
+pub use program::run;
 pub use recording::{NoHistory, Recorded, not_called, not_opened, started};
 pub use running::{no_history_line, put_report, run_text};
 pub use simulation::{LONGEST_RUN, Options};

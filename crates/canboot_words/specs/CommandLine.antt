@@ -6,11 +6,11 @@ use Rattle.canboot_words.specs.declared.command_line.Action.TheVariants as actio
 -- there are 1 to 16 workers and 1 to 10 attempts, an answer is waited for 1 to 60,000 ms, and the manager's heartbeat is sent each 10 ms
 -- or more, or not at all
 abbrev pub IsInRange : Action → Type 0
-IsInRange (action.Check n) = Unit {0}
+IsInRange (action.Check n output) = Unit {0}
 IsInRange (action.Run n workers attempts silent journal) = (1 ≤ workers) × (workers ≤ 16) × (1 ≤ attempts) × (attempts ≤ 10)
 IsInRange (action.Live l) =
     (1 ≤ l.workers) × (l.workers ≤ 16) × (1 ≤ l.attempts) × (l.attempts ≤ 10) × (1 ≤ l.answer_ms) × (l.answer_ms ≤ 60000)
     × ((l.heartbeat_ms ≡ 0) ⊎ (10 ≤ l.heartbeat_ms))
-IsInRange action.Replay = Unit {0}
+IsInRange (action.Replay form) = Unit {0}
 IsInRange action.Mend = Unit {0}
 IsInRange (action.Tell n) = Unit {0}

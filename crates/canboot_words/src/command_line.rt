@@ -2,12 +2,13 @@ ghost use Rattle.std.specs.Prelude.{◌≤◌, IfOk};
 ghost use Rattle.canboot_words.specs.CommandLine.{IsInRange};
 
 use crate::help::{
-    ABOUT, ABOUT_CHECK, ABOUT_MEND, ABOUT_REPLAY, ABOUT_RUN, ABOUT_TELL, AFTER, HELP_CHECK,
-    HELP_MEND, HELP_REPLAY, HELP_RUN, HELP_TELL,
+    ABOUT, ABOUT_MEND, ABOUT_REPLAY, ABOUT_RUN, ABOUT_TELL, AFTER, HELP_MEND, HELP_REPLAY,
+    HELP_RUN, HELP_TELL,
 };
+use crate::help_check::{ABOUT_CHECK, HELP_CHECK};
 use crate::live::{live_action, live_command};
 use clap::error::ErrorKind;
-use clap::{Arg, ArgMatches, Command, Error, value_parser};
+use clap::{Arg, ArgAction, ArgMatches, Command, Error, value_parser};
 use cm_nmt::NodeId;
 use std::alloc::{AllocError, Global};
 
@@ -64,12 +65,33 @@ pub struct LiveWords<'a> {
     pub seconds: Option<u32>,
 }
 
+/// What is printed of a network list that has no fault.
+#[derive(Clone, Copy)]
+pub enum CheckOutput {
+    /// The line that says how many slaves it lists.
+    Line,
+    /// That line, and in words what the list comes to and what it is warned of.
+    Words,
+    /// What the line says, as a JSON object.
+    Json,
+}
+
+/// In which form a report is printed.
+#[derive(Clone, Copy)]
+pub enum ReportForm {
+    /// As lines.
+    Text,
+    /// As one JSON object.
+    Json,
+}
+
 /// What the command line asks for.
 #[derive(Clone, Copy)]
 pub enum Action<'a> {
     /// Read the network list of this path, and print how many slaves it lists.
     Check {
         network: &'a str,
+        output: CheckOutput,
     },
     /// Boot the network of the list of this path, print the report, and write the journal to this
     /// path, if there is one.
@@ -85,8 +107,8 @@ pub enum Action<'a> {
     },
     /// Boot a network on a CAN bus and watch it, print the report, and write the journal, if there is a path for it.
     Live(LiveWords<'a>),
-    /// Read a journal, and print its report.
-    Replay,
+    /// Read a journal, and print its report in this form.
+    Replay(ReportForm),
     /// Read a journal that a crash may have torn, and print it whole.
     Mend,
     /// Read a journal, and print its history in words.
@@ -176,8 +198,28 @@ pub(crate) fn described<'a>(
     Command::new(alloc, name).about(about).long_about(help)
 }
 
+fn explain_argument<'a>(alloc: Global) -> Result<Arg<'a>, AllocError> {
+    let help = "Says in words what the list comes to, and what it is warned of";
+    argument(alloc, "explain", help)
+        .long("explain")
+        .action(ArgAction::SetTrue)
+        .conflicts_with("json")
+}
+
+fn json_argument<'a>(alloc: Global) -> Arg<'a> {
+    let help = "Prints a JSON object, and a fault as one too";
+    argument(alloc, "json", help)
+        .long("json")
+        .action(ArgAction::SetTrue)
+}
+
 fn check_command<'a>(alloc: Global) -> Result<Command<'a>, AllocError> {
-    described(alloc, "check", ABOUT_CHECK, HELP_CHECK).arg(network_argument(alloc))
+    let arguments = vec![in alloc;
+        network_argument(alloc),
+        explain_argument(alloc)?,
+        json_argument(alloc),
+    ]?;
+    described(alloc, "check", ABOUT_CHECK, HELP_CHECK).args(arguments)
 }
 
 fn run_command<'a>(alloc: Global) -> Result<Command<'a>, AllocError> {
@@ -191,8 +233,8 @@ fn run_command<'a>(alloc: Global) -> Result<Command<'a>, AllocError> {
     described(alloc, "run", ABOUT_RUN, HELP_RUN).args(arguments)
 }
 
-fn replay_command<'a>(alloc: Global) -> Command<'a> {
-    described(alloc, "replay", ABOUT_REPLAY, HELP_REPLAY)
+fn replay_command<'a>(alloc: Global) -> Result<Command<'a>, AllocError> {
+    described(alloc, "replay", ABOUT_REPLAY, HELP_REPLAY).arg(json_argument(alloc))
 }
 
 fn mend_command<'a>(alloc: Global) -> Command<'a> {
@@ -215,7 +257,7 @@ fn subcommands<'a>(alloc: Global) -> Result<Vec<Command<'a>>, AllocError> {
             check_command(alloc),
             run_command(alloc),
             live_command(alloc),
-            Ok(replay_command(alloc)),
+            replay_command(alloc),
             Ok(mend_command(alloc)),
             tell_command(alloc),
         ],
@@ -270,15 +312,34 @@ fn run_action<'a>(given: &ArgMatches<'a>) -> Action<'a>
     }
 }
 
+fn check_output(given: &ArgMatches<'_>) -> CheckOutput {
+    if given.get_flag("explain") {
+        CheckOutput::Words
+    } else if given.get_flag("json") {
+        CheckOutput::Json
+    } else {
+        CheckOutput::Line
+    }
+}
+
+fn report_form(given: &ArgMatches<'_>) -> ReportForm {
+    if given.get_flag("json") {
+        ReportForm::Json
+    } else {
+        ReportForm::Text
+    }
+}
+
 fn action_of<'a>(alloc: Global, matches: &ArgMatches<'a>) -> Result<Action<'a>, NoAction>
     ensures { IfOk result IsInRange }
 {
     let Some((name, given)) = matches.subcommand() else {
-        return Ok(Action::Replay);
+        return Ok(Action::Replay(ReportForm::Text));
     };
     match name {
         "check" => Ok(Action::Check {
             network: text_of(given, "network"),
+            output: check_output(given),
         }),
         "run" => Ok(run_action(given)),
         "live" => live_action(alloc, given),
@@ -286,7 +347,7 @@ fn action_of<'a>(alloc: Global, matches: &ArgMatches<'a>) -> Result<Action<'a>, 
         "tell" => Ok(Action::Tell {
             node: node_of(given, "node"),
         }),
-        _ => Ok(Action::Replay),
+        _ => Ok(Action::Replay(report_form(given))),
     }
 }
 

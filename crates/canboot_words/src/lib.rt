@@ -4,12 +4,16 @@
 
 mod command_line;
 mod help;
+mod help_check;
 mod live;
 mod names;
 mod shown;
 mod told;
 
-pub use command_line::{Action, BusPaths, JournalPath, LivePaths, LiveWords, NoAction, read_words};
+pub use command_line::{
+    Action, BusPaths, CheckOutput, JournalPath, LivePaths, LiveWords, NoAction, ReportForm,
+    read_words,
+};
 pub use names::{Names, NamesFault, read_names};
 pub use shown::ShownLines;
 pub use told::{

@@ -7,10 +7,10 @@ use crate::live::journal_file::make_journal;
 use crate::live::operator_input::{OperatorInput, open_operator};
 use crate::live::paths::wrong_path;
 use crate::live::{Followed, LiveEnds, LiveOptions, ReplaceFile, StatusFile, live_text};
-use crate::program::write_fault;
 use canboot_check::{
     CheckFault, FAILED, LONGEST_LIST, MISUSED, REFUSED, fault_line, read_fault, read_list, refuse,
 };
+use canboot_run::write_fault;
 use canboot_words::{
     BusPaths, JournalPath, LivePaths, LiveWords, Names, NamesFault, ShownLines, read_names,
 };

@@ -1,6 +1,6 @@
 //! The paths of the files of a live run.
 
-use crate::program::is_list;
+use canboot_run::is_list;
 use canboot_words::LivePaths;
 use std::rt::Files;
 

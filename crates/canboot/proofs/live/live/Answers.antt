@@ -5,7 +5,7 @@ use Rattle.cm_netlist.specs.Network.{Network, listing}
 use Rattle.cm_history.specs.OrderFrames.{frames_in}
 use Rattle.cm_live.specs.declared.outlet.Format.{Format}
 use Rattle.cm_live.specs.Outlets.{HasSent}
-use Rattle.cm_recording.specs.Recorded.{contents_of}
+use Rattle.canboot_run.specs.Recorded.{contents_of}
 use Rattle.canboot.specs.Heard.{IsAllHeard}
 use Rattle.canboot.specs.declared.live.LiveOptions.{LiveOptions}
 use Rattle.canboot.proofs.Begins.{kept_or_begins, same_journal, sends, written_alike}

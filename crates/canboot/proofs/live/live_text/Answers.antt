@@ -7,7 +7,7 @@ use Rattle.cm_format.specs.Text.{journal_of}
 use Rattle.cm_format.specs.declared.version.Version.TheVariants.{Two}
 use Rattle.cm_live.specs.Outlets.{SendsMessages}
 use Rattle.cm_live.specs.declared.outlet.Format.{Format}
-use Rattle.cm_recording.specs.Recorded.{contents_of}
+use Rattle.canboot_run.specs.Recorded.{contents_of}
 use Rattle.canboot.specs.Heard.{IsAllHeard}
 use Rattle.canboot.specs.Operated.{IsOperatedLive}
 use Rattle.canboot.proofs.Begins.{failed_after, same_journal, written_alike}

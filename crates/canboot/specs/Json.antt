@@ -1,0 +1,35 @@
+-- What `--json` prints (own format; JSON: RFC 8259).
+use Rattle.std.specs.Prelude.{◌++◌, ℕ, List, [], ◌∷◌, Option, codes, decimal, length}
+use Rattle.std.specs.Io.KnownBytes.{Appends}
+use Rattle.cm_netlist.specs.Network.{Network, listed_ids}
+use Rattle.cm_format.specs.Text.{JournalView}
+use Rattle.cm_format.specs.ReportJson.{member, object, report_json}
+use Rattle.canboot_check.specs.Check.{IsList, kept_ids, mandatory_ids}
+use Rattle.canboot_check.specs.Replay.{IsLegalInput}
+
+-- how many slaves are listed, how many of them are mandatory, and how many are kept alive
+abbrev pub counts_json : ℕ → ℕ → ℕ → List ℕ
+counts_json slaves mandatory kept =
+    object
+    (member (codes "slaves") (decimal slaves)
+    ∷ member (codes "mandatory") (decimal mandatory)
+    ∷ member (codes "kept") (decimal kept)
+    ∷ [])
+    ++ codes "\n"
+
+-- those numbers of a network list
+abbrev pub check_json : Network → List ℕ
+check_json net = counts_json (length (listed_ids net)) (length (mandatory_ids net)) (length (kept_ids net))
+
+-- the input was read to its end, and just the object of the network list that its bytes say was written
+pub record ChecksAsJson (input input' output output' : Option (List ℕ)) : Type 0 where
+  pub net : Network
+  pub list : IsList input input' net
+  pub written : Appends output output' (check_json net)
+
+-- the input was read to its end, its bytes are the text of a journal whose entries are legal, and just the report of that history was
+-- written as an object
+pub record ReplaysAsJson (input input' output output' : Option (List ℕ)) : Type 0 where
+  pub journal : JournalView
+  pub read : IsLegalInput input input' journal
+  pub written : Appends output output' (report_json journal.network journal.entries)

@@ -1,0 +1,103 @@
+//! The files of a run: its network list, and the one that its journal is written to.
+
+ghost use Rattle.std.specs.Prelude.{◌≡◌, ◌≤◌, IfOk, None, false, is_some, true};
+ghost use Rattle.canboot_run.specs.Files.{is_same_file};
+
+use crate::running::run_text;
+use crate::simulation::Options;
+use canboot_check::{FAILED, MISUSED, fault_line, read_fault};
+use std::fs;
+use std::io::{self, BufWriter, Write};
+use std::os::unix::fs::MetadataExt;
+use std::rt::Files;
+use std::sync::Wait;
+use std::thread::Threads;
+
+/// `canboot run`, over the file of this path: [`run_text`], 2 where the journal's file would be the list itself, and nothing is
+/// done then, 3 for a file that can't be opened or made. The journal's file, if there is one, is made before the list is read.
+pub fn run_file<R: Files + AllocGlobal + Wait + Threads + Send + Sync, W: Write, E: Write>(
+    rt: &R,
+    path: &str,
+    options: Options,
+    journal: Option<&str>,
+    out: &mut W,
+    err: &mut E,
+) -> u8
+    requires workers { (1 ≤ options.workers) × (options.workers ≤ 16) }
+    requires attempts { (1 ≤ options.attempts) × (options.attempts ≤ 10) }
+    ensures statuses { result ≤ 3 }
+{
+    let mut list = match fs::open(rt, path) {
+        Ok(file) => file,
+        Err(error) => return read_fault(err, error.kind()),
+    };
+    if is_list(rt, path, journal) {
+        return fault_line(err, MISUSED, "the file of the journal is the network list");
+    }
+    let mut journal = match make(rt, journal) {
+        Ok(file) => file,
+        Err(error) => return write_fault(err, error.kind()),
+    };
+    run_text(rt, rt.alloc(), &mut list, options, out, err, &mut journal)
+}
+
+/// What tells a file from any other: the device that it is on, and its number there.
+#[derive(Clone, Copy, PartialEq, Eq)]
+struct FileId {
+    device: u64,
+    number: u64,
+}
+
+/// The file at this path, as the system answers; none where it can't be asked.
+fn file_at<R: Files>(rt: &R, path: &str) -> Option<FileId> {
+    let found = fs::metadata(rt, path).ok()?;
+    Some(FileId {
+        device: found.dev(),
+        number: found.ino(),
+    })
+}
+
+/// Whether both are files, and the same.
+fn is_same_file(here: Option<FileId>, there: Option<FileId>) -> bool
+    ensures { result ≡ is_same_file here there }
+{
+    match (here, there) {
+        (Some(here), Some(there)) => here == there,
+        _ => false,
+    }
+}
+
+/// Whether the file that is to be written is the network list itself, by the same path or by another.
+pub fn is_list<R: Files>(rt: &R, list: &str, written: Option<&str>) -> bool {
+    match written {
+        Some(written) => is_same_file(file_at(rt, list), file_at(rt, written)),
+        None => false,
+    }
+}
+
+/// Makes the file of this path, if there is one.
+fn make<R: Files + AllocGlobal>(
+    rt: &R,
+    path: Option<&str>,
+) -> io::Result<Option<BufWriter<R::File>>>
+    ensures none { path.entry ≡ None → IfOk result (λ made. is_some made ≡ false) }
+    ensures some { is_some path.entry ≡ true → IfOk result (λ made. is_some made ≡ true) }
+{
+    match path {
+        Some(path) => {
+            let file = fs::create(rt, path)?;
+            Ok(Some(BufWriter::new(rt.alloc(), file)?))
+        }
+        None => Ok(None),
+    }
+}
+
+/// The fault of a file that can't be made.
+pub fn write_fault<E: Write>(err: &mut E, kind: io::ErrorKind) -> u8
+    ensures { result ≡ 3 }
+{
+    match kind {
+        io::ErrorKind::OutOfMemory => fault_line(err, FAILED, "out of memory"),
+        _ => fault_line(err, FAILED, "write failed"),
+    }
+}

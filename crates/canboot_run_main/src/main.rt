@@ -1,0 +1,9 @@
+//! `canboot run`, as a program of its own: it is proved sooner than the whole of canboot, which also boots networks on a
+//! CAN bus. Its output and its exit statuses are the same.
+#![tactic(auto)]
+
+use std::process::ExitCode;
+
+fn main(rt: HostRuntime) -> ExitCode {
+    ExitCode::from(canboot_run::run(&rt, &mut rt.stderr()))
+}
