@@ -1,21 +1,17 @@
 -- What `--json` prints (own format; JSON: RFC 8259).
-use Rattle.std.specs.Prelude.{◌++◌, ℕ, List, [], ◌∷◌, Option, codes, decimal, length}
+use Rattle.std.specs.Prelude.{◌++◌, ℕ, List, Option, codes, decimal, length}
 use Rattle.std.specs.Io.KnownBytes.{Appends}
 use Rattle.cm_netlist.specs.Network.{Network, listed_ids}
 use Rattle.cm_format.specs.Text.{JournalView}
-use Rattle.cm_format.specs.ReportJson.{member, object, report_json}
+use Rattle.cm_format.specs.ReportJson.{report_json}
 use Rattle.canboot_check.specs.Check.{IsList, kept_ids, mandatory_ids}
 use Rattle.canboot_check.specs.Replay.{IsLegalInput}
 
--- how many slaves are listed, how many of them are mandatory, and how many are kept alive
+-- how many slaves are listed, how many of them are mandatory, and how many are kept alive: an object in one line
 abbrev pub counts_json : ℕ → ℕ → ℕ → List ℕ
 counts_json slaves mandatory kept =
-    object
-    (member (codes "slaves") (decimal slaves)
-    ∷ member (codes "mandatory") (decimal mandatory)
-    ∷ member (codes "kept") (decimal kept)
-    ∷ [])
-    ++ codes "\n"
+    codes "{\"slaves\":"
+    ++ (decimal slaves ++ (codes ",\"mandatory\":" ++ (decimal mandatory ++ (codes ",\"kept\":" ++ (decimal kept ++ codes "}\n")))))
 
 -- those numbers of a network list
 abbrev pub check_json : Network → List ℕ

@@ -168,7 +168,7 @@ abbrev pub watch_text : SlaveEntry → List ℕ
 watch_text e =
     if is_unwatched e then ended (codes "  booted, nobody watches it")
     else if e.heartbeat_ms == 0 then guard_text (guard_time e.assignment.0) (retry_factor e.assignment.0)
-    else heartend_text e.heartbeat_ms
+    else heartbeat_text e.heartbeat_ms
 
 -- a slave's node-ID and 1F81h
 abbrev pub heading_text : ℕ → ℕ → List ℕ
