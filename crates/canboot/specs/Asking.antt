@@ -9,8 +9,8 @@ use Rattle.cm_watch.specs.Pasts.{Past}
 use Rattle.cm_watch.specs.Slaves.{booted_since, is_held_in}
 use Rattle.cm_watch.specs.declared.happening.Happening.TheVariants as happening
 use Rattle.cm_watch.specs.declared.happening.Moment.TheVariants as moment
-use Rattle.cm_watch.specs.declared.event.NoBoot.{NoBoot}
-use Rattle.cm_watch.specs.declared.event.NoBoot.TheVariants.{NotListed, Halted, Held, Booted}
+use Rattle.canboot_words.specs.declared.event.NoBoot.{NoBoot}
+use Rattle.canboot_words.specs.declared.event.NoBoot.TheVariants.{NotListed, Halted, Held, Booted}
 
 -- why slave i isn't booted though its operator asks for it, the first that applies; none where the watch is asked
 abbrev pub no_boot_of : Network → Past → ℕ → Option NoBoot

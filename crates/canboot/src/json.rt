@@ -13,9 +13,10 @@ use canboot_check::{
     CheckFault, DONE, FAILED, LONGEST_JOURNAL, REFUSED, count_kept, count_mandatory, read_list,
 };
 use cm_format::{FaultKind, JournalFault};
-use cm_journal::{ReadFault, Replayed, journal_replay, replay_json};
+use cm_journal::{ReadFault, Replayed, journal_replay};
 use cm_netlist::Network;
 use cm_text::InputFault;
+use cm_versions::replay_json;
 use std::alloc::Global;
 use std::fmt::Display;
 use std::fs;

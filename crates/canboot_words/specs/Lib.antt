@@ -6,3 +6,7 @@ pub mod ToldLines
 pub mod NoticeWords
 pub mod ToldHistory
 pub mod Tellers
+pub mod Spellings
+pub mod EventFields
+pub mod EventEntries
+pub mod Events

@@ -21,8 +21,8 @@ use Rattle.cm_watch.specs.Pasts.{Past}
 use Rattle.cm_watch.specs.Slaves.{booted_since}
 use Rattle.cm_watch.specs.declared.telling.Told.{Told}
 use Rattle.canboot_words.specs.Words.{entry_told, is_told, node_words}
-use Rattle.cm_watch.specs.declared.event.NoBoot.{NoBoot}
-use Rattle.cm_watch.specs.declared.event.NoBoot.TheVariants as no_boot
+use Rattle.canboot_words.specs.declared.event.NoBoot.{NoBoot}
+use Rattle.canboot_words.specs.declared.event.NoBoot.TheVariants as no_boot
 use Rattle.canboot_words.specs.declared.told.words.EntryWords.{EntryWords}
 
 -- ---- nodes

@@ -25,7 +25,7 @@ use Rattle.cm_history.specs.declared.refusal.Refusal.TheVariants as refusal
 use Rattle.cm_netlist.specs.Network.{Network, entry}
 use Rattle.cm_netlist.specs.declared.entry.SlaveEntry.{SlaveEntry}
 use Rattle.cm_watch.specs.BootFaults.{boot_fault, object_name}
-use Rattle.cm_watch.specs.Spellings.{spelled_call, spelled_reply}
+use Rattle.canboot_words.specs.Spellings.{spelled_call, spelled_reply}
 use Rattle.cm_watch.specs.Starts.{starts_handed}
 use Rattle.cm_watch.specs.declared.boot_fault.BootFault.{BootFault}
 use Rattle.cm_watch.specs.declared.boot_fault.BootFault.TheVariants as fault

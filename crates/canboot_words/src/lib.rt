@@ -1,19 +1,31 @@
 //! The words of canboot: what those of its command line ask for, and the texts of help, version and usage; what a live run tells of
 //! what happens, and how its lines are shown, with names of nodes in them.
+//!
+//! What is told is an [`Event`] for other programs, and [`EventLine`] its line, an object of JSON. How calls and replies are spelled
+//! has one definition for words and events.
 #![tactic(auto)]
 
 mod command_line;
+mod event;
+mod event_boot;
+mod event_entry;
+mod event_fields;
+mod event_network;
+mod event_notice;
 mod help;
 mod help_check;
+mod hexadecimal;
 mod live;
 mod names;
 mod shown;
+mod spelling;
 mod told;
 
 pub use command_line::{
     Action, BusPaths, CheckOutput, JournalPath, LivePaths, LiveWords, NoAction, ReportForm,
     read_words,
 };
+pub use event::{Event, EventLine, NoBoot};
 pub use names::{Names, NamesFault, read_names};
 pub use shown::ShownLines;
 pub use told::{

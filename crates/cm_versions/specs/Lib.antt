@@ -1,2 +1,3 @@
 pub mod Versions
 pub mod Telling
+pub mod Written

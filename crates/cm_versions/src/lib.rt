@@ -14,16 +14,21 @@
 //! Two copies of the version are kept, of which readers enter the one while the other takes what is new.
 //! So a publisher waits for those who are still in the version before the last one, and a reader that goes to
 //! a device while it is inside holds it up: a report is written to memory, and from there to a device.
+//!
+//! [`replay_json`] and [`report_json_of`] write the report of a history as one JSON object, as a version's
+//! [`Version::json`] does.
 #![tactic(auto)]
 
 mod fault;
 mod next;
 mod publisher;
 mod reader;
+mod reporting_json;
 mod version;
 
 pub use fault::TellFault;
 pub use next::Next;
 pub use publisher::Publisher;
 pub use reader::VersionReader;
+pub use reporting_json::{replay_json, report_json_of};
 pub use version::Version;

@@ -12,4 +12,3 @@ pub mod Entries
 pub mod Waits
 pub mod Tries
 pub mod Limiting
-pub mod EventEntries

@@ -24,7 +24,3 @@ pub mod BusErrors
 pub mod Notices
 pub mod BootFaults
 pub mod Starts
-pub mod Spellings
-pub mod EventFields
-pub mod EventEntries
-pub mod Events

@@ -10,10 +10,8 @@
 //! until its frames were handed to the wire is [`Waiting`], and what came of the boots so far [`Tried`]. Which of the remarks of a
 //! bus are told, emergency messages, other masters, errors of the bus and nodes that aren't listed, decide [`Notices`].
 //!
-//! What is told is an [`Event`] for other programs, and [`EventLine`] its line, an object of JSON. What is told of an entry of the
-//! history has one definition for words and events: [`BootFault`], what a boot's status says is wrong, with the value that was
-//! expected and the one found; [`Starts`], what a report starts; [`SpelledCall`] and [`SpelledReply`], how calls and replies are
-//! spelled.
+//! What is told of an entry of the history has one definition for words and events: [`BootFault`], what a boot's status says is
+//! wrong, with the value that was expected and the one found; and [`Starts`], what a report starts.
 #![tactic(auto)]
 
 mod beats;
@@ -22,15 +20,8 @@ mod bus_told;
 mod course;
 mod ends;
 mod error_control;
-mod event;
-mod event_boot;
-mod event_entry;
-mod event_fields;
-mod event_network;
-mod event_notice;
 mod guarding;
 mod happening;
-mod hexadecimal;
 mod in_order;
 mod laws;
 mod limit;
@@ -42,7 +33,6 @@ mod sent;
 mod settings;
 mod signals;
 mod slave;
-mod spelling;
 mod starts;
 mod taking;
 mod telling;
@@ -53,10 +43,8 @@ mod watch;
 pub use boot_fault::{BootFault, Compared};
 pub use bus_told::{BusTold, ErrorNotice};
 pub use course::Course;
-pub use event::{Event, EventLine, NoBoot};
 pub use guarding::guard_of;
 pub use happening::{Happening, Moment, Step};
-pub use hexadecimal::{HexEight, HexFour, HexTwo};
 pub use in_order::{InOrder, Placed};
 pub use laws::{
     beats_at_multiples, lost_once, none_forgotten, one_in_ten_seconds, ten_a_second, told_in_time,
@@ -69,7 +57,6 @@ pub use sent::Sent;
 pub use settings::Settings;
 pub use signals::{Budget, News};
 pub use slave::Slave;
-pub use spelling::{SpelledCall, SpelledReply};
 pub use starts::Starts;
 pub use telling::Told;
 pub use tried::Tried;

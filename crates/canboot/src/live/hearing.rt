@@ -10,12 +10,12 @@ ghost use Rattle.canboot_words.specs.NoticeWords.{notice_line};
 
 use crate::live::events::Events;
 use crate::live::saying::Teller;
-use canboot_words::say_notice;
+use canboot_words::{Event, say_notice};
 use cm_can::Remark;
 use cm_history::Entry;
 use cm_netlist::Network;
 use cm_sequential::frames;
-use cm_watch::{Event, Notice, Notices};
+use cm_watch::{Notice, Notices};
 use std::io::{self, Write};
 use std::sync::Wait;
 use std::time::Clock;

@@ -1,11 +1,13 @@
 //! What a live run tells of the steps that its watch gives, and beside entries.
 
 use crate::live::saying::Teller;
-use canboot_words::{Bad, LeftOut, NoBootOf, NoFrames, TimeOver, given_up, open_nodes};
+use canboot_words::{
+    Bad, Event, LeftOut, NoBoot, NoBootOf, NoFrames, TimeOver, given_up, open_nodes,
+};
 use cm_live::{BadLine, Format};
 use cm_netlist::Network;
 use cm_nmt::NodeId;
-use cm_watch::{Event, NoBoot, Tried, Watch};
+use cm_watch::{Tried, Watch};
 use std::io::Write;
 use std::sync::Wait;
 use std::time::Clock;

@@ -5,12 +5,12 @@ ghost use Rattle.canboot_words.specs.ToldLines.{back_words, bad_words, ends_word
 ghost use Rattle.canboot_words.specs.ToldLines.{left_out_words, mandatory_words, nearly_full_words, no_boot_words};
 ghost use Rattle.canboot_words.specs.ToldLines.{no_frames_words, running_words, stopped_words, time_over_words, times_words, unwatched_words};
 
+use crate::event::NoBoot;
 use crate::told::nodes::{Nodes, nodes_word, run_on_words};
 use cm_history::{Call, Entry, Reply};
 use cm_live::{BadLine, Format};
 use cm_netlist::Network;
 use cm_nmt::{NodeId, Status};
-use cm_watch::NoBoot;
 use std::fmt::{self, Display};
 
 /// The status of the last boot, if there was one, before what follows from it.

@@ -6,11 +6,12 @@ ghost use Rattle.cm_netlist.specs.Network.{is_listed};
 ghost use Rattle.canboot_words.specs.NoticeWords.{bytes_words, command_words, emergency_words, listed_words, message_words, notice_line};
 ghost use Rattle.canboot_words.specs.NoticeWords.{notice_words, state_words, target_words};
 
+use crate::hexadecimal::{HexFour, HexTwo};
 use crate::told::telling::say;
 use cm_can::{BusState, Emergency};
 use cm_netlist::Network;
 use cm_nmt::{Command, Frame, NodeId, Target};
-use cm_watch::{ErrorNotice, HexFour, HexTwo, Notice};
+use cm_watch::{ErrorNotice, Notice};
 use std::fmt::{self, Display};
 use std::io::{self, Write};
 

@@ -1,7 +1,7 @@
 use Rattle.std.proofs.Common.{◌∙◌, ◌++◌, Option, sym, subst}
 use Rattle.canboot.specs.Asking.{asked_unless}
 use Rattle.canboot.specs.Going.{Follows}
-use Rattle.cm_watch.specs.declared.event.NoBoot.{NoBoot}
+use Rattle.canboot_words.specs.declared.event.NoBoot.{NoBoot}
 use Rattle.canboot.proofs.live.progress.Course.boot_now.Goals as goal
 
 pub returns-in-Some-clause-told : goal.returns-in-Some-clause-told
