@@ -10,6 +10,7 @@ pub mod Program
 pub mod Tell
 pub mod Explain
 pub mod Json
+pub mod Importing
 pub mod Typing
 pub mod Workers
 pub mod Heard

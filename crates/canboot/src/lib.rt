@@ -1,9 +1,10 @@
 //! canboot, the NMT master of a CANopen network, as a library: its command line over any streams,
-//! and `canboot check`, `canboot run`, `canboot live`, `canboot replay` and `canboot tell` over any reader and writer. The program is
+//! and `canboot check`, `canboot import`, `canboot run`, `canboot live`, `canboot replay` and `canboot tell` over any reader and writer. The program is
 //! `canboot_main`.
 #![tactic(auto)]
 
 mod explain;
+mod importing;
 mod json;
 mod live;
 mod program;
@@ -12,10 +13,12 @@ mod tell;
 pub use canboot_check::{
     DONE, FAILED, LONGEST_JOURNAL, LONGEST_LIST, MISUSED, REFUSED, check_text, replay_text,
 };
+pub use canboot_lists::ImportWords;
 pub use canboot_run::{JournalOutput, LONGEST_RUN, Options, run_text};
 pub use canboot_words::{Action, CheckOutput, NoAction, ReportForm, read_words};
 pub use cm_live::Outlet;
 pub use explain::explain_text;
+pub use importing::{LONGEST_DEVICE_FILE, import_text};
 pub use json::{check_as_json, replay_as_json};
 pub use live::{
     Followed, HostFiles, LONGEST_LIVE, LiveEnds, LiveOptions, NoFiles, ReplaceFile, StatusFile,

@@ -3,6 +3,7 @@ ghost use Rattle.std.specs.Io.KnownBytes.{Appends};
 ghost use Rattle.canboot.specs.Program.{EndsWithout};
 
 use crate::explain::explain_file;
+use crate::importing::import_file;
 use crate::json::{check_file_as_json, replay_as_json};
 use crate::live::ReplaceFile;
 use crate::live::files::live_file;
@@ -10,6 +11,7 @@ use crate::tell::tell_text;
 use canboot_check::{
     FAILED, MISUSED, check_file, fault_line, mend_text, output_status, read_fault, replay_text,
 };
+use canboot_lists::ImportWords;
 use canboot_run::{Options, run_file};
 use canboot_words::{Action, CheckOutput, NoAction, ReportForm, read_words};
 use std::alloc::Global;
@@ -94,7 +96,7 @@ fn has_no_color<R: Env + AllocGlobal>(rt: &R) -> bool {
 }
 
 /// Runs canboot on these words, of which the first is the program's name, with these streams, and
-/// gives its exit status: that of [`check_file`], [`explain_text`](crate::explain_text), [`run_file`], [`live_text`](crate::live_text), [`replay_text`], [`mend_text`] or
+/// gives its exit status: that of [`check_file`], [`explain_text`](crate::explain_text), [`import_text`](crate::import_text), [`run_file`], [`live_text`](crate::live_text), [`replay_text`], [`mend_text`] or
 /// [`tell_text`], 0 for help and the version, 2 for wrong words, 3 for a file that can't be opened or made. Where `err` is a terminal, a live run
 /// says the time with each line there.
 pub fn run_words<
@@ -126,6 +128,21 @@ pub fn run_words<
 {
     match read_words(rt.alloc(), words) {
         Ok(Action::Check { network, output }) => check_as(rt, network, output, out, err),
+        Ok(
+            Action::Import {
+                file,
+                id,
+                mandatory,
+                heartbeat_ms,
+            },
+        ) => {
+            let words = ImportWords {
+                id,
+                mandatory,
+                heartbeat_ms,
+            };
+            import_file(rt, file, words, out, err)
+        }
         Ok(
             Action::Run {
                 network,

@@ -1,2 +1,6 @@
 pub mod Warnings
 pub mod Explained
+pub mod DeviceFiles
+pub mod LinesRead
+pub mod Imports
+pub mod SettingsMade

@@ -6,6 +6,7 @@ use crate::help::{
     HELP_RUN, HELP_TELL,
 };
 use crate::help_check::{ABOUT_CHECK, HELP_CHECK};
+use crate::importing::{import_action, import_command};
 use crate::live::{live_action, live_command};
 use clap::error::ErrorKind;
 use clap::{Arg, ArgAction, ArgMatches, Command, Error, value_parser};
@@ -92,6 +93,16 @@ pub enum Action<'a> {
     Check {
         network: &'a str,
         output: CheckOutput,
+    },
+    /// Read the device file of this path, and print the slave of a network list that it gives.
+    Import {
+        file: &'a str,
+        /// Its node-ID, in the place of the one that the file has.
+        id: Option<NodeId>,
+        /// Whether it is mandatory.
+        mandatory: bool,
+        /// The time in ms in which its heartbeat has to come, 0 for none.
+        heartbeat_ms: u16,
     },
     /// Boot the network of the list of this path, print the report, and write the journal to this
     /// path, if there is one.
@@ -255,6 +266,7 @@ fn subcommands<'a>(alloc: Global) -> Result<Vec<Command<'a>>, AllocError> {
         alloc,
         [
             check_command(alloc),
+            import_command(alloc),
             run_command(alloc),
             live_command(alloc),
             replay_command(alloc),
@@ -296,7 +308,7 @@ pub(crate) fn number_of(given: &ArgMatches<'_>, name: &str, most: u8) -> u8
 }
 
 /// The node of this name, if one is given.
-fn node_of(given: &ArgMatches<'_>, name: &str) -> Option<NodeId> {
+pub(crate) fn node_of(given: &ArgMatches<'_>, name: &str) -> Option<NodeId> {
     given.get_one::<u8>(name).and_then(NodeId::new)
 }
 
@@ -341,6 +353,7 @@ fn action_of<'a>(alloc: Global, matches: &ArgMatches<'a>) -> Result<Action<'a>, 
             network: text_of(given, "network"),
             output: check_output(given),
         }),
+        "import" => Ok(import_action(given)),
         "run" => Ok(run_action(given)),
         "live" => live_action(alloc, given),
         "mend" => Ok(Action::Mend),

@@ -1,0 +1,93 @@
+//! `canboot import`: a slave of a network list from its device file.
+
+ghost use Rattle.std.specs.Prelude.{◌≡◌, ◌⊎◌, OnOk};
+ghost use Rattle.std.specs.Io.KnownBytes.{Appends};
+ghost use Rattle.canboot.specs.Importing.{FailsToImport, ImportsSlave};
+
+use canboot_check::{FAILED, REFUSED, fault_line, input_fault_line, output_status, read_fault};
+use canboot_lists::{FileFault, ImportFault, ImportWords, ImportedText, import};
+use cm_text::{InputFault, read_input};
+use std::alloc::Global;
+use std::fs;
+use std::io::{self, Read, Write};
+use std::rt::Files;
+
+/// The greatest length of a device file, in bytes.
+pub const LONGEST_DEVICE_FILE: usize = 4_194_304;
+
+/// Writes why a file gives no slave, and gives the exit status.
+fn refuse_import<E: Write>(err: &mut E, fault: ImportFault) -> u8
+    ensures { (result ≡ 1) ⊎ (result ≡ 3) }
+{
+    match fault {
+        ImportFault::File(FileFault::OutOfMemory) => input_fault_line(err, InputFault::Memory),
+        ImportFault::File(FileFault::Line(line, fault)) => {
+            let _ = writeln!(err, "canboot: line {line}: {fault}");
+            REFUSED
+        }
+        ImportFault::NoNode => fault_line(err, REFUSED, "no node-ID: it is given by --id"),
+        ImportFault::NoList => fault_line(err, REFUSED, "no network list has this slave"),
+    }
+}
+
+/// Writes the slave, and all of it; what of the file it doesn't have, it writes to `err`.
+fn put_slave<W: Write, E: Write>(slave: &ImportedText, out: &mut W, err: &mut E) -> io::Result<()>
+    ensures { OnOk result (Appends (W.contents out.old) (W.contents out.new) slave.now.slave.items) }
+{
+    let _ = err.write_all(slave.unwritten.as_slice());
+    out.write_all(slave.slave.as_slice())?;
+    out.flush()
+}
+
+/// Reads a device file (CiA 306) to the end of the input, and writes the slave that it gives, as a table of a network list in TOML.
+/// What of the file it doesn't have is written to `err`, a line for each value. The answer is the exit status:
+///
+/// - 0: the table is written;
+/// - 1: the bytes are no device file, or neither they nor the words give a node-ID; `err` has one line that says which, and nothing
+///   is written to `out`;
+/// - 3: a read or a write failed, the input is longer than 4,194,304 bytes, or memory was refused; `err` has one line that says
+///   which. Only where the file gives a slave may anything be written to `out`.
+pub fn import_text<R: Read, W: Write, E: Write>(
+    alloc: Global,
+    words: ImportWords,
+    reader: &mut R,
+    out: &mut W,
+    err: &mut E,
+) -> u8
+    ensures done { result ≡ 0
+        → ImportsSlave words (R.remaining reader.old) (R.remaining reader.new)
+        (W.contents out.old) (W.contents out.new) }
+    ensures refused { result ≡ 1 → W.contents out.new ≡ W.contents out.old }
+    ensures failed { result ≡ 3
+        → FailsToImport words (R.remaining reader.old) (R.remaining reader.new)
+        (W.contents out.old) (W.contents out.new) }
+    ensures statuses { (result ≡ 0) ⊎ ((result ≡ 1) ⊎ (result ≡ 3)) }
+{
+    let bytes = match read_input(alloc, reader, LONGEST_DEVICE_FILE) {
+        Ok(bytes) => bytes,
+        Err(fault) => return input_fault_line(err, fault),
+    };
+    match import(alloc, bytes.as_slice(), words) {
+        Ok(slave) => {
+            let written = put_slave(&slave, out, err);
+            output_status(err, written)
+        }
+        Err(fault) => refuse_import(err, fault),
+    }
+}
+
+/// `canboot import`, over the file of this path: [`import_text`], or 3 where it can't be opened.
+pub(crate) fn import_file<R: Files + AllocGlobal, W: Write, E: Write>(
+    rt: &R,
+    path: &str,
+    words: ImportWords,
+    out: &mut W,
+    err: &mut E,
+) -> u8
+    ensures statuses { (result ≡ 0) ⊎ ((result ≡ 1) ⊎ (result ≡ 3)) }
+{
+    match fs::open(rt, path) {
+        Ok(mut file) => import_text(rt.alloc(), words, &mut file, out, err),
+        Err(error) => read_fault(err, error.kind()),
+    }
+}

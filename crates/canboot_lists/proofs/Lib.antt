@@ -1,0 +1,3 @@
+mod DeviceFiles
+mod Added
+mod Given
