@@ -170,7 +170,8 @@ impl<'w, 'a, 'n, R: Wait + Clock + Drop, K: RunName, B: BusName, M: LiveRegister
         }
     }
 
-    /// Does what the operator has typed next, if there is a line.
+    /// Does what the operator has typed next. Its line was sent before it was told that there is one, so it is waited for: a look that
+    /// doesn't wait may miss it while the next one is sent.
     pub(crate) fn obey_next<E: Write>(&mut self, err: &mut E, now: u64) -> Result<(), Ending>
         requires { now < 2 ^ 63 }
         ensures obeyed { (s : WatchSettings) (past : Past) → Follows self.old.course.progress self.old.course.network.now s past
@@ -178,7 +179,7 @@ impl<'w, 'a, 'n, R: Wait + Clock + Drop, K: RunName, B: BusName, M: LiveRegister
             self.new.course.progress self.old.course.network.now s past now self.old.operator self.new.operator) }
         ensures network { IfOk result (λ _. self.new.course.network ≡ self.old.course.network) }
     {
-        match self.typed.try_recv(self.course.setting.rt) {
+        match self.typed.recv(self.course.setting.rt) {
             Ok(line) => self.obey(err, &line, now),
             Err(_) => Ok(()),
         }
