@@ -160,7 +160,8 @@ impl<'w, 'a, 'n, R: Wait + Clock + Drop, K: RunName, B: BusName, M: LiveRegister
         }
     }
 
-    /// Takes what has happened, if something has within a turn's time, and then all else that has.
+    /// Takes what has happened, if something has within a turn's time, and then all else that has. What is received is taken before
+    /// another is received, so that none is lost where the turn ends.
     fn take_all<E: Write>(
         &mut self,
         err: &mut E,
@@ -170,14 +171,13 @@ impl<'w, 'a, 'n, R: Wait + Clock + Drop, K: RunName, B: BusName, M: LiveRegister
             self.new.course.network.now self.new.course.progress) }
     {
         let setting = self.course.setting;
-        let wait = Duration::from_millis(TURN_MS);
-        let mut next = happenings.recv_timeout(setting.rt, wait).ok();
+        let mut wait = Duration::from_millis(TURN_MS);
         for _ in 0..MOST_TAKEN {
-            let Some(happening) = next else {
+            let Ok(happening) = happenings.recv_timeout(setting.rt, wait) else {
                 return Ok(());
             };
             self.take(err, happening, setting.now())?;
-            next = happenings.try_recv(setting.rt).ok();
+            wait = Duration::ZERO;
         }
         Ok(())
     }
