@@ -4,3 +4,5 @@ pub mod DeviceFiles
 pub mod LinesRead
 pub mod Imports
 pub mod SettingsMade
+pub mod Scans
+pub mod Compared

@@ -8,10 +8,10 @@ use std::io::{self, Write};
 use std::str;
 
 /// The most characters of a name that are shown.
-const LONGEST_NAME: usize = 60;
+const LONGEST_NAME: usize = 64;
 
 /// Writes a hexadecimal number as TOML has it.
-fn put_hex<W: Write>(digits: &[u8], out: &mut W) -> io::Result<()> {
+pub(crate) fn put_hex<W: Write>(digits: &[u8], out: &mut W) -> io::Result<()> {
     out.write_all(b"0x")?;
     out.write_all(digits)
 }
@@ -45,7 +45,7 @@ fn put_name<W: Write>(name: &[u8], out: &mut W) -> io::Result<()> {
 }
 
 /// Writes a comment behind a line, if there is a name, and ends the line.
-fn put_comment<W: Write>(name: &[u8], out: &mut W) -> io::Result<()> {
+pub(crate) fn put_comment<W: Write>(name: &[u8], out: &mut W) -> io::Result<()> {
     if !name.is_empty() {
         out.write_all(b"  # ")?;
         put_name(name, out)?;
@@ -54,7 +54,7 @@ fn put_comment<W: Write>(name: &[u8], out: &mut W) -> io::Result<()> {
 }
 
 /// Writes a key with a number in hexadecimal digits, where it isn't 0.
-fn put_key<W: Write>(key: &str, value: u32, out: &mut W) -> io::Result<()> {
+pub(crate) fn put_key<W: Write>(key: &str, value: u32, out: &mut W) -> io::Result<()> {
     if value == 0 {
         return Ok(());
     }

@@ -10,3 +10,4 @@ pub mod Identifiers
 pub mod Routing
 pub mod Heartbeats
 pub mod Strangers
+pub mod Identifying

@@ -6,6 +6,7 @@ ghost use Rattle.cm_live.specs.Receiving.{IsGiven};
 ghost use Rattle.cm_live.specs.Waits.{beat_ms, behind, wait_ms};
 
 use crate::bus_name::BusName;
+use crate::device_name::{DeviceName, read_name};
 use crate::event::Event;
 use crate::port::Port;
 use cm_boot::{Answer, Bus, Question};
@@ -266,6 +267,14 @@ impl<'n, B: BusName, P: Port<B>> LiveBus<'n, B, P> {
         ensures heard { self.new.heard ≡ self.old.heard }
     {
         self.log.clear();
+    }
+
+    /// The device's name (CiA 301, 1008h), the first 64 bytes of it, by a segmented upload where it has more than 4. `None` where none
+    /// is answered. Nothing of it stands in the log.
+    pub fn device_name(&mut self, id: NodeId) -> Option<DeviceName>
+        ensures { self.new ≡ self.old }
+    {
+        read_name(&mut self.port, id, self.answer_ms)
     }
 
     /// What went over the port, the first event first.

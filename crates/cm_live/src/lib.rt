@@ -6,6 +6,8 @@
 //! lines of can-utils or of a serial adapter, each by one write; how frames come in, what was read by now, and what
 //! time is, a [`Port`] knows.
 //!
+//! Beside a boot, a device says what it is ([`identify`]), and its name ([`LiveBus::device_name`]).
+//!
 //! In a live run threads share the bus: one reads frames and gives each to whom it is for ([`Routes`]); one reads what
 //! the operator types, and sends it line by line ([`TypedSource`]); each worker has a [`LivePort`]; and what happens is
 //! told to the one that watches the network ([`Happening`]).
@@ -14,9 +16,11 @@
 mod bus;
 mod bus_name;
 mod console;
+mod device_name;
 mod event;
 mod happening;
 mod heartbeats;
+mod identifying;
 mod line_counter;
 mod line_cutter;
 mod listening;
@@ -37,9 +41,11 @@ mod wire;
 pub use bus::LiveBus;
 pub use bus_name::BusName;
 pub use console::{BadLine, Command, read_command};
+pub use device_name::DeviceName;
 pub use event::Event;
 pub use happening::Happening;
 pub use heartbeats::Heartbeats;
+pub use identifying::{Identity, identify};
 pub use line_cutter::LineCutter;
 pub use listening::Listening;
 pub use live_port::LivePort;
