@@ -7,6 +7,7 @@ use Rattle.canboot_words.specs.declared.command_line.Action.TheVariants as actio
 -- or more, or not at all
 abbrev pub IsInRange : Action → Type 0
 IsInRange (action.Check n output) = Unit {0}
+IsInRange (action.Scan s) = (1 ≤ s.workers) × (s.workers ≤ 16) × (1 ≤ s.answer_ms) × (s.answer_ms ≤ 60000)
 IsInRange (action.Import file id mandatory heartbeat) = Unit {0}
 IsInRange (action.Run n workers attempts silent journal) = (1 ≤ workers) × (workers ≤ 16) × (1 ≤ attempts) × (attempts ≤ 10)
 IsInRange (action.Live l) =

@@ -8,6 +8,7 @@ use crate::help::{
 use crate::help_check::{ABOUT_CHECK, HELP_CHECK};
 use crate::importing::{import_action, import_command};
 use crate::live::{live_action, live_command};
+use crate::scanning::{scan_action, scan_command};
 use clap::error::ErrorKind;
 use clap::{Arg, ArgAction, ArgMatches, Command, Error, value_parser};
 use cm_nmt::NodeId;
@@ -64,6 +65,8 @@ pub struct LiveWords<'a> {
     pub heartbeat_ms: u16,
     /// How long the run goes on behind the end of the operator's input, in seconds, up to 31,536,000; none: until it ends otherwise.
     pub seconds: Option<u32>,
+    /// In which form the report is printed at the end.
+    pub report: ReportForm,
 }
 
 /// What is printed of a network list that has no fault.
@@ -78,12 +81,42 @@ pub enum CheckOutput {
 }
 
 /// In which form a report is printed.
-#[derive(Clone, Copy)]
+#[derive(Clone, Copy, Debug, PartialEq, Eq)]
 pub enum ReportForm {
     /// As lines.
     Text,
     /// As one JSON object.
     Json,
+}
+
+/// What a scan of a bus is asked for.
+#[derive(Clone, Copy)]
+pub struct ScanWords<'a> {
+    pub bus: BusPaths<'a>,
+    /// The node-IDs that are asked, as they are spelled.
+    pub nodes: &'a str,
+    /// How many workers ask, 1 to 16.
+    pub workers: u8,
+    /// How long an answer is waited for, in ms, 1 to 60,000.
+    pub answer_ms: u32,
+    pub output: ScanOutput<'a>,
+}
+
+/// What is printed of the devices that are found.
+#[derive(Clone, Copy)]
+pub enum ScanOutput<'a> {
+    /// A network list of them.
+    List {
+        /// The manager's own node-ID in it.
+        own: NodeId,
+        /// Whether a comment says what each one's device profile is about.
+        with_profiles: bool,
+    },
+    /// How they differ from the network list of this path.
+    Differences {
+        network: &'a str,
+        form: ReportForm,
+    },
 }
 
 /// What the command line asks for.
@@ -94,6 +127,8 @@ pub enum Action<'a> {
         network: &'a str,
         output: CheckOutput,
     },
+    /// Ask the devices on a CAN bus what they are, and print a network list of them, or how they differ from one.
+    Scan(ScanWords<'a>),
     /// Read the device file of this path, and print the slave of a network list that it gives.
     Import {
         file: &'a str,
@@ -172,9 +207,11 @@ pub(crate) fn network_argument<'a>(alloc: Global) -> Arg<'a> {
         .required(true)
 }
 
+/// What the number of workers is, where they boot slaves.
+pub(crate) const WORKERS: &str = "How many workers boot slaves, 1 to 16";
+
 /// How many workers there are; so many, unless it is given.
-pub(crate) fn workers_argument<'a>(alloc: Global, unless_given: &'a str) -> Arg<'a> {
-    let help = "How many workers boot slaves, 1 to 16";
+pub(crate) fn workers_argument<'a>(alloc: Global, help: &'a str, unless_given: &'a str) -> Arg<'a> {
     option(alloc, "workers", "N", help)
         .value_parser(value_parser!(u8).range(1..17))
         .default_value(unless_given)
@@ -217,7 +254,7 @@ fn explain_argument<'a>(alloc: Global) -> Result<Arg<'a>, AllocError> {
         .conflicts_with("json")
 }
 
-fn json_argument<'a>(alloc: Global) -> Arg<'a> {
+pub(crate) fn json_argument<'a>(alloc: Global) -> Arg<'a> {
     let help = "Prints a JSON object, and a fault as one too";
     argument(alloc, "json", help)
         .long("json")
@@ -236,7 +273,7 @@ fn check_command<'a>(alloc: Global) -> Result<Command<'a>, AllocError> {
 fn run_command<'a>(alloc: Global) -> Result<Command<'a>, AllocError> {
     let arguments = vec![in alloc;
         network_argument(alloc),
-        workers_argument(alloc, "1"),
+        workers_argument(alloc, WORKERS, "1"),
         attempts_argument(alloc, "1"),
         silent_argument(alloc),
         journal_argument(alloc),
@@ -266,6 +303,7 @@ fn subcommands<'a>(alloc: Global) -> Result<Vec<Command<'a>>, AllocError> {
         alloc,
         [
             check_command(alloc),
+            scan_command(alloc),
             import_command(alloc),
             run_command(alloc),
             live_command(alloc),
@@ -334,7 +372,7 @@ fn check_output(given: &ArgMatches<'_>) -> CheckOutput {
     }
 }
 
-fn report_form(given: &ArgMatches<'_>) -> ReportForm {
+pub(crate) fn report_form(given: &ArgMatches<'_>) -> ReportForm {
     if given.get_flag("json") {
         ReportForm::Json
     } else {
@@ -353,6 +391,7 @@ fn action_of<'a>(alloc: Global, matches: &ArgMatches<'a>) -> Result<Action<'a>, 
             network: text_of(given, "network"),
             output: check_output(given),
         }),
+        "scan" => scan_action(given),
         "import" => Ok(import_action(given)),
         "run" => Ok(run_action(given)),
         "live" => live_action(alloc, given),

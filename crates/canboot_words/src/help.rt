@@ -267,6 +267,7 @@ With --status FILE the report so far stands in FILE as a JSON object. It is
 written each second in which something has happened, and at the end of the run:
 as FILE.new, which then takes the place of FILE, so that whoever reads FILE
 finds a whole report. Want of a disk never stops the run: it is told once.
+With --json the report that is printed at the end is such an object too.
 
 The run ends with 'quit'; --for SECONDS behind the end of the operator's input, where that is \
 given (a FIFO of --operator has none); or where no more frames can be received or sent. Without an \

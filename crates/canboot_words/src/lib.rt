@@ -15,20 +15,24 @@ mod event_notice;
 mod help;
 mod help_check;
 mod help_import;
+mod help_scan;
 mod hexadecimal;
 mod importing;
 mod live;
 mod names;
+mod node_list;
+mod scanning;
 mod shown;
 mod spelling;
 mod told;
 
 pub use command_line::{
     Action, BusPaths, CheckOutput, JournalPath, LivePaths, LiveWords, NoAction, ReportForm,
-    read_words,
+    ScanOutput, ScanWords, read_words,
 };
 pub use event::{Event, EventLine, NoBoot};
 pub use names::{Names, NamesFault, read_names};
+pub use node_list::read_nodes;
 pub use shown::ShownLines;
 pub use told::{
     Bad, ENTRIES_LEFT, EntryWords, GivenUp, LeftOut, NEARLY_FULL, NoBootOf, NoFrames, Nodes,

@@ -2,25 +2,25 @@ ghost use Rattle.std.specs.Prelude.{◌≡◌, ◌≤◌, ◌⊎◌, IfOk};
 ghost use Rattle.canboot_words.specs.CommandLine.{IsInRange};
 
 use crate::command_line::{
-    Action, BusPaths, JournalPath, LivePaths, LiveWords, NoAction, argument, attempts_argument,
-    described, journal_argument, listed, network_argument, number_of, option, text_of,
-    workers_argument,
+    Action, BusPaths, JournalPath, LivePaths, LiveWords, NoAction, WORKERS, argument,
+    attempts_argument, described, journal_argument, listed, network_argument, number_of, option,
+    report_form, text_of, workers_argument,
 };
 use crate::help::{ABOUT_LIVE, HELP_LIVE, USAGE_LIVE};
 use clap::{Arg, ArgAction, ArgGroup, ArgMatches, Command, value_parser};
 use std::alloc::{AllocError, Global};
 
-fn receive_argument<'a>(alloc: Global) -> Result<Arg<'a>, AllocError> {
+pub(crate) fn receive_argument<'a>(alloc: Global) -> Result<Arg<'a>, AllocError> {
     let help = "The path from which lines of candump are read";
     option(alloc, "receive", "FILE", help).requires_arg("send")
 }
 
-fn send_argument<'a>(alloc: Global) -> Result<Arg<'a>, AllocError> {
+pub(crate) fn send_argument<'a>(alloc: Global) -> Result<Arg<'a>, AllocError> {
     let help = "The path to which lines for canplayer are written";
     option(alloc, "send", "FILE", help).requires_arg("receive")
 }
 
-fn adapter_argument<'a>(alloc: Global) -> Result<Arg<'a>, AllocError> {
+pub(crate) fn adapter_argument<'a>(alloc: Global) -> Result<Arg<'a>, AllocError> {
     let help = "The device of a serial adapter, which is read and written";
     option(alloc, "slcan", "DEVICE", help)
         .conflicts_with("receive")?
@@ -28,7 +28,7 @@ fn adapter_argument<'a>(alloc: Global) -> Result<Arg<'a>, AllocError> {
 }
 
 /// One of the two ways to reach the bus is needed.
-fn bus_group<'a>(alloc: Global) -> Result<ArgGroup<'a>, AllocError> {
+pub(crate) fn bus_group<'a>(alloc: Global) -> Result<ArgGroup<'a>, AllocError> {
     ArgGroup::new(alloc, "bus")
         .multiple(true)
         .required(true)
@@ -37,12 +37,15 @@ fn bus_group<'a>(alloc: Global) -> Result<ArgGroup<'a>, AllocError> {
         .arg("slcan")
 }
 
-fn answer_argument<'a>(alloc: Global) -> Arg<'a> {
-    let help = "How long an SDO answer or a guard answer is waited for, 1 to 60000";
+/// How long an answer is waited for.
+pub(crate) fn answer_argument<'a>(alloc: Global, help: &'a str) -> Arg<'a> {
     option(alloc, "answer", "MS", help)
         .value_parser(value_parser!(u32).range(1..60_001))
         .default_value("300")
 }
+
+/// What the time of an answer is, in a live run.
+const ANSWER: &str = "How long an SDO answer or a guard answer is waited for, 1 to 60000";
 
 fn settle_argument<'a>(alloc: Global) -> Arg<'a> {
     let help = "How long boot-up messages are waited for behind a reset, 0 to 600000";
@@ -91,6 +94,13 @@ fn status_argument<'a>(alloc: Global) -> Arg<'a> {
     option(alloc, "status", "FILE", help)
 }
 
+fn report_argument<'a>(alloc: Global) -> Arg<'a> {
+    let help = "Prints the report as a JSON object";
+    argument(alloc, "json", help)
+        .long("json")
+        .action(ArgAction::SetTrue)
+}
+
 fn arguments<'a>(alloc: Global) -> Result<Vec<Arg<'a>>, AllocError> {
     listed(
         alloc,
@@ -99,9 +109,9 @@ fn arguments<'a>(alloc: Global) -> Result<Vec<Arg<'a>>, AllocError> {
             receive_argument(alloc),
             send_argument(alloc),
             adapter_argument(alloc),
-            Ok(workers_argument(alloc, "4")),
+            Ok(workers_argument(alloc, WORKERS, "4")),
             Ok(attempts_argument(alloc, "3")),
-            Ok(answer_argument(alloc)),
+            Ok(answer_argument(alloc, ANSWER)),
             Ok(settle_argument(alloc)),
             Ok(heartbeat_argument(alloc)),
             Ok(seconds_argument(alloc)),
@@ -111,6 +121,7 @@ fn arguments<'a>(alloc: Global) -> Result<Vec<Arg<'a>>, AllocError> {
             Ok(names_argument(alloc)),
             Ok(events_argument(alloc)),
             Ok(status_argument(alloc)),
+            Ok(report_argument(alloc)),
         ],
     )
 }
@@ -130,7 +141,7 @@ pub(crate) fn live_command<'a>(alloc: Global) -> Result<Command<'a>, AllocError>
 }
 
 /// A time of this name in ms, which clap took only where it is `least` to `most`.
-fn milliseconds_of(given: &ArgMatches<'_>, name: &str, least: u32, most: u32) -> u32
+pub(crate) fn milliseconds_of(given: &ArgMatches<'_>, name: &str, least: u32, most: u32) -> u32
     requires { least ≤ most }
     ensures { (least ≤ result) × (result ≤ most) }
 {
@@ -164,7 +175,7 @@ For more information, try '--help'.
 }
 
 /// Where the bus is; clap took only one of the two ways, and all of it.
-fn bus_paths<'a>(given: &ArgMatches<'a>) -> BusPaths<'a> {
+pub(crate) fn bus_paths<'a>(given: &ArgMatches<'a>) -> BusPaths<'a> {
     match given.get_str("slcan") {
         Some(device) => BusPaths::Adapter { device },
         None => BusPaths::CanUtils {
@@ -203,5 +214,6 @@ pub(crate) fn live_action<'a>(alloc: Global, given: &ArgMatches<'a>) -> Result<A
         settle_ms: milliseconds_of(given, "settle", 0, 600_000),
         heartbeat_ms,
         seconds: given.get_one::<u32>("for"),
+        report: report_form(given),
     }))
 }
