@@ -14,3 +14,4 @@ pub mod Sendings
 pub mod Going
 pub mod JournalNames
 pub mod Inputs
+pub mod HeardDevices

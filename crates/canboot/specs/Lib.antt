@@ -11,6 +11,7 @@ pub mod Tell
 pub mod Explain
 pub mod Json
 pub mod Importing
+pub mod Scanning
 pub mod Typing
 pub mod Workers
 pub mod Heard

@@ -7,6 +7,7 @@ use Rattle.cm_format.specs.Text.{JournalView, journal_of, text}
 use Rattle.cm_format.specs.declared.version.Version.TheVariants.{Two}
 use Rattle.cm_format.specs.Journals.{IsJournal}
 use Rattle.cm_format.specs.Report.{report_text}
+use Rattle.cm_format.specs.ReportJson.{report_json}
 use Rattle.cm_history.specs.declared.call.Entry.{Entry}
 use Rattle.cm_history.specs.OrderFrames.{frames_in}
 use Rattle.cm_live.specs.Outlets.{IsWell, SendsMessages}
@@ -14,9 +15,16 @@ use Rattle.cm_live.specs.declared.outlet.Outlet.{Outlet}
 use Rattle.cm_format.specs.Unended.{unended_text}
 pub use Rattle.canboot_run.specs.Recorded.{AppendsIfThere, IsWritten}
 pub use Rattle.canboot_run.specs.Run.{IsRun, IsOfNoMaster, RefusesRun}
+use Rattle.canboot_words.specs.declared.command_line.ReportForm.{ReportForm}
+use Rattle.canboot_words.specs.declared.command_line.ReportForm.TheVariants as form
 use Rattle.canboot.specs.Heard.{IsAllHeard}
 use Rattle.canboot.specs.Operated.{IsOperatedLive}
 use Rattle.cm_live.specs.declared.outlet.Format.{Format}
+
+-- the report of a network and its entries, as lines or as a JSON object
+abbrev pub report_in : ReportForm → Network → List Entry → List ℕ
+report_in form.Text = report_text
+report_in form.Json = report_json
 
 -- of the text of the journal of this history the beginning was written, and all of it where no write has failed
 abbrev pub WritesJournal : Network → ℕ → ℕ → List Entry → Option (Option (List ℕ)) → Option (Option (List ℕ)) → Bool → Type 0
@@ -44,13 +52,13 @@ module _ {W : Type 0} (contents : W → Option (List ℕ)) (format : Format) (re
   -- failed, just the lines of that history's frames; in it each report whose orders start a slave has the slave's identity
   -- among the frames that stand in what the reader of received frames held; and each request in it is one of seat 1, which has
   -- started the network, and stands as a line in what the reader of typed lines held, in their order
-  pub record RunsLive (workers limit : ℕ) (input input' output output' : Option (List ℕ)) (journal journal' : Option (Option (List ℕ)))
+  pub record RunsLive (report : ReportForm) (workers limit : ℕ) (input input' output output' : Option (List ℕ)) (journal journal' : Option (Option (List ℕ)))
       (messages messages' : Option (Outlet W)) : Type 0 where
     pub of : JournalView
     pub run : IsRun workers limit input input' of
     pub heard : IsAllHeard format received of.network of.seats of.entries
     pub operated : IsOperatedLive typed of.entries
-    pub reported : Appends output output' (report_text of.network of.entries)
+    pub reported : Appends output output' (report_in report of.network of.entries)
     pub recorded : AppendsIfThere journal journal' (text of)
     pub sent : SendsMessages contents (frames_in (listing of.network) of.entries) messages messages'
     pub well : IsWell messages'

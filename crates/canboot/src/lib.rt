@@ -8,6 +8,8 @@ mod importing;
 mod json;
 mod live;
 mod program;
+mod report;
+mod scan;
 mod tell;
 
 pub use canboot_check::{
@@ -25,4 +27,5 @@ pub use live::{
     live_round, live_text,
 };
 pub use program::{run, run_words};
+pub use scan::{ListForm, ScanEnds, ScanOptions, scan_check, scan_text};
 pub use tell::tell_text;

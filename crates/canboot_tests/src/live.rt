@@ -5,7 +5,8 @@ ghost use Rattle.std.specs.Prelude.{◌≡◌, ◌≤◌, length};
 
 use crate::runs::full_list;
 use canboot::{
-    Followed, JournalOutput, LiveEnds, LiveOptions, NoFiles, Outlet, live_text, replay_text,
+    Followed, JournalOutput, LiveEnds, LiveOptions, NoFiles, Outlet, ReportForm, live_text,
+    replay_text,
 };
 use cm_can::{CanFrame, Kind, read_log_line};
 use cm_live::Format;
@@ -315,6 +316,7 @@ fn four_workers() -> LiveOptions
         heartbeat_ms: 0,
         seconds: Some(0),
         format: Format::CanUtils,
+        report: ReportForm::Text,
     }
 }
 

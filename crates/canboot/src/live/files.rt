@@ -25,7 +25,7 @@ use std::thread::Threads;
 use std::time::Clock;
 
 /// In what lines the frames of a bus come and go.
-fn format_of(bus: &BusPaths<'_>) -> Format
+pub(crate) fn format_of(bus: &BusPaths<'_>) -> Format
     ensures { result ≡ format_of bus.now }
 {
     match bus {
@@ -46,11 +46,15 @@ fn options_of(words: &LiveWords<'_>) -> LiveOptions
         heartbeat_ms: words.heartbeat_ms,
         seconds: words.seconds,
         format: format_of(&words.bus),
+        report: words.report,
     }
 }
 
 /// Opens a bus: where frames are read, and where they are written.
-fn open_bus<R: Files<File = File>>(rt: &R, bus: &BusPaths<'_>) -> io::Result<(File, File)> {
+pub(crate) fn open_bus<R: Files<File = File>>(
+    rt: &R,
+    bus: &BusPaths<'_>,
+) -> io::Result<(File, File)> {
     match bus {
         BusPaths::CanUtils { receive, send } => {
             let received = fs::open(rt, *receive)?;
@@ -66,7 +70,7 @@ fn open_bus<R: Files<File = File>>(rt: &R, bus: &BusPaths<'_>) -> io::Result<(Fi
 }
 
 /// What opens the channel of a serial adapter, whose bit rate was set before; nothing else has one. What it answers is no frame.
-fn channel_opening(format: Format) -> &'static [u8]
+pub(crate) fn channel_opening(format: Format) -> &'static [u8]
     ensures { result.now ≡ channel_opening format }
 {
     match format {
@@ -76,7 +80,7 @@ fn channel_opening(format: Format) -> &'static [u8]
 }
 
 /// What closes it.
-fn channel_closing(format: Format) -> &'static [u8]
+pub(crate) fn channel_closing(format: Format) -> &'static [u8]
     ensures { result.now ≡ channel_closing format }
 {
     match format {
@@ -86,7 +90,7 @@ fn channel_closing(format: Format) -> &'static [u8]
 }
 
 /// Writers to one file, this many.
-fn writers_to(alloc: Global, file: &File, count: u8) -> io::Result<Vec<BufWriter<File>>>
+pub(crate) fn writers_to(alloc: Global, file: &File, count: u8) -> io::Result<Vec<BufWriter<File>>>
     ensures { IfOk result (λ writers. vec_len writers ≡ count) }
 {
     let mut writers = Vec::new(alloc);

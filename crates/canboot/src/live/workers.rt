@@ -106,7 +106,7 @@ pub(crate) struct Workers<'n, R: Wait + Clock + Drop, K: RunName, B: BusName, W:
 }
 
 /// The bus of one worker, and by what it gets frames.
-fn make_bus<'a, 'n, R: Wait + Clock + Clone + Drop, B: BusName, W: Write + Drop>(
+pub(crate) fn make_bus<'a, 'n, R: Wait + Clock + Clone + Drop, B: BusName, W: Write + Drop>(
     setting: &Setting<'a, 'n, R>,
     worker: usize,
     writer: W,

@@ -34,7 +34,7 @@ returns-in-Ok-live-clause-done g c = λ e.
       heard = all_heard_of c.args.options.format (g.I.Read.remaining c.args.ends.received) c.in-Ok.network (c.args.options.workers + 1) (c.from-seats.result + 1) _ _ (sym (ap (λ (n : ℕ). n + 1) c.from-seats.ensures))
           (sym c.as_slice-entries.ensures.value) c.in-Ok-live.ensures.heard;
       operated = subst (λ (h : List Entry). IsOperatedLive (g.T.Read.remaining c.args.ends.typed) h) (sym c.as_slice-entries.ensures.value) c.in-Ok-live.ensures.operated;
-      reported = of_ok c.put_report-report.result _ c.put_report-report.ensures (s.report (c.ending_status.ensures.done e).0);
+      reported = of_ok c.put_report_in-report.result _ c.put_report_in-report.ensures (s.report (c.ending_status.ensures.done e).0);
       recorded = w.all (sym c.has_failed.ensures ∙ s.journal (c.ending_status.ensures.done e).0);
       sent = subst (λ (h : List Entry). SendsMessages g.W.Write.contents (frames_in (listing c.in-Ok.network) h) c.args.messages.now c.live.new.messages)
           (sym c.as_slice-entries.ensures.value) c.in-Ok-live.ensures.sent;

@@ -1,0 +1,92 @@
+//! A device that was heard on a bus.
+
+ghost use Rattle.std.specs.Prelude.{◌≡◌, IfSome};
+ghost use Rattle.canboot.specs.Scanning.{IsHeardDevice, found_of};
+
+use canboot_lists::Found;
+use cm_live::{BusName, DeviceName, Identity, LiveBus, Port, identify};
+use cm_nmt::NodeId;
+use std::marker::{Model, PhantomData};
+
+/// A device each of whose values was heard among the frames that were received on the bus that `B` names, in their order. Contracts
+/// see what was found, but for its name.
+#[derive(Drop)]
+pub(crate) struct HeardDevice<B: BusName> {
+    found: Found,
+    /// No bytes where it isn't known.
+    name: DeviceName,
+    of: PhantomData<B>,
+}
+
+impl<B: BusName> Model for HeardDevice<B> {
+    ghost use Rattle.canboot.specs.Scanning.{IsHeardDevice};
+    ghost use Rattle.canboot_lists.specs.declared.scanned.Found.{Found as FoundDevice};
+
+    ghost Value = { FoundDevice };
+
+    ghost view = { λ d. d.found };
+
+    ghost invariant = { λ d. IsHeardDevice B.format B.text d.found };
+}
+
+/// A device of this identity.
+fn found_as(id: NodeId, identity: &Identity) -> Found
+    ensures { result ≡ found_of id identity.now }
+{
+    Found {
+        id,
+        device_type: identity.device_type,
+        vendor: identity.vendor,
+        product: identity.product,
+        revision: identity.revision,
+        serial: identity.serial,
+    }
+}
+
+impl<B: BusName> HeardDevice<B> {
+    /// A device of which that is known.
+    fn of(found: Found, name: DeviceName) -> HeardDevice<B>
+        requires { IsHeardDevice B.format B.text found }
+        ensures { result ≡ found }
+    {
+        HeardDevice {
+            found,
+            name,
+            of: PhantomData,
+        }
+    }
+
+    /// What was found.
+    pub(crate) fn found(&self) -> Found
+        ensures same { result ≡ self.now }
+        ensures heard { IsHeardDevice B.format B.text result }
+    {
+        self.found
+    }
+
+    /// Its name up to the first zero, no bytes where it isn't known.
+    pub(crate) fn name(&self) -> &[u8] {
+        let name = self.name.as_slice();
+        match name.iter().position(|byte| *byte == 0) {
+            Some(end) => &name[..end],
+            None => name,
+        }
+    }
+
+    /// Its node-ID as a number.
+    pub(crate) fn node(&self) -> u8 {
+        self.found.id.get()
+    }
+}
+
+/// Asks a node what it is, and its name; `None` where it gives no device type.
+pub(crate) fn hear_device<'n, B: BusName, P: Port<B>>(
+    bus: &mut LiveBus<'n, B, P>,
+    id: NodeId,
+) -> Option<HeardDevice<B>>
+    ensures { IfSome result (λ d. d.id ≡ id) }
+{
+    let identity = identify(bus, id)?;
+    let name = bus.device_name(id).unwrap_or(DeviceName::new());
+    Some(HeardDevice::of(found_as(id, &identity), name))
+}
