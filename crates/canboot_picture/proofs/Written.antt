@@ -35,10 +35,10 @@ headed_is class x y text = simp append_assoc
 
 letter_content : (state x y width : ℕ) → IsContent (span_letter state x y width)
 letter_content state x y width =
-    elim (nat_lt width 14) as (λ b. IsContent (if b then [] else letter_text state (x + 3) (y + 12))) [
+    elim (nat_lt width 14) as (λ b. IsContent (if b then [] else letter_text state (x + 6) (y + 12))) [
       | true ↦ nothing
-      | false ↦ subst IsContent (headed_is (codes "l") (decimal (x + 3)) (decimal (y + 12)) (escaped (state_letter state)))
-          (text_is_content (codes "l") _ _ _ refl (plain_number (x + 3)) (plain_number (y + 12)) (escapes (state_letter state)))
+      | false ↦ subst IsContent (headed_is (codes "l") (decimal (x + 6)) (decimal (y + 12)) (escaped (state_letter state)))
+          (text_is_content (codes "l") _ _ _ refl (plain_number (x + 6)) (plain_number (y + 12)) (escapes (state_letter state)))
     ]
 
 span_is : (state x y width node words from to : List ℕ)
@@ -145,7 +145,7 @@ style_content =
     let css = codes "\n"
     ++ (codes "rect{fill:#bbbbbb}text{font-family:sans-serif;font-size:11px;fill:#222222}.l{font-size:10px}.m{font-size:10px}.h{font-size:13px}\n"
     ++ (codes ".s0{fill:#dddddd}.s1{fill:#e88a8a}.s4{fill:#f2bc6b}.s5{fill:#8fce8f}.s127{fill:#9cc3ee}\n"
-    ++ (codes ".booted{fill:#2a7d2a}.failed{fill:#c01818}.open{fill:#888888}.held{fill:#5b2c8a}.released{fill:#b48ad8}.lost{fill:#000000}\n"
+    ++ (codes ".booted{fill:#3cc2a0}.failed{fill:#ff6b6b}.open{fill:#b0b0b0}.held{fill:#5b2c8a}.released{fill:#b48ad8}.lost{fill:#000000}\n"
     ++ codes ".frame{fill:#1d4f91}.all{fill:#1d4f91;fill-opacity:0.55}.halted{fill:#c01818}.ready{fill:#2a7d2a}.place{fill:#666666}\n"))) in
     let attributes = attribute_text (codes "type") (codes "text/css") ++ [] in
     let given : AreAttributes (codes "type" ∷ []) attributes = attribute (codes "type") (codes "text/css") [] [] refl refl refl no_attribute in

@@ -89,7 +89,7 @@ letter_text state x y = letter_head x y ++ (escaped (state_letter state) ++ code
 
 -- the letter in a span, where it is wide enough
 abbrev pub span_letter : ℕ → ℕ → ℕ → ℕ → List ℕ
-span_letter state x y width = if nat_lt width 14 then [] else letter_text state (x + 3) (y + 12)
+span_letter state x y width = if nat_lt width 14 then [] else letter_text state (x + 6) (y + 12)
 
 -- a span of the node at this place
 abbrev pub span_at : ℕ → ℕ → ℕ → ℕ → ℕ → ℕ → ℕ → List ℕ

@@ -183,12 +183,12 @@ impl Drawing {
         mark.x = self.left_of(self.column_of(begun));
         let end = self.left_of(self.column_of(entry).saturating_add(1));
         mark.width = end.saturating_sub(mark.x).max(2);
-        mark.y = lane.y.saturating_add(18);
-        mark.height = 8;
-        if end >= lane.lettered && mark.width >= 10 {
+        mark.y = lane.y.saturating_add(17);
+        mark.height = 11;
+        if end >= lane.lettered && mark.width >= 16 {
             mark.label = Label::Letter;
-            mark.text_x = end.saturating_sub(10);
-            mark.text_y = lane.y.saturating_add(25);
+            mark.text_x = end.saturating_sub(15);
+            mark.text_y = lane.y.saturating_add(26);
             self.lanes[node].lettered = end.saturating_add(4);
         }
         self.lanes[node].begun = 0;

@@ -143,7 +143,7 @@ fn put_style<W: Write>(out: &mut W) -> io::Result<()>
         b"<style type=\"text/css\">\n\
 rect{fill:#bbbbbb}text{font-family:sans-serif;font-size:11px;fill:#222222}.l{font-size:10px}.m{font-size:10px}.h{font-size:13px}\n\
 .s0{fill:#dddddd}.s1{fill:#e88a8a}.s4{fill:#f2bc6b}.s5{fill:#8fce8f}.s127{fill:#9cc3ee}\n\
-.booted{fill:#2a7d2a}.failed{fill:#c01818}.open{fill:#888888}.held{fill:#5b2c8a}.released{fill:#b48ad8}.lost{fill:#000000}\n\
+.booted{fill:#3cc2a0}.failed{fill:#ff6b6b}.open{fill:#b0b0b0}.held{fill:#5b2c8a}.released{fill:#b48ad8}.lost{fill:#000000}\n\
 .frame{fill:#1d4f91}.all{fill:#1d4f91;fill-opacity:0.55}.halted{fill:#c01818}.ready{fill:#2a7d2a}.place{fill:#666666}\n\
 </style>\n",
     )

@@ -114,14 +114,14 @@ fn put_letter_at<W: Write>(state: u8, x: u64, y: u64, out: &mut W) -> io::Result
 
 /// Writes the letter in a span, where that is wide enough.
 fn put_letter<W: Write>(state: u8, x: u64, y: u64, width: u64, out: &mut W) -> io::Result<()>
-    requires left { x < 2 ^ 64 - 3 }
+    requires left { x < 2 ^ 64 - 6 }
     requires high { y < 2 ^ 64 - 12 }
     ensures { OnOk result (Appends (W.contents out.old) (W.contents out.new) (span_letter state x y width)) }
 {
     if width < 14 {
         return Ok(());
     }
-    put_letter_at(state, x + 3, y + 12, out)
+    put_letter_at(state, x + 6, y + 12, out)
 }
 
 /// Writes a span of the node at this place.
@@ -135,7 +135,7 @@ fn put_span_at<W: Write>(
     to: u64,
     out: &mut W,
 ) -> io::Result<()>
-    requires left { x < 2 ^ 64 - 3 }
+    requires left { x < 2 ^ 64 - 6 }
     requires high { y < 2 ^ 64 - 12 }
     ensures { OnOk result (Appends (W.contents out.old) (W.contents out.new)
         (span_at state node x y width from to)) }
