@@ -1,0 +1,6 @@
+pub mod Xml
+pub mod Columns
+pub mod Spans
+pub mod Marks
+pub mod Pictures
+pub mod Drawn
