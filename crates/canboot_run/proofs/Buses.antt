@@ -9,10 +9,10 @@ use Rattle.std.proofs.Math.Seq.{take-length}
 use Rattle.cm_netlist.specs.Network.{Network, listed_ids}
 use Rattle.cm_run.specs.Shares.{share}
 use Rattle.cm_run.proofs.Sharing.{share_in, share_out}
-use Rattle.cm_simulated.specs.Buses.{put_on, slave_at}
-use Rattle.cm_simulated.specs.declared.bus.Attached.{Attached}
-use Rattle.cm_simulated.specs.declared.bus.SimBus.{SimBus}
-use Rattle.cm_simulated.specs.declared.slave.SimSlave.{SimSlave}
+use Rattle.cm_run.specs.Buses.{put_on, slave_at}
+use Rattle.cm_run.specs.declared.bus.Attached.{Attached}
+use Rattle.cm_run.specs.declared.bus.SimBus.{SimBus}
+use Rattle.cm_run.specs.declared.slave.SimSlave.{SimSlave}
 use Rattle.canboot_run.specs.Simulated.{AreBusesOf, IsBusOf, is_one_of, slave_given}
 
 or_true : (b : Bool) → (b || true) ≡ true

@@ -18,8 +18,8 @@ use Rattle.cm_seat.specs.Opening.{fresh_seat, fresh_seats}
 use Rattle.cm_seat.specs.SeatCalls.{calls_of, made}
 use Rattle.cm_seat.specs.Views.{SeatView}
 use Rattle.cm_seat.specs.declared.made.Made.{Made}
-use Rattle.cm_simulated.specs.Buses.{Steps}
-use Rattle.cm_simulated.specs.declared.bus.SimBus.{SimBus}
+use Rattle.cm_run.specs.Buses.{Steps}
+use Rattle.cm_run.specs.declared.bus.SimBus.{SimBus}
 use Rattle.canboot_run.specs.Simulated.{AreBusesOf, AreMade, BootsSlaves, HasStarted, HaveBooted, HaveWorkedOver, IsOperated, IsSimulated}
 
 -- ---- what holds of all outcomes holds of a worker's

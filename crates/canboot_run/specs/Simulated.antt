@@ -11,10 +11,10 @@ use Rattle.cm_seat.specs.Views.{SeatView}
 use Rattle.cm_seat.specs.declared.fault.CallFault.{CallFault}
 use Rattle.cm_seat.specs.declared.made.Made.{Made}
 use Rattle.cm_seat.specs.declared.made.Receipt.{Receipt}
-use Rattle.cm_simulated.specs.Buses.{Steps, put_on, slave_at}
-use Rattle.cm_simulated.specs.Slaves.{agreeing_with}
-use Rattle.cm_simulated.specs.declared.bus.SimBus.{SimBus}
-use Rattle.cm_simulated.specs.declared.slave.SimSlave.{SimSlave}
+use Rattle.cm_run.specs.Buses.{Steps, put_on, slave_at}
+use Rattle.cm_run.specs.Slaves.{agreeing_with}
+use Rattle.cm_run.specs.declared.bus.SimBus.{SimBus}
+use Rattle.cm_run.specs.declared.slave.SimSlave.{SimSlave}
 use Rattle.cm_run.specs.Rounds.{AreRounds}
 use Rattle.cm_run.specs.Running.{id_of}
 use Rattle.cm_run.specs.Shares.{share}
