@@ -25,7 +25,7 @@ mod told;
 
 pub use command_line::{
     Action, BusPaths, CheckOutput, JournalPath, LivePaths, LiveWords, NoAction, ReportForm,
-    read_words,
+    SlaveWords, read_words,
 };
 pub use event::{Event, EventLine, NoBoot};
 pub use names::{Names, NamesFault, read_names};
