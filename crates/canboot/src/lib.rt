@@ -16,8 +16,8 @@ pub use canboot_check::{
     DONE, FAILED, LONGEST_JOURNAL, LONGEST_LIST, MISUSED, REFUSED, check_text, replay_text,
 };
 pub use canboot_lists::ImportWords;
-pub use canboot_run::{JournalOutput, LONGEST_RUN, Options, run_text};
-pub use canboot_words::{Action, CheckOutput, NoAction, ReportForm, read_words};
+pub use canboot_run::{JournalOutput, LONGEST_RUN, Options, SlaveFaults, run_text};
+pub use canboot_words::{Action, CheckOutput, NoAction, ReportForm, SlaveWords, read_words};
 pub use cm_live::Outlet;
 pub use explain::explain_text;
 pub use importing::{LONGEST_DEVICE_FILE, import_text};

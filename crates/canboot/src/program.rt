@@ -1,4 +1,4 @@
-ghost use Rattle.std.specs.Prelude.{◌≡◌, ◌≤◌, IfOk};
+ghost use Rattle.std.specs.Prelude.{◌≡◌, ◌≤◌, IfErr, IfOk};
 ghost use Rattle.std.specs.Io.KnownBytes.{Appends};
 ghost use Rattle.canboot.specs.Program.{EndsWithout};
 
@@ -13,8 +13,8 @@ use canboot_check::{
     FAILED, MISUSED, check_file, fault_line, mend_text, output_status, read_fault, replay_text,
 };
 use canboot_lists::ImportWords;
-use canboot_run::{Options, run_file};
-use canboot_words::{Action, CheckOutput, NoAction, ReportForm, read_words};
+use canboot_run::{Options, SlaveFaults, SlaveOption, run_file, set_fault};
+use canboot_words::{Action, CheckOutput, NoAction, ReportForm, SlaveWords, read_words};
 use std::alloc::Global;
 use std::env;
 use std::fs::File;
@@ -149,17 +149,20 @@ pub fn run_words<
                 network,
                 workers,
                 attempts,
-                silent,
+                slaves,
                 journal,
             },
-        ) => {
-            let options = Options {
-                workers,
-                attempts,
-                silent,
-            };
-            run_file(rt, network, options, journal, out, err)
-        }
+        ) => match faults_of(rt.alloc(), &slaves, err) {
+            Ok(faults) => {
+                let options = Options {
+                    workers,
+                    attempts,
+                    faults,
+                };
+                run_file(rt, network, &options, journal, out, err)
+            }
+            Err(status) => status,
+        },
         Ok(Action::Scan(words)) => scan_file(rt, &words, out, err),
         Ok(Action::Live(words)) => live_file(rt, &words, files, out, err, is_coloured),
         Ok(Action::Replay(ReportForm::Text)) => replay_text(rt.alloc(), input, out, err),
@@ -168,6 +171,46 @@ pub fn run_words<
         Ok(Action::Tell { node }) => tell_text(rt.alloc(), input, node, out, err),
         Err(none) => say(&none, out, err),
     }
+}
+
+/// Adds what an option says that was given so often.
+fn set_faults<E: Write>(
+    faults: &mut SlaveFaults,
+    option: SlaveOption,
+    values: &[&str],
+    err: &mut E,
+) -> Result<(), u8>
+    ensures { IfErr result (λ status. status ≤ 3) }
+{
+    for value in values {
+        set_fault(faults, option, value, err)?;
+    }
+    Ok(())
+}
+
+/// What slaves do, as it was typed; the exit status where a text says nothing.
+fn faults_of<E: Write>(
+    alloc: Global,
+    words: &SlaveWords<'_>,
+    err: &mut E,
+) -> Result<SlaveFaults, u8>
+    ensures { IfErr result (λ status. status ≤ 3) }
+{
+    let mut faults = SlaveFaults::none(alloc);
+    if let Some(list) = words.silent {
+        set_fault(&mut faults, SlaveOption::Silent, list, err)?;
+    }
+    if let Some(list) = words.dies {
+        set_fault(&mut faults, SlaveOption::Dies, list, err)?;
+    }
+    set_faults(&mut faults, SlaveOption::Wrong, words.wrong.as_slice(), err)?;
+    set_faults(
+        &mut faults,
+        SlaveOption::Aborts,
+        words.aborts.as_slice(),
+        err,
+    )?;
+    Ok(faults)
 }
 
 /// `canboot check`, over the file of this path, with what is to be printed.

@@ -2,3 +2,8 @@ pub mod Seats
 pub mod Buses
 pub mod Simulated
 pub mod Beginnings
+pub mod RunTexts
+pub mod SlaveFolds
+pub mod SlaveNumbers
+pub mod SlaveLists
+pub mod SlavesGiven

@@ -1,13 +1,12 @@
 -- The calls of a run, by the seats that are handed in where its register is closed.
 use Rattle.std.proofs.Common.{◌≡◌, ℕ, zero, suc, ◌+◌, ◌<◌, ◌==◌, ◌%◌, Bool, true, false, List, [], ◌∷◌, ◌++◌, length, get_or, map, refl, sym, ap, subst, ◌∙◌, arith, length-append}
-use Rattle.std.specs.Prelude.{if◌then◌else◌, All, Err, IfOk, Ok, Option, Result, remove}
+use Rattle.std.specs.Prelude.{if◌then◌else◌, All, Err, IfOk, Ok, Result, remove}
 use Rattle.std.proofs.lemmas.Bool.Decides.{nat_tests}
 use Rattle.std.proofs.lemmas.List.{get_or_append_left, get_or_push, length-drop}
 use Rattle.std.proofs.lemmas.List.Elements.{All-cons, All-head, All-tail}
 use Rattle.std.proofs.lemmas.Grind.{get_or_after_one}
 use Rattle.cm_history.specs.declared.call.Call.TheVariants as call
 use Rattle.cm_history.specs.declared.call.Entry.{Entry}
-use Rattle.cm_history.specs.declared.call.Reply.{Reply}
 use Rattle.cm_history.specs.declared.call.Reply.TheVariants as reply
 use Rattle.cm_netlist.specs.Network.{Network, listed_ids}
 use Rattle.cm_run.specs.Running.{AllBooted, id_of}
@@ -18,9 +17,12 @@ use Rattle.cm_seat.specs.Opening.{fresh_seat, fresh_seats}
 use Rattle.cm_seat.specs.SeatCalls.{calls_of, made}
 use Rattle.cm_seat.specs.Views.{SeatView}
 use Rattle.cm_seat.specs.declared.made.Made.{Made}
-use Rattle.cm_simulated.specs.Buses.{Steps}
-use Rattle.cm_simulated.specs.declared.bus.SimBus.{SimBus}
-use Rattle.canboot_run.specs.Simulated.{AreBusesOf, AreMade, BootsSlaves, HasStarted, HaveBooted, HaveWorkedOver, IsOperated, IsSimulated}
+use Rattle.cm_run.specs.Buses.{Steps}
+use Rattle.cm_run.specs.declared.bus.SimBus.{SimBus}
+use Rattle.cm_run.specs.Operating.{with_receipts}
+use Rattle.cm_run.specs.declared.outcome.Outcome.{Outcome}
+use Rattle.canboot_run.specs.Simulated.{AreBusesOf, AreMade, BootsSlaves, HasEnded, HasRun, HasStarted, HaveBooted, HaveWorkedOver, IsOperated, IsSimulated, calls_behind}
+use Rattle.canboot_run.specs.declared.slave_faults.SlaveFaults.{SlaveFaults}
 
 -- ---- what holds of all outcomes holds of a worker's
 
@@ -34,9 +36,10 @@ module _ {X : Type 0} (P : X → Type 0) where
   share_all w k n (x ∷ xs) a = one (n % w == k) x (share_from w k (n + 1) xs) (All-head P x xs a) (share_all w k (n + 1) xs (All-tail P x xs a))
 
 pub have_booted : {K : Type 0} (net : Network) (seats limit attempts w : ℕ) (given : List SeatView) (buses : List SimBus) (after : Booted SimBus K)
-    → AllBooted Steps net seats limit attempts w given buses after → All AreMade after.outcomes.items → length given ≡ length buses → length after.seats.items ≡ length buses → w ≡ length buses
-    → HaveBooted net attempts given buses after.seats.items
-have_booted net seats limit attempts w given buses after was all from back long = record {
+    → map id_of after.outcomes.items ≡ listed_ids net → AllBooted Steps net seats limit attempts w given buses after → All AreMade after.outcomes.items → length given ≡ length buses → length after.seats.items ≡ length buses → w ≡ length buses
+    → HaveBooted net attempts given buses after.outcomes.items after.seats.items
+have_booted net seats limit attempts w given buses after slaves was all from back long = record {
+  slaves = slaves;
   seats = from;
   back = back;
   each = λ k s b lt.
@@ -45,13 +48,11 @@ have_booted net seats limit attempts w given buses after was all from back long 
         number = h.number;
         added = h.rounds.added;
         grown = h.rounds.grown;
-        boots = record {
-          outcomes = share w k after.outcomes.items;
-          slaves = subst (λ (n : ℕ). map id_of (share w k after.outcomes.items) ≡ share n k (listed_ids net)) long h.slaves;
-          made = share_all AreMade w k 0 after.outcomes.items all;
-          after = _;
-          rounds = h.rounds.rounds;
-        };
+        boots =
+            let own : List Outcome = share w k after.outcomes.items in
+            let boots : BootsSlaves net w attempts k own (get_or buses k b) h.rounds.added =
+            record { slaves = h.slaves; made = share_all AreMade w k 0 after.outcomes.items all; after = get_or after.buses.items k b; rounds = h.rounds.rounds } in
+            subst (λ (n : ℕ). BootsSlaves net n attempts k (share n k after.outcomes.items) (get_or buses k b) h.rounds.added) long boots;
       };
 }
 
@@ -97,35 +98,38 @@ at_place : (h : List Entry) (handed ss : List SeatView) (s : SeatView) (k : ℕ)
 at_place h handed ss s k all is lt =
     subst (HasItsCalls h) (ap (λ (l : List SeatView). get_or l k s) is ∙ get_or_append_left ss (s ∷ []) s k lt) (all k s (omega (arith, lt, ap length is, length-append ss (s ∷ []))))
 
-pub operated : (h : List Entry) (handed ss : List SeatView) (fresh started last : SeatView) (place : ℕ) (told : Reply) → HaveTheirCalls h handed → handed ≡ ss ++ last ∷ [] → fresh ≡ fresh_seat 1 → HasStarted fresh started
-    → last.number ≡ started.number → last.list ≡ started.list ++ made place (call.Elapsed 0) told ∷ [] → IsOperated h
-operated h handed ss fresh started last place told theirs is e s number list = record {
-  first = s.place;
-  last = place;
-  told = told;
-  calls = ap (calls_of h) (sym (number ∙ (s.number ∙ ap (λ (v : SeatView). v.number) e)))
-      ∙ (sym (at_last h handed ss last theirs is) ∙ (list ∙ ap (λ (l : List Made). l ++ made place (call.Elapsed 0) told ∷ []) (s.list ∙ ap (λ (v : SeatView). v.list ++ made s.place call.StartNetwork reply.Started ∷ []) e)));
-}
+pub operated : (h : List Entry) (handed ss : List SeatView) (fresh started last : SeatView) (faults : SlaveFaults) (outcomes : List Outcome) → HaveTheirCalls h handed → handed ≡ ss ++ last ∷ [] → fresh ≡ fresh_seat 1 → HasStarted fresh started
+    → HasEnded faults outcomes started last → IsOperated faults outcomes h
+operated h handed ss fresh started last faults outcomes theirs is e s d =
+    let behind : List Made = with_receipts (calls_behind faults outcomes) d.receipts in
+    record {
+      first = s.place;
+      receipts = d.receipts;
+      count = d.count;
+      calls = ap (calls_of h) (sym (d.number ∙ (s.number ∙ ap (λ (v : SeatView). v.number) e)))
+          ∙ (sym (at_last h handed ss last theirs is) ∙ (d.list ∙ ap (λ (l : List Made). l ++ behind) (s.list ∙ ap (λ (v : SeatView). v.list ++ made s.place call.StartNetwork reply.Started ∷ []) e)));
+    }
 
-pub worked : (net : Network) (attempts n : ℕ) (buses : List SimBus) (h : List Entry) (all given handed ss : List SeatView) (last : SeatView) → HaveTheirCalls h handed → handed ≡ ss ++ last ∷ [] → all ≡ fresh_seats n → given ≡ remove all 0 → 0 < n
-    → HaveBooted net attempts given buses ss → HaveWorkedOver net attempts buses h
-worked net attempts n buses h all given handed ss last theirs is fresh rest some b k bus lt =
+pub worked : (net : Network) (attempts n : ℕ) (buses : List SimBus) (outcomes : List Outcome) (h : List Entry) (all given handed ss : List SeatView) (last : SeatView) → HaveTheirCalls h handed → handed ≡ ss ++ last ∷ [] → all ≡ fresh_seats n → given ≡ remove all 0 → 0 < n
+    → HaveBooted net attempts given buses outcomes ss → HaveWorkedOver net attempts buses outcomes h
+worked net attempts n buses outcomes h all given handed ss last theirs is fresh rest some b k bus lt =
     let one = b.each k last bus lt in
     let few : k + 1 < n = omega (arith, count_behind n all given fresh rest some, b.seats, lt) in
     let was : get_or given k last ≡ fresh_seat (k + 2) = behind n k all given last fresh rest few in
     let number : (get_or ss k last).number ≡ k + 2 = one.number ∙ ap (λ (v : SeatView). v.number) was in
     let list : (get_or ss k last).list ≡ one.added = one.grown ∙ ap (λ (v : SeatView). v.list ++ one.added) was in
     let its : one.added ≡ calls_of h (k + 2) = sym list ∙ (at_place h handed ss last k theirs is (omega (arith, lt, b.back)) ∙ ap (calls_of h) number) in
-    subst (BootsSlaves net (length buses) attempts k (get_or buses k bus)) its one.boots
+    subst (BootsSlaves net (length buses) attempts k (share (length buses) k outcomes) (get_or buses k bus)) its one.boots
 
-simulated : (net : Network) (w attempts : ℕ) (silent : Option ℕ) (buses : List SimBus) (h : List Entry) → w ≡ length buses → AreBusesOf net w silent buses → IsOperated h → HaveWorkedOver net attempts buses h
-    → IsSimulated net w attempts silent h
-simulated net w attempts silent buses h long are operated worked = record {
-  operated = operated;
+simulated : (net : Network) (w attempts : ℕ) (faults : SlaveFaults) (buses : List SimBus) (h : List Entry) → w ≡ length buses → AreBusesOf net w faults buses → HasRun net attempts faults buses h → IsSimulated net w attempts faults h
+simulated net w attempts faults buses h long are run = record {
+  outcomes = run.outcomes;
+  slaves = run.slaves;
+  operated = run.operated;
   worked = λ k lt. record {
     bus = get_or buses k empty;
     on_it = are k empty lt;
-    calls = subst (λ (n : ℕ). BootsSlaves net n attempts k (get_or buses k empty) (calls_of h (k + 2))) (sym long) (worked k empty (omega (arith, long, lt)));
+    calls = subst (λ (n : ℕ). BootsSlaves net n attempts k (share n k run.outcomes) (get_or buses k empty) (calls_of h (k + 2))) (sym long) (run.worked k empty (omega (arith, long, lt)));
   };
 }
   where
@@ -133,12 +137,12 @@ simulated net w attempts silent buses h long are operated worked = record {
     empty = record { slaves = [] }
 
 -- where there is a history, of a register of this network
-pub simulated_if : {A E : Type 0} (entries : A → List Entry) (r : Result A E) (net : Network) (w attempts : ℕ) (silent : Option ℕ) (buses : List SimBus) (own : Network) → own ≡ net → w ≡ length buses → AreBusesOf net w silent buses
-    → IfOk r (λ s. IsOperated (entries s)) → IfOk r (λ s. HaveWorkedOver own attempts buses (entries s)) → IfOk r (λ s. IsSimulated net w attempts silent (entries s))
-simulated_if entries (Ok s) net w attempts silent buses own same long are operated worked =
-    simulated net w attempts silent buses (entries s) long are operated (subst (λ (n : Network). HaveWorkedOver n attempts buses (entries s)) same worked)
-simulated_if entries (Err e) net w attempts silent buses own same long are operated worked = tt
+pub simulated_if : {A E : Type 0} (entries : A → List Entry) (r : Result A E) (net : Network) (w attempts : ℕ) (faults : SlaveFaults) (buses : List SimBus) (own : Network) → own ≡ net → w ≡ length buses → AreBusesOf net w faults buses
+    → IfOk r (λ s. HasRun own attempts faults buses (entries s)) → IfOk r (λ s. IsSimulated net w attempts faults (entries s))
+simulated_if entries (Ok s) net w attempts faults buses own same long are run =
+    simulated net w attempts faults buses (entries s) long are (subst (λ (n : Network). HasRun n attempts faults buses (entries s)) same run)
+simulated_if entries (Err e) net w attempts faults buses own same long are run = tt
 
 -- the same history
-pub simulated_of : (net : Network) (w attempts : ℕ) (silent : Option ℕ) (now was : List Entry) → now ≡ was → IsSimulated net w attempts silent was → IsSimulated net w attempts silent now
-simulated_of net w attempts silent now was same = subst (IsSimulated net w attempts silent) (sym same)
+pub simulated_of : (net : Network) (w attempts : ℕ) (faults : SlaveFaults) (now was : List Entry) → now ≡ was → IsSimulated net w attempts faults was → IsSimulated net w attempts faults now
+simulated_of net w attempts faults now was same = subst (IsSimulated net w attempts faults) (sym same)

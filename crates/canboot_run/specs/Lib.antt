@@ -1,4 +1,6 @@
 pub mod Causes
+pub mod SlaveFaults
+pub mod SlaveWords
 pub mod Simulated
 pub mod Run
 pub mod Files

@@ -10,6 +10,8 @@ use Rattle.cm_format.specs.Report.{report_text}
 pub use Rattle.canboot_run.specs.Recorded.{AppendsIfThere}
 use Rattle.canboot_check.specs.Check.{IsFaultyText, IsList}
 use Rattle.canboot_run.specs.Simulated.{IsSimulated}
+use Rattle.canboot_run.specs.SlaveFaults.{AreListed, IsFirstUnlisted}
+use Rattle.canboot_run.specs.declared.slave_faults.SlaveFaults.{SlaveFaults}
 
 -- the input was read to its end and is the network list of this journal, which is of version 2, whose entries are legal,
 -- and which has a seat for each of this many workers and one more, and this limit
@@ -20,20 +22,25 @@ pub record IsRun (workers limit : ℕ) (input input' : Option (List ℕ)) (j : J
   pub seats : j.seats ≡ workers + 1
   pub most : j.limit ≡ limit
 
--- the input was read to its end and is a network list; of the legal history of a journal of it, which is that of a run with
--- simulated slaves, just the report was written, and to the journal's output, if there is one, just the text of that journal
-pub record Runs (workers attempts : ℕ) (silent : Option ℕ) (limit : ℕ) (input input' output output' : Option (List ℕ))
+-- the input was read to its end and is a network list, in which each slave that is to die, to be wrong or to abort is listed; of the
+-- legal history of a journal of it, which is that of a run with simulated slaves, just the report was written, and to the journal's
+-- output, if there is one, just the text of that journal
+pub record Runs (workers attempts : ℕ) (faults : SlaveFaults) (limit : ℕ) (input input' output output' : Option (List ℕ))
     (journal journal' : Option (Option (List ℕ))) : Type 0 where
   pub of : JournalView
   pub run : IsRun workers limit input input' of
-  pub simulated : IsSimulated of.network workers attempts silent of.entries
+  pub listed : AreListed of.network faults
+  pub simulated : IsSimulated of.network workers attempts faults of.entries
   pub reported : Appends output output' (report_text of.network of.entries)
   pub recorded : AppendsIfThere journal journal' (text of)
 
--- the input was read to its end and is a network list of which 1F80h bit 0 is clear (CiA 302-2: the device isn't the NMT
--- master)
+-- the device isn't the NMT master: 1F80h bit 0 is clear (CiA 302-2)
+abbrev pub IsNoMaster : Network → Type 0
+IsNoMaster net = has_bit net.startup 0 ≡ false
+
+-- the input was read to its end and is a network list of which the device isn't the NMT master
 abbrev pub IsOfNoMaster : Option (List ℕ) → Option (List ℕ) → Type 0
-IsOfNoMaster input input' = (net : Network) × IsList input input' net × (has_bit net.startup 0 ≡ false)
+IsOfNoMaster input input' = (net : Network) × IsList input input' net × IsNoMaster net
 
 -- the input was read to its end and has a fault, or is a network list of which the device isn't the NMT master; nothing
 -- was written
@@ -42,9 +49,51 @@ pub record RefusesRun (input input' output output' : Option (List ℕ)) (journal
   pub kept : output' ≡ output
   pub unwritten : journal' ≡ journal
 
+-- the input was read to its end and is a network list in which a slave that is to die, to be wrong or to abort isn't listed;
+-- nothing was written
+pub record NamesUnlisted (faults : SlaveFaults) (input input' output output' : Option (List ℕ))
+    (journal journal' : Option (Option (List ℕ))) : Type 0 where
+  pub network : Network
+  pub list : IsList input input' network
+  pub node : ℕ
+  pub first : IsFirstUnlisted network faults node
+  pub kept : output' ≡ output
+  pub unwritten : journal' ≡ journal
+
+-- nothing was written
+abbrev pub IsUnwritten : Option (List ℕ) → Option (List ℕ) → Option (Option (List ℕ)) → Option (Option (List ℕ)) → Type 0
+IsUnwritten output output' journal journal' = (output' ≡ output) × (journal' ≡ journal)
+
 -- nothing was written, or the report of such a history was to be written
-abbrev pub FailsToRun : ℕ → ℕ → Option ℕ → ℕ → Option (List ℕ) → Option (List ℕ) → Option (List ℕ) → Option (List ℕ)
+abbrev pub FailsToRun : ℕ → ℕ → SlaveFaults → ℕ → Option (List ℕ) → Option (List ℕ) → Option (List ℕ) → Option (List ℕ)
     → Option (Option (List ℕ)) → Option (Option (List ℕ)) → Type 0
-FailsToRun workers attempts silent limit input input' output output' journal journal' =
-    ((output' ≡ output) × (journal' ≡ journal))
-    ⊎ ((j : JournalView) × IsRun workers limit input input' j × IsSimulated j.network workers attempts silent j.entries)
+FailsToRun workers attempts faults limit input input' output output' journal journal' =
+    IsUnwritten output output' journal journal'
+    ⊎ ((j : JournalView) × IsRun workers limit input input' j × AreListed j.network faults
+    × IsSimulated j.network workers attempts faults j.entries)
+
+-- Working definitions, behind the contract of `run_text`.
+
+-- a journal of this network list, of version 2, whose entries are legal, which has a seat for each of this many workers and one
+-- more, and this limit
+pub record IsRunOn (net : Network) (workers limit : ℕ) (j : JournalView) : Type 0 where
+  pub network : j.network ≡ net
+  pub version : j.version ≡ Two
+  pub journal : IsJournal j
+  pub seats : j.seats ≡ workers + 1
+  pub most : j.limit ≡ limit
+
+-- of the history of such a journal, which is that of a run with simulated slaves, just the report was written, and to the journal's
+-- output, if there is one, just the text of that journal
+pub record RunsOn (net : Network) (workers attempts : ℕ) (faults : SlaveFaults) (limit : ℕ) (output output' : Option (List ℕ))
+    (journal journal' : Option (Option (List ℕ))) : Type 0 where
+  pub of : JournalView
+  pub run : IsRunOn net workers limit of
+  pub simulated : IsSimulated of.network workers attempts faults of.entries
+  pub reported : Appends output output' (report_text of.network of.entries)
+  pub recorded : AppendsIfThere journal journal' (text of)
+
+-- the report of such a history was to be written
+abbrev pub WasRun : Network → ℕ → ℕ → SlaveFaults → ℕ → Type 0
+WasRun net workers attempts faults limit =
+    (j : JournalView) × IsRunOn net workers limit j × IsSimulated j.network workers attempts faults j.entries

@@ -3,9 +3,9 @@
 ghost use Rattle.std.specs.Prelude.{◌≡◌, ◌≤◌, IfOk, None, false, is_some, true};
 ghost use Rattle.canboot_run.specs.Files.{is_same_file};
 
-use crate::running::run_text;
+use crate::running::{run_listed, unlisted_line};
 use crate::simulation::Options;
-use canboot_check::{FAILED, MISUSED, fault_line, read_fault};
+use canboot_check::{FAILED, MISUSED, fault_line, read_fault, read_list, refuse};
 use std::fs;
 use std::io::{self, BufWriter, Write};
 use std::os::unix::fs::MetadataExt;
@@ -13,18 +13,19 @@ use std::rt::Files;
 use std::sync::Wait;
 use std::thread::Threads;
 
-/// `canboot run`, over the file of this path: [`run_text`], 2 where the journal's file would be the list itself, and nothing is
-/// done then, 3 for a file that can't be opened or made. The journal's file, if there is one, is made before the list is read.
+/// `canboot run`, over the file of this path, as [`run_text`](crate::run_text) does: 2 also where the journal's file would be the list itself, and
+/// nothing is done then, 3 for a file that can't be opened or made. The journal's file, if there is one, is made behind the look whether
+/// the slaves with faults are listed, and also where the list is refused.
 pub fn run_file<R: Files + AllocGlobal + Wait + Threads + Send + Sync, W: Write, E: Write>(
     rt: &R,
     path: &str,
-    options: Options,
+    options: &Options,
     journal: Option<&str>,
     out: &mut W,
     err: &mut E,
 ) -> u8
-    requires workers { (1 ≤ options.workers) × (options.workers ≤ 16) }
-    requires attempts { (1 ≤ options.attempts) × (options.attempts ≤ 10) }
+    requires workers { (1 ≤ options.now.workers) × (options.now.workers ≤ 16) }
+    requires attempts { (1 ≤ options.now.attempts) × (options.now.attempts ≤ 10) }
     ensures statuses { result ≤ 3 }
 {
     let mut list = match fs::open(rt, path) {
@@ -34,11 +35,20 @@ pub fn run_file<R: Files + AllocGlobal + Wait + Threads + Send + Sync, W: Write,
     if is_list(rt, path, journal) {
         return fault_line(err, MISUSED, "the file of the journal is the network list");
     }
+    let network = read_list(rt.alloc(), &mut list);
+    if let Ok(network) = &network
+        && let Some(node) = options.faults.unlisted(network)
+    {
+        return unlisted_line(err, node);
+    }
     let mut journal = match make(rt, journal) {
         Ok(file) => file,
         Err(error) => return write_fault(err, error.kind()),
     };
-    run_text(rt, rt.alloc(), &mut list, options, out, err, &mut journal)
+    match network {
+        Ok(network) => run_listed(rt, rt.alloc(), &network, options, out, err, &mut journal),
+        Err(fault) => refuse(err, fault),
+    }
 }
 
 /// What tells a file from any other: the device that it is on, and its number there.

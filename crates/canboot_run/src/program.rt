@@ -1,25 +1,18 @@
 //! `canboot run` as a program of its own.
 
-ghost use Rattle.std.specs.Prelude.{◌≡◌, ◌≤◌, IfSome};
+ghost use Rattle.std.specs.Prelude.{◌≡◌, ◌≤◌, IfErr, IfSome};
 ghost use Rattle.canboot_run.specs.Words.{AreInRange};
 
 use crate::files::run_file;
 use crate::simulation::Options;
+use crate::slave_faults::SlaveFaults;
+use crate::slave_options::{SlaveOption, set_fault};
 use canboot_check::{FAILED, MISUSED, fault_line, read_fault};
-use cm_nmt::NodeId;
 use std::env;
 use std::io::{self, BufWriter, Write};
 use std::rt::{Env, Files};
 use std::sync::Wait;
 use std::thread::Threads;
-
-/// What a run is asked for.
-#[derive(Clone, Copy)]
-struct RunWords<'a> {
-    options: Options,
-    /// The path that the journal is written to, if it is.
-    journal: Option<&'a str>,
-}
 
 /// A number of 1 to `most`.
 fn number_of(word: &str, most: u8) -> Option<u8>
@@ -33,51 +26,78 @@ fn number_of(word: &str, most: u8) -> Option<u8>
     }
 }
 
-/// The options with one more.
-fn with_option(options: Options, name: &str, value: &str) -> Option<Options>
-    requires { AreInRange options }
-    ensures { IfSome result AreInRange }
-{
+/// What says the option of this name of slaves.
+fn slave_option(name: &str) -> Option<SlaveOption> {
     match name {
-        "--workers" => Some(Options {
-            workers: number_of(value, 16)?,
-            ..options
-        }),
-        "--attempts" => Some(Options {
-            attempts: number_of(value, 10)?,
-            ..options
-        }),
-        "--silent" => Some(Options {
-            silent: Some(NodeId::new(number_of(value, 127)?)?),
-            ..options
-        }),
+        "--silent" => Some(SlaveOption::Silent),
+        "--wrong" => Some(SlaveOption::Wrong),
+        "--aborts" => Some(SlaveOption::Aborts),
+        "--dies" => Some(SlaveOption::Dies),
         _ => None,
     }
 }
 
-/// What the words behind the network list ask for: options, each with its value behind it.
-fn read_options(words: &[String]) -> Option<RunWords<'_>>
-    ensures { IfSome result (λ a. AreInRange a.options) }
+/// Sets a number of 1 to `most`.
+fn set_number<E: Write>(number: &mut u8, value: &str, most: u8, err: &mut E) -> Result<(), u8>
+    requires { (1 ≤ number.old) × (number.old ≤ most) }
+    ensures range { (1 ≤ number.new) × (number.new ≤ most) }
+    ensures status { IfErr result (λ status. status ≤ 3) }
 {
-    let mut options = Options {
-        workers: 1,
-        attempts: 1,
-        silent: None,
-    };
+    match number_of(value, most) {
+        Some(given) => {
+            *number = given;
+            Ok(())
+        }
+        None => Err(misused(err)),
+    }
+}
+
+/// Sets one option; the exit status where its words are wrong.
+fn set_option<E: Write>(
+    options: &mut Options,
+    name: &str,
+    value: &str,
+    err: &mut E,
+) -> Result<(), u8>
+    requires { AreInRange options.old }
+    ensures range { AreInRange options.new }
+    ensures status { IfErr result (λ status. status ≤ 3) }
+{
+    match name {
+        "--workers" => set_number(&mut options.workers, value, 16, err),
+        "--attempts" => set_number(&mut options.attempts, value, 10, err),
+        _ => match slave_option(name) {
+            Some(option) => set_fault(&mut options.faults, option, value, err),
+            None => Err(misused(err)),
+        },
+    }
+}
+
+/// Sets what the words behind the network list ask for: options, each with its value behind it. The path that the journal is written
+/// to, if it is; the exit status where the words are wrong.
+fn read_options<'a, E: Write>(
+    words: &'a [String],
+    options: &mut Options,
+    err: &mut E,
+) -> Result<Option<&'a str>, u8>
+    requires { AreInRange options.old }
+    ensures range { AreInRange options.new }
+    ensures status { IfErr result (λ status. status ≤ 3) }
+{
     let mut journal = None;
     let mut left = words;
     while let [name, value, rest @ ..] = left {
         if name.as_str() == "--journal" {
             journal = Some(value.as_str());
         } else {
-            options = with_option(options, name.as_str(), value.as_str())?;
+            set_option(options, name.as_str(), value.as_str(), err)?;
         }
         left = rest;
     }
     if left.is_empty() {
-        Some(RunWords { options, journal })
+        Ok(journal)
     } else {
-        None
+        Err(misused(err))
     }
 }
 
@@ -112,10 +132,17 @@ fn run_words<R: Files + AllocGlobal + Wait + Threads + Send + Sync, W: Write, E:
     ensures statuses { result ≤ 3 }
 {
     match words {
-        [_, command, network, rest @ ..] if command.as_str() == "run" => match read_options(rest) {
-            Some(asked) => run_file(rt, network.as_str(), asked.options, asked.journal, out, err),
-            None => misused(err),
-        },
+        [_, command, network, rest @ ..] if command.as_str() == "run" => {
+            let mut options = Options {
+                workers: 1,
+                attempts: 1,
+                faults: SlaveFaults::none(rt.alloc()),
+            };
+            match read_options(rest, &mut options, err) {
+                Ok(journal) => run_file(rt, network.as_str(), &options, journal, out, err),
+                Err(status) => status,
+            }
+        }
         _ => misused(err),
     }
 }
@@ -127,6 +154,7 @@ fn misused<E: Write>(err: &mut E) -> u8
     fault_line(
         err,
         MISUSED,
-        "this program has no command but 'run NET [--workers N] [--attempts N] [--silent ID] [--journal FILE]'",
+        "this program has no command but 'run NET [--workers N] [--attempts N] [--silent LIST] [--wrong ID=OBJECT:VALUE] \
+[--aborts ID=INDEX] [--dies LIST] [--journal FILE]'",
     )
 }

@@ -4,7 +4,7 @@
 ghost use Rattle.std.specs.Prelude.{◌≡◌};
 
 use crate::streams::{Failing, WRITE_FAILED};
-use canboot::{Options, replay_text, run_text};
+use canboot::{Options, SlaveFaults, replay_text, run_text};
 use cm_nmt::NodeId;
 use std::alloc::{AllocError, Global};
 use std::io::Write;
@@ -36,17 +36,23 @@ const ALL_BOOTED: &[u8] = b"phase ready\nown operational\nentries 254\nopen 0\nf
 
 const NOT_MASTER: &[u8] = b"canboot: start refused: 1 NotMaster\n";
 
+const UNLISTED: &[u8] = b"canboot: node 9 isn't in the network list\n";
+
 /// How often 126 slaves are booted by 16 workers.
 const RUNS: u32 = 50;
 
 /// One worker, one attempt, slave 2 silent.
-fn one_silent() -> Options
+fn one_silent(alloc: Global) -> Options
     ensures { (result.workers ≡ 1) × (result.attempts ≡ 1) }
 {
+    let mut faults = SlaveFaults::none(alloc);
+    if let Some(id) = NodeId::new(2) {
+        faults.silent.insert(id);
+    }
     Options {
         workers: 1,
         attempts: 1,
-        silent: NodeId::new(2),
+        faults,
     }
 }
 
@@ -66,7 +72,7 @@ fn is_replayed<R: Wait + Threads + Abort + Send + Sync>(rt: &R, alloc: Global, l
     let options = Options {
         workers: 16,
         attempts: 2,
-        silent: None,
+        faults: SlaveFaults::none(alloc),
     };
     let mut input = list;
     let mut out: Vec<u8> = Vec::new(alloc);
@@ -76,7 +82,7 @@ fn is_replayed<R: Wait + Threads + Abort + Send + Sync>(rt: &R, alloc: Global, l
         rt,
         alloc,
         &mut input,
-        options,
+        &options,
         &mut out,
         &mut err,
         &mut journal,
@@ -109,12 +115,12 @@ fn a_silent_slave_is_reported_and_recorded(rt: HostRuntime) -> Result<(), Fail> 
     let mut out: Vec<u8> = Vec::new(rt.alloc());
     let mut err: Vec<u8> = Vec::new(rt.alloc());
     let mut journal: Option<Vec<u8>> = Some(Vec::new(rt.alloc()));
-    let options = one_silent();
+    let options = one_silent(rt.alloc());
     let status = run_text(
         &rt,
         rt.alloc(),
         &mut input,
-        options,
+        &options,
         &mut out,
         &mut err,
         &mut journal,
@@ -137,18 +143,48 @@ fn the_start_is_refused_where_there_is_no_master(rt: HostRuntime) -> Result<(), 
     let mut out: Vec<u8> = Vec::new(rt.alloc());
     let mut err: Vec<u8> = Vec::new(rt.alloc());
     let mut journal: Option<Vec<u8>> = Some(Vec::new(rt.alloc()));
-    let options = one_silent();
+    let options = one_silent(rt.alloc());
     let status = run_text(
         &rt,
         rt.alloc(),
         &mut input,
-        options,
+        &options,
         &mut out,
         &mut err,
         &mut journal,
     );
     assert_eq!(&rt; status, 1);
     assert_eq!(&rt; err.as_slice(), NOT_MASTER);
+    assert_eq!(&rt; out.len(), 0);
+    match journal {
+        Some(journal) => assert_eq!(&rt; journal.len(), 0),
+        None => panic!(&rt; "no journal"),
+    }
+    Ok(())
+}
+
+/// A slave that is to die and isn't listed is named, and nothing is written.
+#[test]
+fn a_slave_that_dies_is_listed(rt: HostRuntime) -> Result<(), Fail> {
+    let mut input = LIST;
+    let mut out: Vec<u8> = Vec::new(rt.alloc());
+    let mut err: Vec<u8> = Vec::new(rt.alloc());
+    let mut journal: Option<Vec<u8>> = Some(Vec::new(rt.alloc()));
+    let mut options = one_silent(rt.alloc());
+    if let Some(id) = NodeId::new(9) {
+        options.faults.dying.insert(id);
+    }
+    let status = run_text(
+        &rt,
+        rt.alloc(),
+        &mut input,
+        &options,
+        &mut out,
+        &mut err,
+        &mut journal,
+    );
+    assert_eq!(&rt; status, 2);
+    assert_eq!(&rt; err.as_slice(), UNLISTED);
     assert_eq!(&rt; out.len(), 0);
     match journal {
         Some(journal) => assert_eq!(&rt; journal.len(), 0),
@@ -167,12 +203,12 @@ fn status_with_journal<R: Wait + Threads + Abort + Send + Sync>(
     let mut out: Vec<u8> = Vec::new(alloc);
     let mut err: Vec<u8> = Vec::new(alloc);
     let mut journal = Some(journal);
-    let options = one_silent();
+    let options = one_silent(alloc);
     let status = run_text(
         rt,
         alloc,
         &mut input,
-        options,
+        &options,
         &mut out,
         &mut err,
         &mut journal,
@@ -197,12 +233,12 @@ fn status_with_output<R: Wait + Threads + Abort + Send + Sync>(
     let mut input = LIST;
     let mut err: Vec<u8> = Vec::new(alloc);
     let mut journal: Option<Vec<u8>> = Some(Vec::new(alloc));
-    let options = one_silent();
+    let options = one_silent(alloc);
     let status = run_text(
         rt,
         alloc,
         &mut input,
-        options,
+        &options,
         &mut out,
         &mut err,
         &mut journal,

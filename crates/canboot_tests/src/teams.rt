@@ -10,7 +10,7 @@ use cm_journal::journal_write;
 use cm_netlist::Network;
 use cm_nmt::{Answers, Got, NodeId};
 use cm_register::{Closed, Opened, Receipt, Register, RunName, Seat};
-use cm_simulated::SimWire;
+use cm_run::SimWire;
 use std::alloc::Global;
 use std::marker::Brand;
 use std::process::Abort;

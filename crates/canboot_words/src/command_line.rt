@@ -119,8 +119,21 @@ pub enum ScanOutput<'a> {
     },
 }
 
+/// What slaves of a run do, as it was typed; none of these texts is read here.
+#[derive(Drop)]
+pub struct SlaveWords<'a> {
+    /// A list of nodes that give no answer.
+    pub silent: Option<&'a str>,
+    /// Values that slaves give in the place of those that are expected.
+    pub wrong: Vec<&'a str>,
+    /// Objects of which slaves abort each read and write.
+    pub aborts: Vec<&'a str>,
+    /// A list of nodes that are lost once they are booted.
+    pub dies: Option<&'a str>,
+}
+
 /// What the command line asks for.
-#[derive(Clone, Copy)]
+#[derive(Drop)]
 pub enum Action<'a> {
     /// Read the network list of this path, and print how many slaves it lists.
     Check {
@@ -147,8 +160,7 @@ pub enum Action<'a> {
         workers: u8,
         /// How often a slave is tried at most, 1 to 10.
         attempts: u8,
-        /// The node that stays silent, if one does.
-        silent: Option<NodeId>,
+        slaves: SlaveWords<'a>,
         journal: Option<&'a str>,
     },
     /// Boot a network on a CAN bus and watch it, print the report, and write the journal, if there is a path for it.
@@ -226,8 +238,23 @@ pub(crate) fn attempts_argument<'a>(alloc: Global, unless_given: &'a str) -> Arg
 }
 
 fn silent_argument<'a>(alloc: Global) -> Arg<'a> {
-    let help = "The node-ID of a slave that gives no answer, 1 to 127";
-    option(alloc, "silent", "ID", help).value_parser(value_parser!(u8).range(1..128))
+    let help = "Nodes that give no answer, as 3 or 2,5-9";
+    option(alloc, "silent", "LIST", help)
+}
+
+fn wrong_argument<'a>(alloc: Global) -> Arg<'a> {
+    let help = "A value that a slave gives in the place of the expected one, as 3=product:999";
+    option(alloc, "wrong", "ID=OBJECT:VALUE", help).action(ArgAction::Append)
+}
+
+fn aborts_argument<'a>(alloc: Global) -> Arg<'a> {
+    let help = "An object of which a slave aborts each read and write, as 3=1018";
+    option(alloc, "aborts", "ID=INDEX", help).action(ArgAction::Append)
+}
+
+fn dies_argument<'a>(alloc: Global) -> Arg<'a> {
+    let help = "Nodes that are lost once they are booted, as 3 or 2,5-9";
+    option(alloc, "dies", "LIST", help)
 }
 
 /// The journal's path.
@@ -276,6 +303,9 @@ fn run_command<'a>(alloc: Global) -> Result<Command<'a>, AllocError> {
         workers_argument(alloc, WORKERS, "1"),
         attempts_argument(alloc, "1"),
         silent_argument(alloc),
+        wrong_argument(alloc),
+        aborts_argument(alloc),
+        dies_argument(alloc),
         journal_argument(alloc),
     ]?;
     described(alloc, "run", ABOUT_RUN, HELP_RUN).args(arguments)
@@ -350,16 +380,43 @@ pub(crate) fn node_of(given: &ArgMatches<'_>, name: &str) -> Option<NodeId> {
     given.get_one::<u8>(name).and_then(NodeId::new)
 }
 
-fn run_action<'a>(given: &ArgMatches<'a>) -> Action<'a>
-    ensures { IsInRange result }
+/// The texts of this name, in their order.
+fn texts_of<'a>(
+    alloc: Global,
+    given: &ArgMatches<'a>,
+    name: &str,
+) -> Result<Vec<&'a str>, AllocError> {
+    let mut texts = Vec::new(alloc);
+    if let Some(values) = given.get_strs(name) {
+        for text in values {
+            texts.push(*text)?;
+        }
+    }
+    Ok(texts)
+}
+
+fn slave_words<'a>(alloc: Global, given: &ArgMatches<'a>) -> Result<SlaveWords<'a>, AllocError> {
+    Ok(SlaveWords {
+        silent: given.get_str("silent"),
+        wrong: texts_of(alloc, given, "wrong")?,
+        aborts: texts_of(alloc, given, "aborts")?,
+        dies: given.get_str("dies"),
+    })
+}
+
+fn run_action<'a>(alloc: Global, given: &ArgMatches<'a>) -> Result<Action<'a>, NoAction>
+    ensures { IfOk result IsInRange }
 {
-    Action::Run {
+    let Ok(slaves) = slave_words(alloc, given) else {
+        return Err(NoAction::OutOfMemory);
+    };
+    Ok(Action::Run {
         network: text_of(given, "network"),
         workers: number_of(given, "workers", 16),
         attempts: number_of(given, "attempts", 10),
-        silent: node_of(given, "silent"),
+        slaves,
         journal: given.get_str("journal"),
-    }
+    })
 }
 
 fn check_output(given: &ArgMatches<'_>) -> CheckOutput {
@@ -393,7 +450,7 @@ fn action_of<'a>(alloc: Global, matches: &ArgMatches<'a>) -> Result<Action<'a>, 
         }),
         "scan" => scan_action(given),
         "import" => Ok(import_action(given)),
-        "run" => Ok(run_action(given)),
+        "run" => run_action(alloc, given),
         "live" => live_action(alloc, given),
         "mend" => Ok(Action::Mend),
         "tell" => Ok(Action::Tell {

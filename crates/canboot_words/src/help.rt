@@ -120,11 +120,12 @@ pub(crate) const HELP_RUN: &str =
     "Reads the network list NET ('canboot check --help' says what it holds), boots a network of \
 simulated slaves, and prints the status report of what happened on standard output, as 'canboot \
 replay' prints it. Each slave agrees with the list: it has each object as the list expects it, \
-acknowledges each write, and is heard in pre-operational. The report has a line for each listed \
-slave, which ends with the status of its last boot that came to an end. No CAN network is needed.
+acknowledges each write, and is heard in pre-operational; options below make slaves that don't. The \
+report has a line for each listed slave, which ends with the status of its last boot that came to an \
+end. No CAN network is needed.
 
-A seat is one who makes calls of the manager. Seat 1 is an operator, who starts the network, and \
-says at the end that 0 ms went by. A worker is a thread with a seat of its own, 2 to N + 1, and a \
+A seat is one who makes calls of the manager. Seat 1 is an operator, who starts the network, \
+reports behind the boots which slaves are lost, and says at the end that 0 ms went by. A worker is a thread with a seat of its own, 2 to N + 1, and a \
 bus of its own. The slaves are counted from 0 in rising node-ID, and slave K belongs to worker K \
 modulo N: that worker boots it, one after another with its other slaves.
 
@@ -132,18 +133,38 @@ An attempt at a slave is three things: the begin of its boot, the questions of t
 report of the answers. Another attempt follows only after status B, where the slave gave no value \
 of object 1000h, or where the session of the attempt was dropped before its report.
 
-A silent slave gives no answer. With bit 2 of its assignment each attempt at it comes to status B, \
+Slaves that don't agree are made by options, for trying what a list does then:
+
+  --silent 2,5-9          nodes 2 and 5 to 9 give no answer
+  --wrong 3=product:999   slave 3 has product code 999 in the place of the one
+                          that is expected; so with device_type, vendor,
+                          revision, serial, date and time, the keys of the
+                          list. The value is decimal, or hexadecimal behind 0x
+  --aborts 3=1018         slave 3 aborts each read and write of object 1018h,
+                          with SDO abort code 0602 0000h: it doesn't exist
+  --dies 3                slave 3 is booted as it should, and then it is lost:
+                          behind all boots the operator reports each slave that
+                          dies and is booted, in rising node-ID
+
+--wrong and --aborts may be given several times, and --dies takes a list as
+--silent does. Of one node silence counts before aborts, aborts before wrong
+values, and of two values of one object the later one. What the boot of a slave
+doesn't ask changes nothing: a value isn't read where the list has 0 for it.
+A node of --wrong, --aborts or --dies that isn't listed is refused, with status
+2; one of --silent that isn't listed has no effect.
+
+A silent slave with bit 2 of its assignment comes to status B at each attempt, \
 also with bit 5, and so it isn't booted; if it is mandatory, the network doesn't become ready. \
 Without bit 2 it is asked no question: its silence shows only where its heartbeat is waited for, as \
-status K, and else it is booted. An ID that isn't listed has no effect.
+status K, and else it is booted.
 
 Any failed boot but one with status B, of a mandatory slave, halts the network: its phase is \
 'halted', and slaves whose boot hasn't begun by then aren't booted. So it is with a mandatory slave \
 that has bits 2 and 5 of its assignment, whose boot fails with status G.
 
-FILE is made once NET is open, and before NET is read; what FILE had before is lost. After a list \
-that is refused, or a start that is refused, an empty FILE stays. FILE can't be NET itself: then \
-nothing is made. 'canboot replay < FILE' accepts the journal, and prints the same report.
+FILE is made once NET is read; what FILE had before is lost. After a list that is refused, or a start \
+that is refused, an empty FILE stays. FILE can't be NET itself: then nothing is made, nor where a \
+node of an option isn't listed. 'canboot replay < FILE' accepts the journal, and prints the same report.
 
 With one worker the output and the journal of a list are always the same. With several workers the \
 order of the entries may differ from run to run, and with it the numbers of the sessions and what \
@@ -154,7 +175,8 @@ Exit statuses:
 a slave failed, or the network didn't become ready, as the report says
   1  the list has a fault ('canboot check --help' names them), or the start is refused, since bit 0 \
 of startup is clear ('start refused: 1 NotMaster'); nothing is printed
-  2  the command line is wrong, or FILE is NET itself
+  2  the command line is wrong, FILE is NET itself, or a node of --wrong, --aborts or --dies isn't \
+listed ('node 9 isn't in the network list'); nothing is printed
   3  NET can't be opened or read, or is too long; FILE can't be made; a failed write; want of \
 memory; or 'no worker', where a thread couldn't be made
 
@@ -163,7 +185,8 @@ why.
 
 Examples:
   canboot run examples/lists/one-slave.toml
-  canboot run examples/lists/one-slave.toml --silent 2 --attempts 3 --journal silent.journal";
+  canboot run examples/lists/one-slave.toml --silent 2 --attempts 3 --journal silent.journal
+  canboot run examples/lists/machine.toml --wrong 3=product:0x999 --dies 2";
 
 pub(crate) const ABOUT_LIVE: &str =
     "Boots a network on a CAN bus, watches it, prints its status report, and writes its journal";

@@ -28,7 +28,7 @@ mod told;
 
 pub use command_line::{
     Action, BusPaths, CheckOutput, JournalPath, LivePaths, LiveWords, NoAction, ReportForm,
-    ScanOutput, ScanWords, read_words,
+    ScanOutput, ScanWords, SlaveWords, read_words,
 };
 pub use event::{Event, EventLine, NoBoot};
 pub use names::{Names, NamesFault, read_names};

@@ -7,7 +7,7 @@ use crate::support::{
 };
 use cm_history::{Call, Orders, Reply};
 use cm_register::{CallFault, Closed, Opened, Register, RunName, Seat, SeatList};
-use cm_simulated::SimWire;
+use cm_run::SimWire;
 use std::marker::Brand;
 use std::process::Abort;
 use std::sync::Wait;

@@ -6,7 +6,7 @@ use cm_history::{Call, Reply};
 use cm_netlist::Network;
 use cm_nmt::{NodeId, Startup};
 use cm_register::{Opened, Receipt, Register, RunName};
-use cm_simulated::SimWire;
+use cm_run::SimWire;
 use std::marker::Brand;
 use std::process::Abort;
 use std::sync::Wait;

@@ -5,7 +5,7 @@ ghost use Rattle.cm_register.specs.Naming.{Names};
 use crate::support::{close, network, stop_the_slave, sure};
 use cm_nmt::Frame;
 use cm_register::{Opened, Register, RunName, Seat, Seen, Wire};
-use cm_simulated::SimWire;
+use cm_run::SimWire;
 use std::marker::Brand;
 use std::process::Abort;
 use std::sync::Wait;

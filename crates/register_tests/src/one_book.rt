@@ -7,7 +7,7 @@ use cm_history::{Call, Entry, Orders, Phase, Reply};
 use cm_netlist::Network;
 use cm_nmt::{Frame, NmtState, Status};
 use cm_register::{Book, CallFault, CloseKind, Opened, RunName, Seat};
-use cm_simulated::SimWire;
+use cm_run::SimWire;
 use std::alloc::Global;
 use std::marker::Brand;
 use std::process::Abort;

@@ -5,7 +5,7 @@ ghost use Rattle.cm_register.specs.Naming.{Names};
 use crate::support::{close, is_made, is_refused, named, network, open, sees, sure};
 use cm_history::{Call, Reply};
 use cm_register::{CallFault, Closed, Opened, Register, RunName, Seat};
-use cm_simulated::SimWire;
+use cm_run::SimWire;
 use std::marker::Brand;
 use std::process::Abort;
 use std::sync::Wait;

@@ -3,7 +3,7 @@
 use crate::support::{frame, network, sure};
 use cm_netlist::Network;
 use cm_register::{Book, OpenFault, Register, Wire};
-use cm_simulated::SimWire;
+use cm_run::SimWire;
 use std::alloc::Global;
 use std::marker::Brand;
 use std::process::Abort;

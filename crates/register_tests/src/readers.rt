@@ -8,7 +8,7 @@ use cm_netlist::Network;
 use cm_nmt::NodeId;
 use cm_register::{Opened, Register, RunName, Seat, Seen};
 use cm_sequential::Manager;
-use cm_simulated::SimWire;
+use cm_run::SimWire;
 use std::alloc::Global;
 use std::marker::Brand;
 use std::process::Abort;

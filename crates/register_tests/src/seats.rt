@@ -5,7 +5,7 @@ ghost use Rattle.cm_register.specs.Naming.{Names};
 use crate::support::{close, is_made, named, network, open, sees, stop_the_slave, sure};
 use cm_history::{Call, Reply};
 use cm_register::{Opened, ReadFault, Register, RunName, Seat};
-use cm_simulated::SimWire;
+use cm_run::SimWire;
 use std::marker::Brand;
 use std::process::Abort;
 use std::sync::Wait;

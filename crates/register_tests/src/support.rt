@@ -9,7 +9,7 @@ use cm_nmt::{Answers, Assignment, Frame, Got, NodeId, Startup, Terms};
 use cm_register::{
     CallFault, CloseKind, Closed, Opened, Receipt, Register, RunName, Seat, Seen, Wire,
 };
-use cm_simulated::SimWire;
+use cm_run::SimWire;
 use std::alloc::Global;
 use std::process::Abort;
 use std::sync::Wait;

@@ -5,7 +5,7 @@ ghost use Rattle.cm_register.specs.Naming.{Names};
 use crate::support::{close, is_refused, lacks_seats, named, network, open, sure};
 use cm_history::{Call, Reply};
 use cm_register::{CallFault, Closed, Opened, Register, RunName, Seat, SeatList};
-use cm_simulated::SimWire;
+use cm_run::SimWire;
 use std::alloc::Global;
 use std::marker::Brand;
 use std::process::Abort;

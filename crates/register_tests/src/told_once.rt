@@ -7,7 +7,7 @@ use crate::support::{close, is_made, named, network, open, sure};
 use cm_history::{Call, Entry, Reply};
 use cm_past::Past;
 use cm_register::{Opened, Register, RunName, Seat};
-use cm_simulated::SimWire;
+use cm_run::SimWire;
 use cm_versions::{Next, Publisher, TellFault, VersionReader};
 use std::alloc::Global;
 use std::marker::Brand;

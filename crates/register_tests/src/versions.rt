@@ -9,7 +9,7 @@ use cm_journal::report;
 use cm_netlist::Network;
 use cm_past::Past;
 use cm_register::{Opened, Register, RunName, Seat};
-use cm_simulated::SimWire;
+use cm_run::SimWire;
 use cm_versions::{Publisher, VersionReader};
 use std::alloc::Global;
 use std::marker::Brand;

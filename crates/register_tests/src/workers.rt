@@ -4,8 +4,7 @@ ghost use Rattle.cm_register.specs.Naming.{Names};
 
 use crate::support::{close, named, network, open, sure};
 use cm_register::{Opened, Register, RunName, Seat};
-use cm_run::{RunKind, boot_all};
-use cm_simulated::{SimBus, SimWire};
+use cm_run::{RunKind, SimBus, SimWire, boot_all};
 use std::alloc::Global;
 use std::marker::Brand;
 use std::process::Abort;

@@ -8,7 +8,7 @@ use crate::memory::saying::{done, refused, refused_at, surely};
 use cm_history::{Call, Reply};
 use cm_netlist::Network;
 use cm_register::{Book, CallFault, OpenFault, Opened, Receipt, Register, RunName, Seat, Seen};
-use cm_simulated::SimWire;
+use cm_run::SimWire;
 use std::marker::Brand;
 use std::sync::Wait;
 

@@ -9,8 +9,9 @@ use cm_history::Call;
 use cm_netlist::Network;
 use cm_nmt::Status;
 use cm_register::{CallFault, Opened, Register, RunName, Seat};
-use cm_run::{Booted, Last, Outcome, RunFault, RunKind, boot_all, operate};
-use cm_simulated::{SimBus, SimSlave, SimWire};
+use cm_run::{
+    Booted, Last, Outcome, RunFault, RunKind, SimBus, SimSlave, SimWire, boot_all, operate,
+};
 use std::marker::Brand;
 use std::sync::Wait;
 use std::thread::Threads;

@@ -4,8 +4,8 @@ use Rattle.canboot_run.proofs.program.read_options.Given as goal
 
 -- the options so far are in range
 abbrev pub invariant-loop-left : goal.invariant-loop-left
-invariant-loop-left l = AreInRange l.options
+invariant-loop-left g l = AreInRange l.options
 
 -- each round takes two words
 abbrev pub decreases-loop-left : goal.decreases-loop-left
-decreases-loop-left l = length l.left
+decreases-loop-left g l = length l.left

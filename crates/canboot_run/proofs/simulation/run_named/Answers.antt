@@ -1,5 +1,7 @@
-use Rattle.std.proofs.Common.{◌<◌, length, ap, arith}
+use Rattle.std.proofs.Common.{◌<◌, List, length, ap, arith, subst}
 use Rattle.std.proofs.lemmas.Result.{IfOk-weaker}
+use Rattle.cm_run.specs.declared.outcome.Outcome.{Outcome}
+use Rattle.canboot_run.specs.Simulated.{HasEnded}
 use Rattle.canboot_run.proofs.Seats.{some_seats}
 use Rattle.canboot_run.proofs.Simulated.{first_seat, operated, worked}
 use Rattle.canboot_run.proofs.simulation.run_named.Goals as goal
@@ -8,21 +10,22 @@ pub remove-operator-requires : goal.remove-operator-requires
 remove-operator-requires g c =
     omega (arith, c.in-Ok.named.1.ok.0, ap length c.in-Ok.ensures.seats, some_seats g.K.RunName.seats (omega (arith, c.args.opened.seats_fit.0, c.requires.name.seats)))
 
-pub returns-clause-operated : goal.returns-clause-operated
-returns-clause-operated g c =
+pub returns-clause-run : goal.returns-clause-run
+returns-clause-run g c =
     let some : 0 < g.K.RunName.seats = omega (arith, c.args.opened.seats_fit.0, c.requires.name.seats) in
+    let booted = c.in_ok-booted.booted in
+    let was = c.in_ok-booted.ensures.booted in
     IfOk-weaker c.close.result _ _
-    (λ s theirs. operated s.history.items c.push.new.self.items c.in_ok-seats.seats.items c.remove-operator.result c.start.new.operator c.call.new.seat c.in_default.field-0.position c.in_default.field-0.reply
-    theirs c.in-Ok-push.ensures.items
-    (first_seat g.K.RunName.seats c.in-Ok.named.1.items c.remove-operator.result c.in-Ok.ensures.seats some c.remove-operator.ensures.value)
-    c.in_ok-start.ensures.started c.in_default.ensures.seat.0 c.in_default.ensures.seat.1)
-    c.close.ensures.calls
-
-pub returns-clause-worked : goal.returns-clause-worked
-returns-clause-worked g c =
-    let some : 0 < g.K.RunName.seats = omega (arith, c.args.opened.seats_fit.0, c.requires.name.seats) in
-    IfOk-weaker c.close.result _ _
-    (λ s theirs. worked g.K.HistoryName.net c.args.attempts g.K.RunName.seats c.args.buses.items s.history.items c.in-Ok.named.1.items c.remove-operator.new.self.items c.push.new.self.items c.in_ok-seats.seats.items c.call.new.seat
-    theirs c.in-Ok-push.ensures.items
-    c.in-Ok.ensures.seats c.remove-operator.ensures.items some c.in_ok-seats.ensures.booted)
+    (λ s theirs. record {
+      outcomes = booted.outcomes.items;
+      slaves = was.slaves;
+      operated = operated s.history.items c.push.new.self.items booted.seats.items c.remove-operator.result c.start.new.operator c.end.new.operator c.args.options.now.faults booted.outcomes.items
+          theirs c.in-Ok-push.ensures.items
+          (first_seat g.K.RunName.seats c.in-Ok.named.1.items c.remove-operator.result c.in-Ok.ensures.seats some c.remove-operator.ensures.value)
+          c.in_ok-start.ensures.started
+          (subst (λ (os : List Outcome). HasEnded c.args.options.now.faults os c.start.new.operator c.end.new.operator) c.as_slice.ensures.value c.in_ok-end.ensures.ended);
+      worked = worked g.K.HistoryName.net c.args.options.now.attempts g.K.RunName.seats c.args.buses.items booted.outcomes.items s.history.items c.in-Ok.named.1.items c.remove-operator.new.self.items c.push.new.self.items booted.seats.items c.end.new.operator
+          theirs c.in-Ok-push.ensures.items
+          c.in-Ok.ensures.seats c.remove-operator.ensures.items some was;
+    })
     c.close.ensures.calls

@@ -1,5 +1,5 @@
 ghost use Rattle.std.specs.Prelude.{◌≡◌, ◌==◌, ◌<◌, ℕ, None, Some, if◌then◌else◌};
-ghost use Rattle.cm_simulated.specs.Buses.{put_on, slave_at};
+ghost use Rattle.cm_run.specs.Buses.{put_on, slave_at};
 
 use crate::slave::SimSlave;
 use cm_boot::{Answer, Bus, Question};
@@ -42,7 +42,7 @@ impl SimBus {
 }
 
 impl Bus for SimBus {
-    ghost use Rattle.cm_simulated.specs.Buses.{Steps};
+    ghost use Rattle.cm_run.specs.Buses.{Steps};
 
     ghost step = { Steps };
 

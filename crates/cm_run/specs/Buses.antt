@@ -4,10 +4,10 @@ use Rattle.std.specs.List.{slice_index_or}
 use Rattle.cm_boot.specs.declared.question.Answer.{Answer}
 use Rattle.cm_boot.specs.declared.question.Answer.TheVariants as answer
 use Rattle.cm_boot.specs.declared.question.Question.{Question}
-use Rattle.cm_simulated.specs.declared.bus.SimBus.{SimBus}
-use Rattle.cm_simulated.specs.declared.bus.Attached.{Attached}
-use Rattle.cm_simulated.specs.declared.slave.SimSlave.{SimSlave}
-use Rattle.cm_simulated.specs.Slaves.{answer_to, left_after}
+use Rattle.cm_run.specs.declared.bus.SimBus.{SimBus}
+use Rattle.cm_run.specs.declared.bus.Attached.{Attached}
+use Rattle.cm_run.specs.declared.slave.SimSlave.{SimSlave}
+use Rattle.cm_run.specs.Slaves.{answer_to, left_after}
 
 -- the slave of node i, if it has one
 abbrev pub slave_at : SimBus → ℕ → Option Attached

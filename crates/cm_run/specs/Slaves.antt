@@ -15,7 +15,7 @@ use Rattle.cm_boot.specs.declared.question.Answer.{Answer}
 use Rattle.cm_boot.specs.declared.question.Answer.TheVariants as answer
 use Rattle.cm_boot.specs.declared.question.Question.{Question}
 use Rattle.cm_boot.specs.declared.question.Question.TheVariants as question
-use Rattle.cm_simulated.specs.declared.slave.SimSlave.{SimSlave}
+use Rattle.cm_run.specs.declared.slave.SimSlave.{SimSlave}
 
 -- what is answered to a read: a value or an abort, else silence
 abbrev pub to_read : Got → Answer

@@ -1,7 +1,7 @@
 ghost use Rattle.std.specs.Prelude.{◌≡◌};
 ghost use Rattle.cm_netlist.specs.Network.{terms};
-ghost use Rattle.cm_simulated.specs.Slaves.{answer_to, left_after, object, agreeing_with, followed};
-ghost use Rattle.cm_simulated.specs.Slaves.{reaches, state_after, to_read, to_state, to_write};
+ghost use Rattle.cm_run.specs.Slaves.{answer_to, left_after, object, agreeing_with, followed};
+ghost use Rattle.cm_run.specs.Slaves.{reaches, state_after, to_read, to_state, to_write};
 
 use cm_boot::{Answer, Question};
 use cm_netlist::Network;

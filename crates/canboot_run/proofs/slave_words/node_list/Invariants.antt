@@ -1,0 +1,17 @@
+use Rattle.std.proofs.Common.{◌≡◌, ℕ, length}
+use Rattle.std.specs.Prelude.{◌||◌}
+use Rattle.cm_history.specs.NodeSets.{has}
+use Rattle.cm_text.specs.Left.{left}
+use Rattle.canboot_run.specs.SlaveWords.{is_node_list, lists}
+use Rattle.canboot_run.proofs.SlaveLists.{has_one, spelled}
+use Rattle.canboot_run.proofs.slave_words.node_list.Given as goal
+
+-- the parts so far were ranges, and with those that are left there are all nodes
+abbrev pub invariant-loop-part : goal.invariant-loop-part
+invariant-loop-part l = record {
+  spelled : spelled (left l.parts) ≡ is_node_list l.text;
+  nodes : (i : ℕ) → (has l.nodes i || has_one (left l.parts) i) ≡ lists l.text i;
+}
+
+abbrev pub decreases-loop-part : goal.decreases-loop-part
+decreases-loop-part l = length (left l.parts)

@@ -1,2 +1,0 @@
-pub mod Slaves
-pub mod Buses
