@@ -13,4 +13,5 @@ pub mod Steps
 pub mod Sendings
 pub mod Going
 pub mod JournalNames
+pub mod Drawable
 pub mod Inputs
