@@ -13,5 +13,6 @@ pub mod Steps
 pub mod Sendings
 pub mod Going
 pub mod JournalNames
+pub mod Drawable
 pub mod Inputs
 pub mod HeardDevices

@@ -1,5 +1,6 @@
 //! canboot, the NMT master of a CANopen network, as a library: its command line over any streams,
-//! and `canboot check`, `canboot import`, `canboot run`, `canboot live`, `canboot replay` and `canboot tell` over any reader and writer. The program is
+//! and `canboot check`, `canboot import`, `canboot run`, `canboot live`, `canboot replay`, `canboot tell` and
+//! `canboot picture` over any reader and writer. The program is
 //! `canboot_main`.
 #![tactic(auto)]
 
@@ -7,6 +8,7 @@ mod explain;
 mod importing;
 mod json;
 mod live;
+mod picture;
 mod program;
 mod report;
 mod scan;
@@ -26,6 +28,7 @@ pub use live::{
     Followed, HostFiles, LONGEST_LIVE, LiveEnds, LiveOptions, NoFiles, ReplaceFile, StatusFile,
     live_round, live_text,
 };
+pub use picture::picture_text;
 pub use program::{run, run_words};
 pub use scan::{ListForm, ScanEnds, ScanOptions, scan_check, scan_text};
 pub use tell::tell_text;

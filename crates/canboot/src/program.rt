@@ -8,6 +8,7 @@ use crate::json::{check_file_as_json, replay_as_json};
 use crate::live::ReplaceFile;
 use crate::live::files::live_file;
 use crate::scan::files::scan_file;
+use crate::picture::picture_text;
 use crate::tell::tell_text;
 use canboot_check::{
     FAILED, MISUSED, check_file, fault_line, mend_text, output_status, read_fault, replay_text,
@@ -97,8 +98,8 @@ fn has_no_color<R: Env + AllocGlobal>(rt: &R) -> bool {
 }
 
 /// Runs canboot on these words, of which the first is the program's name, with these streams, and
-/// gives its exit status: that of [`check_file`], [`explain_text`](crate::explain_text), [`import_text`](crate::import_text), [`scan_text`](crate::scan_text), [`scan_check`](crate::scan_check), [`run_file`], [`live_text`](crate::live_text), [`replay_text`], [`mend_text`] or
-/// [`tell_text`], 0 for help and the version, 2 for wrong words, 3 for a file that can't be opened or made. Where `err` is a terminal, a live run
+/// gives its exit status: that of [`check_file`], [`explain_text`](crate::explain_text), [`import_text`](crate::import_text), [`scan_text`](crate::scan_text), [`scan_check`](crate::scan_check), [`run_file`], [`live_text`](crate::live_text), [`replay_text`], [`mend_text`],
+/// [`tell_text`] or [`picture_text`], 0 for help and the version, 2 for wrong words, 3 for a file that can't be opened or made. Where `err` is a terminal, a live run
 /// says the time with each line there.
 pub fn run_words<
     R: Files<File = File>
@@ -169,6 +170,7 @@ pub fn run_words<
         Ok(Action::Replay(ReportForm::Json)) => replay_as_json(rt.alloc(), input, out, err),
         Ok(Action::Mend) => mend_text(rt.alloc(), input, out, err),
         Ok(Action::Tell { node }) => tell_text(rt.alloc(), input, node, out, err),
+        Ok(Action::Picture) => picture_text(rt.alloc(), input, out, err),
         Err(none) => say(&none, out, err),
     }
 }

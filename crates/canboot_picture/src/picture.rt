@@ -171,7 +171,7 @@ pub fn put_picture<W: Write>(picture: &Picture, network: &Network, out: &mut W) 
     let rows = network.listed_ids().len() as u64;
     let width = (columns
         .saturating_mul(picture.scale.pitch as u64)
-        .saturating_add(136))
+        .saturating_add(190))
     .max(900);
     let height = rows.saturating_mul(30).saturating_add(180);
     put_head(width, height, out)?;

@@ -16,3 +16,4 @@ IsInRange (action.Live l) =
 IsInRange (action.Replay form) = Unit {0}
 IsInRange action.Mend = Unit {0}
 IsInRange (action.Tell n) = Unit {0}
+IsInRange action.Picture = Unit {0}

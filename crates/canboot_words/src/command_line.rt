@@ -1,12 +1,10 @@
 ghost use Rattle.std.specs.Prelude.{◌≤◌, IfOk};
 ghost use Rattle.canboot_words.specs.CommandLine.{IsInRange};
 
-use crate::help::{
-    ABOUT, ABOUT_MEND, ABOUT_REPLAY, ABOUT_RUN, ABOUT_TELL, AFTER, HELP_MEND, HELP_REPLAY,
-    HELP_RUN, HELP_TELL,
-};
+use crate::help::{ABOUT, ABOUT_RUN, AFTER, HELP_RUN};
 use crate::help_check::{ABOUT_CHECK, HELP_CHECK};
 use crate::importing::{import_action, import_command};
+use crate::journals::{mend_command, picture_command, replay_command, tell_command};
 use crate::live::{live_action, live_command};
 use crate::scanning::{scan_action, scan_command};
 use clap::error::ErrorKind;
@@ -174,6 +172,8 @@ pub enum Action<'a> {
         /// The node whose calls are told; none: all.
         node: Option<NodeId>,
     },
+    /// Read a journal, and print a picture of its history.
+    Picture,
 }
 
 /// Why a command line asks for no run.
@@ -311,23 +311,6 @@ fn run_command<'a>(alloc: Global) -> Result<Command<'a>, AllocError> {
     described(alloc, "run", ABOUT_RUN, HELP_RUN).args(arguments)
 }
 
-fn replay_command<'a>(alloc: Global) -> Result<Command<'a>, AllocError> {
-    described(alloc, "replay", ABOUT_REPLAY, HELP_REPLAY).arg(json_argument(alloc))
-}
-
-fn mend_command<'a>(alloc: Global) -> Command<'a> {
-    described(alloc, "mend", ABOUT_MEND, HELP_MEND)
-}
-
-fn node_argument<'a>(alloc: Global) -> Arg<'a> {
-    let help = "The node-ID whose calls are told, 1 to 127";
-    option(alloc, "node", "ID", help).value_parser(value_parser!(u8).range(1..128))
-}
-
-fn tell_command<'a>(alloc: Global) -> Result<Command<'a>, AllocError> {
-    described(alloc, "tell", ABOUT_TELL, HELP_TELL).arg(node_argument(alloc))
-}
-
 fn subcommands<'a>(alloc: Global) -> Result<Vec<Command<'a>>, AllocError> {
     listed(
         alloc,
@@ -340,6 +323,7 @@ fn subcommands<'a>(alloc: Global) -> Result<Vec<Command<'a>>, AllocError> {
             replay_command(alloc),
             Ok(mend_command(alloc)),
             tell_command(alloc),
+            Ok(picture_command(alloc)),
         ],
     )
 }
@@ -456,6 +440,7 @@ fn action_of<'a>(alloc: Global, matches: &ArgMatches<'a>) -> Result<Action<'a>, 
         "tell" => Ok(Action::Tell {
             node: node_of(given, "node"),
         }),
+        "picture" => Ok(Action::Picture),
         _ => Ok(Action::Replay(report_form(given))),
     }
 }

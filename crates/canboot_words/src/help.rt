@@ -328,6 +328,7 @@ Examples, of which the last has no operator, and ends by itself after 10 seconds
 pub(crate) const AFTER: &str =
     "'canboot check --help' says what a network list holds, 'canboot import --help' how a device file becomes \
 a slave of one, 'canboot replay --help' what a journal \
-holds, 'canboot mend --help' what becomes of a torn one, 'canboot tell --help' how it is told in words, 'canboot run --help' what is simulated, \
+holds, 'canboot mend --help' what becomes of a torn one, 'canboot tell --help' how it is told in words, \
+'canboot picture --help' how it is drawn, 'canboot run --help' what is simulated, \
 'canboot live --help' how a CAN bus is reached and what an operator types, and each what the exit \
 statuses mean.";

@@ -1,0 +1,28 @@
+//! The commands that take a journal on standard input.
+
+use crate::command_line::{described, json_argument, option};
+use crate::help::{ABOUT_MEND, ABOUT_REPLAY, ABOUT_TELL, HELP_MEND, HELP_REPLAY, HELP_TELL};
+use crate::help_picture::{ABOUT_PICTURE, HELP_PICTURE};
+use clap::{Arg, Command, value_parser};
+use std::alloc::{AllocError, Global};
+
+pub(crate) fn replay_command<'a>(alloc: Global) -> Result<Command<'a>, AllocError> {
+    described(alloc, "replay", ABOUT_REPLAY, HELP_REPLAY).arg(json_argument(alloc))
+}
+
+pub(crate) fn mend_command<'a>(alloc: Global) -> Command<'a> {
+    described(alloc, "mend", ABOUT_MEND, HELP_MEND)
+}
+
+fn node_argument<'a>(alloc: Global) -> Arg<'a> {
+    let help = "The node-ID whose calls are told, 1 to 127";
+    option(alloc, "node", "ID", help).value_parser(value_parser!(u8).range(1..128))
+}
+
+pub(crate) fn tell_command<'a>(alloc: Global) -> Result<Command<'a>, AllocError> {
+    described(alloc, "tell", ABOUT_TELL, HELP_TELL).arg(node_argument(alloc))
+}
+
+pub(crate) fn picture_command<'a>(alloc: Global) -> Command<'a> {
+    described(alloc, "picture", ABOUT_PICTURE, HELP_PICTURE)
+}
