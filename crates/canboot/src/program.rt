@@ -7,8 +7,8 @@ use crate::importing::import_file;
 use crate::json::{check_file_as_json, replay_as_json};
 use crate::live::ReplaceFile;
 use crate::live::files::live_file;
-use crate::scan::files::scan_file;
 use crate::picture::picture_text;
+use crate::scan::files::scan_file;
 use crate::tell::tell_text;
 use canboot_check::{
     FAILED, MISUSED, check_file, fault_line, mend_text, output_status, read_fault, replay_text,

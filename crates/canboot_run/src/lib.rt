@@ -26,3 +26,4 @@ pub use running::{no_history_line, put_report, run_text};
 pub use simulation::{LONGEST_RUN, Options};
 pub use slave_faults::{AbortedObject, SlaveFaults, SlaveValue, WrongValue};
 pub use slave_options::{SlaveOption, set_fault};
+pub use slave_words::node_list;

@@ -154,7 +154,7 @@ fn insert_range(set: &mut NodeSet, range: &NodeRange)
 }
 
 /// The nodes of a list.
-pub(crate) fn node_list(text: &[u8]) -> Option<NodeSet>
+pub fn node_list(text: &[u8]) -> Option<NodeSet>
     ensures none { IfNone result (is_node_list text.now ≡ false) }
     ensures list { IfSome result (λ _. is_node_list text.now ≡ true) }
     ensures nodes { IfSome result (λ set. (i : ℕ) → has set i ≡ lists text.now i) }

@@ -1,12 +1,13 @@
 ghost use Rattle.std.specs.Prelude.{◌≤◌, IfOk};
 ghost use Rattle.canboot_words.specs.CommandLine.{IsInRange};
 
-use crate::help::{ABOUT, ABOUT_RUN, AFTER, HELP_RUN};
+use crate::help::{ABOUT, AFTER};
 use crate::help_check::{ABOUT_CHECK, HELP_CHECK};
 use crate::importing::{import_action, import_command};
 use crate::journals::{mend_command, picture_command, replay_command, tell_command};
 use crate::live::{live_action, live_command};
-use crate::scanning::{scan_action, scan_command};
+use crate::running::{SlaveWords, run_action, run_command};
+use crate::scanning::{ScanWords, scan_action, scan_command};
 use clap::error::ErrorKind;
 use clap::{Arg, ArgAction, ArgMatches, Command, Error, value_parser};
 use cm_nmt::NodeId;
@@ -85,49 +86,6 @@ pub enum ReportForm {
     Text,
     /// As one JSON object.
     Json,
-}
-
-/// What a scan of a bus is asked for.
-#[derive(Clone, Copy)]
-pub struct ScanWords<'a> {
-    pub bus: BusPaths<'a>,
-    /// The node-IDs that are asked, as they are spelled.
-    pub nodes: &'a str,
-    /// How many workers ask, 1 to 16.
-    pub workers: u8,
-    /// How long an answer is waited for, in ms, 1 to 60,000.
-    pub answer_ms: u32,
-    pub output: ScanOutput<'a>,
-}
-
-/// What is printed of the devices that are found.
-#[derive(Clone, Copy)]
-pub enum ScanOutput<'a> {
-    /// A network list of them.
-    List {
-        /// The manager's own node-ID in it.
-        own: NodeId,
-        /// Whether a comment says what each one's device profile is about.
-        with_profiles: bool,
-    },
-    /// How they differ from the network list of this path.
-    Differences {
-        network: &'a str,
-        form: ReportForm,
-    },
-}
-
-/// What slaves of a run do, as it was typed; none of these texts is read here.
-#[derive(Drop)]
-pub struct SlaveWords<'a> {
-    /// A list of nodes that give no answer.
-    pub silent: Option<&'a str>,
-    /// Values that slaves give in the place of those that are expected.
-    pub wrong: Vec<&'a str>,
-    /// Objects of which slaves abort each read and write.
-    pub aborts: Vec<&'a str>,
-    /// A list of nodes that are lost once they are booted.
-    pub dies: Option<&'a str>,
 }
 
 /// What the command line asks for.
@@ -237,26 +195,6 @@ pub(crate) fn attempts_argument<'a>(alloc: Global, unless_given: &'a str) -> Arg
         .default_value(unless_given)
 }
 
-fn silent_argument<'a>(alloc: Global) -> Arg<'a> {
-    let help = "Nodes that give no answer, as 3 or 2,5-9";
-    option(alloc, "silent", "LIST", help)
-}
-
-fn wrong_argument<'a>(alloc: Global) -> Arg<'a> {
-    let help = "A value that a slave gives in the place of the expected one, as 3=product:999";
-    option(alloc, "wrong", "ID=OBJECT:VALUE", help).action(ArgAction::Append)
-}
-
-fn aborts_argument<'a>(alloc: Global) -> Arg<'a> {
-    let help = "An object of which a slave aborts each read and write, as 3=1018";
-    option(alloc, "aborts", "ID=INDEX", help).action(ArgAction::Append)
-}
-
-fn dies_argument<'a>(alloc: Global) -> Arg<'a> {
-    let help = "Nodes that are lost once they are booted, as 3 or 2,5-9";
-    option(alloc, "dies", "LIST", help)
-}
-
 /// The journal's path.
 pub(crate) fn journal_argument<'a>(alloc: Global) -> Arg<'a> {
     let help = "The path to which the journal is written";
@@ -295,20 +233,6 @@ fn check_command<'a>(alloc: Global) -> Result<Command<'a>, AllocError> {
         json_argument(alloc),
     ]?;
     described(alloc, "check", ABOUT_CHECK, HELP_CHECK).args(arguments)
-}
-
-fn run_command<'a>(alloc: Global) -> Result<Command<'a>, AllocError> {
-    let arguments = vec![in alloc;
-        network_argument(alloc),
-        workers_argument(alloc, WORKERS, "1"),
-        attempts_argument(alloc, "1"),
-        silent_argument(alloc),
-        wrong_argument(alloc),
-        aborts_argument(alloc),
-        dies_argument(alloc),
-        journal_argument(alloc),
-    ]?;
-    described(alloc, "run", ABOUT_RUN, HELP_RUN).args(arguments)
 }
 
 fn subcommands<'a>(alloc: Global) -> Result<Vec<Command<'a>>, AllocError> {
@@ -362,45 +286,6 @@ pub(crate) fn number_of(given: &ArgMatches<'_>, name: &str, most: u8) -> u8
 /// The node of this name, if one is given.
 pub(crate) fn node_of(given: &ArgMatches<'_>, name: &str) -> Option<NodeId> {
     given.get_one::<u8>(name).and_then(NodeId::new)
-}
-
-/// The texts of this name, in their order.
-fn texts_of<'a>(
-    alloc: Global,
-    given: &ArgMatches<'a>,
-    name: &str,
-) -> Result<Vec<&'a str>, AllocError> {
-    let mut texts = Vec::new(alloc);
-    if let Some(values) = given.get_strs(name) {
-        for text in values {
-            texts.push(*text)?;
-        }
-    }
-    Ok(texts)
-}
-
-fn slave_words<'a>(alloc: Global, given: &ArgMatches<'a>) -> Result<SlaveWords<'a>, AllocError> {
-    Ok(SlaveWords {
-        silent: given.get_str("silent"),
-        wrong: texts_of(alloc, given, "wrong")?,
-        aborts: texts_of(alloc, given, "aborts")?,
-        dies: given.get_str("dies"),
-    })
-}
-
-fn run_action<'a>(alloc: Global, given: &ArgMatches<'a>) -> Result<Action<'a>, NoAction>
-    ensures { IfOk result IsInRange }
-{
-    let Ok(slaves) = slave_words(alloc, given) else {
-        return Err(NoAction::OutOfMemory);
-    };
-    Ok(Action::Run {
-        network: text_of(given, "network"),
-        workers: number_of(given, "workers", 16),
-        attempts: number_of(given, "attempts", 10),
-        slaves,
-        journal: given.get_str("journal"),
-    })
 }
 
 fn check_output(given: &ArgMatches<'_>) -> CheckOutput {

@@ -22,7 +22,7 @@ mod importing;
 mod journals;
 mod live;
 mod names;
-mod node_list;
+mod running;
 mod scanning;
 mod shown;
 mod spelling;
@@ -30,11 +30,12 @@ mod told;
 
 pub use command_line::{
     Action, BusPaths, CheckOutput, JournalPath, LivePaths, LiveWords, NoAction, ReportForm,
-    ScanOutput, ScanWords, SlaveWords, read_words,
+    read_words,
 };
 pub use event::{Event, EventLine, NoBoot};
 pub use names::{Names, NamesFault, read_names};
-pub use node_list::read_nodes;
+pub use running::SlaveWords;
+pub use scanning::{ScanOutput, ScanWords};
 pub use shown::ShownLines;
 pub use told::{
     Bad, ENTRIES_LEFT, EntryWords, GivenUp, LeftOut, NEARLY_FULL, NoBootOf, NoFrames, Nodes,

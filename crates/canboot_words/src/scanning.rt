@@ -4,7 +4,7 @@ ghost use Rattle.std.specs.Prelude.{◌≤◌, IfOk};
 ghost use Rattle.canboot_words.specs.CommandLine.{IsInRange};
 
 use crate::command_line::{
-    Action, NoAction, ScanOutput, ScanWords, argument, described, json_argument, listed, node_of,
+    Action, BusPaths, NoAction, ReportForm, argument, described, json_argument, listed, node_of,
     number_of, option, report_form, text_of, workers_argument,
 };
 use crate::help_scan::{ABOUT_SCAN, HELP_SCAN, USAGE_SCAN};
@@ -13,7 +13,38 @@ use crate::live::{
     send_argument,
 };
 use clap::{Arg, ArgAction, ArgMatches, Command, value_parser};
+use cm_nmt::NodeId;
 use std::alloc::{AllocError, Global};
+
+/// What a scan of a bus is asked for.
+#[derive(Clone, Copy)]
+pub struct ScanWords<'a> {
+    pub bus: BusPaths<'a>,
+    /// The node-IDs that are asked, as they are spelled.
+    pub nodes: &'a str,
+    /// How many workers ask, 1 to 16.
+    pub workers: u8,
+    /// How long an answer is waited for, in ms, 1 to 60,000.
+    pub answer_ms: u32,
+    pub output: ScanOutput<'a>,
+}
+
+/// What is printed of the devices that are found.
+#[derive(Clone, Copy)]
+pub enum ScanOutput<'a> {
+    /// A network list of them.
+    List {
+        /// The manager's own node-ID in it.
+        own: NodeId,
+        /// Whether a comment says what each one's device profile is about.
+        with_profiles: bool,
+    },
+    /// How they differ from the network list of this path.
+    Differences {
+        network: &'a str,
+        form: ReportForm,
+    },
+}
 
 fn nodes_argument<'a>(alloc: Global) -> Arg<'a> {
     let help = "The node-IDs that are asked, as 5 or 2,5-9";

@@ -5,8 +5,9 @@ ghost use Rattle.std.specs.Prelude.{◌≡◌, ◌≤◌, ◌⊎◌, IfErr};
 use crate::live::files::{channel_closing, channel_opening, format_of, open_bus, writers_to};
 use crate::scan::{ListForm, ScanEnds, ScanOptions, scan_check, scan_text};
 use canboot_check::{FAILED, MISUSED, fault_line, read_fault, read_list, refuse};
-use canboot_run::write_fault;
-use canboot_words::{ReportForm, ScanOutput, ScanWords, read_nodes};
+use canboot_run::{node_list, write_fault};
+use canboot_words::{ReportForm, ScanOutput, ScanWords};
+use cm_history::NodeSet;
 use cm_netlist::Network;
 use cm_nmt::NodeId;
 use std::alloc::{AllocError, Global};
@@ -48,7 +49,7 @@ fn read_output<R: Files + AllocGlobal, E: Write>(
 }
 
 /// The nodes that are asked, in rising order: those of the list, and with them each listed slave, but for the manager's own.
-fn asked(alloc: Global, nodes: &[NodeId], output: &Output) -> Result<Vec<NodeId>, AllocError> {
+fn asked(alloc: Global, nodes: &NodeSet, output: &Output) -> Result<Vec<NodeId>, AllocError> {
     let mut asked = Vec::new(alloc);
     for number in 1..128u8 {
         if let Some(id) = NodeId::new(number) {
@@ -61,11 +62,11 @@ fn asked(alloc: Global, nodes: &[NodeId], output: &Output) -> Result<Vec<NodeId>
 }
 
 /// Whether this node is asked.
-fn is_asked(nodes: &[NodeId], output: &Output, id: NodeId) -> bool {
+fn is_asked(nodes: &NodeSet, output: &Output, id: NodeId) -> bool {
     match output {
-        Output::List(form) => nodes.contains(&id) && id != form.own,
+        Output::List(form) => nodes.contains(id) && id != form.own,
         Output::Differences(network, _) => {
-            network.listed(id) || (nodes.contains(&id) && id != network.own_id())
+            network.listed(id) || (nodes.contains(id) && id != network.own_id())
         }
     }
 }
@@ -122,14 +123,14 @@ pub(crate) fn scan_file<
     ensures statuses { result ≤ 3 }
 {
     let alloc = rt.alloc();
-    let Some(nodes) = read_nodes(words.nodes) else {
+    let Some(nodes) = node_list(words.nodes.as_bytes()) else {
         return fault_line(err, MISUSED, "--nodes has node-IDs 1 to 127, as 5 or 2,5-9");
     };
     let output = match read_output(rt, &words.output, err) {
         Ok(output) => output,
         Err(status) => return status,
     };
-    let Ok(asked) = asked(alloc, nodes.as_slice(), &output) else {
+    let Ok(asked) = asked(alloc, &nodes, &output) else {
         return fault_line(err, FAILED, "out of memory");
     };
     let options = ScanOptions {
