@@ -185,8 +185,7 @@ fn put_spans<W: Write>(
     out: &mut W,
 ) -> io::Result<()>
     requires { length managers.now < 2 ^ 32 }
-    ensures { (net : AnyNetwork) (entries : List AnEntry)
-        → AreColumns net entries scale.now.width managers.now
+    ensures { (net : AnyNetwork) (entries : List AnEntry) → AreColumns net entries scale.now.width managers.now
         → OnOk result (WritesSpans net entries scale.now row id (length managers.now)
         (W.contents out.old) (W.contents out.new)) }
 {
@@ -243,8 +242,7 @@ fn put_lane<W: Write>(
     out: &mut W,
 ) -> io::Result<()>
     requires { length managers.now < 2 ^ 32 }
-    ensures { (net : AnyNetwork) (entries : List AnEntry)
-        → AreColumns net entries scale.now.width managers.now
+    ensures { (net : AnyNetwork) (entries : List AnEntry) → AreColumns net entries scale.now.width managers.now
         → OnOk result (WritesLane net entries scale.now row id (length managers.now)
         (W.contents out.old) (W.contents out.new)) }
 {
