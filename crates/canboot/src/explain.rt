@@ -6,9 +6,11 @@ ghost use Rattle.canboot_check.specs.Check.{FailsToCheck, RefusesList, check_lin
 ghost use Rattle.canboot_lists.specs.Explained.{explained};
 ghost use Rattle.canboot.specs.Explain.{ExplainsList};
 
-use canboot_check::{output_status, put_check, read_fault, read_list, refuse};
+use canboot_check::{LONGEST_LIST, input_fault_line, list_of, output_status, put_check};
 use canboot_lists::explain;
+use canboot_run::{read_fault_of, refuse_explained};
 use cm_netlist::Network;
+use cm_text::read_input;
 use std::alloc::Global;
 use std::fs;
 use std::io::{self, Read, Write};
@@ -30,7 +32,7 @@ fn put_explained<W: Write>(network: &Network, out: &mut W) -> io::Result<()>
 ///
 /// - 0: all of it is written, warnings or not;
 /// - 1: one of the ten faults of a network list applies to the bytes; `err` has one line that names the first that
-///   applies, and nothing is written to `out`;
+///   applies, and behind it where it applies, and nothing is written to `out`;
 /// - 3: a read or a write failed, the input is longer than 1,048,576 bytes, or memory was refused; `err` has one
 ///   line that says which. Only where the list has no fault may anything be written to `out`.
 pub fn explain_text<R: Read, W: Write, E: Write>(
@@ -50,9 +52,13 @@ pub fn explain_text<R: Read, W: Write, E: Write>(
         (W.contents out.old) (W.contents out.new) }
     ensures statuses { (result ≡ 0) ⊎ ((result ≡ 1) ⊎ (result ≡ 3)) }
 {
-    match read_list(alloc, reader) {
+    let bytes = match read_input(alloc, reader, LONGEST_LIST) {
+        Ok(bytes) => bytes,
+        Err(fault) => return input_fault_line(err, fault),
+    };
+    match list_of(alloc, bytes.as_slice()) {
         Ok(network) => output_status(err, put_explained(&network, out)),
-        Err(fault) => refuse(err, fault),
+        Err(fault) => refuse_explained(alloc, bytes.as_slice(), fault, err),
     }
 }
 
@@ -67,6 +73,6 @@ pub(crate) fn explain_file<R: Files + AllocGlobal, W: Write, E: Write>(
 {
     match fs::open(rt, path) {
         Ok(mut file) => explain_text(rt.alloc(), &mut file, out, err),
-        Err(error) => read_fault(err, error.kind()),
+        Err(error) => read_fault_of(err, path, error.kind()),
     }
 }

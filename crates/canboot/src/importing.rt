@@ -4,8 +4,9 @@ ghost use Rattle.std.specs.Prelude.{◌≡◌, ◌⊎◌, OnOk};
 ghost use Rattle.std.specs.Io.KnownBytes.{Appends};
 ghost use Rattle.canboot.specs.Importing.{FailsToImport, ImportsSlave};
 
-use canboot_check::{FAILED, REFUSED, fault_line, input_fault_line, output_status, read_fault};
+use canboot_check::{FAILED, REFUSED, fault_line, input_fault_line, output_status};
 use canboot_lists::{FileFault, ImportFault, ImportWords, ImportedText, import};
+use canboot_run::read_fault_of;
 use cm_text::{InputFault, read_input};
 use std::alloc::Global;
 use std::fs;
@@ -88,6 +89,6 @@ pub(crate) fn import_file<R: Files + AllocGlobal, W: Write, E: Write>(
 {
     match fs::open(rt, path) {
         Ok(mut file) => import_text(rt.alloc(), words, &mut file, out, err),
-        Err(error) => read_fault(err, error.kind()),
+        Err(error) => read_fault_of(err, path, error.kind()),
     }
 }

@@ -97,10 +97,11 @@ fn has_no_color<R: Env + AllocGlobal>(rt: &R) -> bool {
     }
 }
 
-/// Runs canboot on these words, of which the first is the program's name, with these streams, and
-/// gives its exit status: that of [`check_file`], [`explain_text`](crate::explain_text), [`import_text`](crate::import_text), [`scan_text`](crate::scan_text), [`scan_check`](crate::scan_check), [`run_file`], [`live_text`](crate::live_text), [`replay_text`], [`mend_text`],
-/// [`tell_text`] or [`picture_text`], 0 for help and the version, 2 for wrong words, 3 for a file that can't be opened or made. Where `err` is a terminal, a live run
-/// says the time with each line there.
+/// Runs canboot on these words, of which the first is the program's name, with these streams, and gives its exit status: that of
+/// [`check_file`], [`explain_text`](crate::explain_text), [`import_text`](crate::import_text), [`scan_text`](crate::scan_text),
+/// [`scan_check`](crate::scan_check), [`run_file`], [`live_text`](crate::live_text), [`replay_text`], [`mend_text`], [`tell_text`] or
+/// [`picture_text`], 0 for help and the version, 2 for wrong words, 3 for a file that can't be opened or made. Where `err` is a
+/// terminal, a live run says the time with each line there.
 pub fn run_words<
     R: Files<File = File>
         + Input<Reader = StdinLock<'static>>
@@ -152,6 +153,7 @@ pub fn run_words<
                 attempts,
                 slaves,
                 journal,
+                is_explained,
             },
         ) => match faults_of(rt.alloc(), &slaves, err) {
             Ok(faults) => {
@@ -160,7 +162,7 @@ pub fn run_words<
                     attempts,
                     faults,
                 };
-                run_file(rt, network, &options, journal, out, err)
+                run_file(rt, network, &options, journal, is_explained, out, err)
             }
             Err(status) => status,
         },

@@ -4,3 +4,4 @@ pub mod EntryCount
 pub mod MendLaws
 pub mod TornTexts
 pub mod Reread
+pub mod ListsRead

@@ -50,6 +50,14 @@ pub record IsList (input input' : Option (List ℕ)) (net : Network) : Type 0 wh
   pub faultless : fault_of list ≡ None
   pub named : net ≡ network_of list
 
+-- the bytes are a text whose table has no fault, and this is the network list that the table names
+pub record IsListOf (bytes : List ℕ) (net : Network) : Type 0 where
+  pub list : Members
+  pub utf8 : IsUtf8 bytes
+  pub parsed : parse_document bytes ≡ Some list
+  pub faultless : fault_of list ≡ None
+  pub named : net ≡ network_of list
+
 -- the input was read to its end, and a fault applies to its bytes
 pub record IsFaultyText (input input' : Option (List ℕ)) : Type 0 where
   pub bytes : List ℕ
@@ -70,6 +78,11 @@ pub record RefusesList (input input' output output' : Option (List ℕ)) : Type 
 -- nothing was written, or the line of a network list was to be written
 abbrev pub FailsToCheck : Option (List ℕ) → Option (List ℕ) → Option (List ℕ) → Option (List ℕ) → Type 0
 FailsToCheck input input' output output' = (output' ≡ output) ⊎ ((net : Network) × IsList input input' net)
+
+-- what a fault says of the bytes: that one applies to them; want of memory says nothing
+abbrev pub IsFaultOf : List ℕ → CheckFault → Type 0
+IsFaultOf bytes (fault.List f) = HasFault bytes
+IsFaultOf bytes (fault.Input f) = Unit {0}
 
 -- what a fault says of the input; of a failed read, or of want of memory, it says nothing
 abbrev pub IsFaulty : Option (List ℕ) → Option (List ℕ) → CheckFault → Type 0

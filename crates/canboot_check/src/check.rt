@@ -3,9 +3,11 @@ ghost use Rattle.std.specs.Io.KnownBytes.{Appends};
 ghost use Rattle.canboot_check.specs.Check.{
   Checks,
   FailsToCheck,
+  IsFaultOf,
   IsFaultOfList,
   IsFaulty,
   IsList,
+  IsListOf,
   RefusesList,
   check_line,
   kept_ids,
@@ -60,6 +62,22 @@ pub enum CheckFault {
     Input(InputFault),
 }
 
+/// The network list that bytes say in TOML. A fault of the list is the first that applies to the bytes, which aren't TOML where they
+/// aren't UTF-8; any other fault is want of memory.
+pub fn list_of(alloc: Global, bytes: &[u8]) -> Result<Network, CheckFault>
+    ensures list { IfOk result (IsListOf bytes.now) }
+    ensures faulty { IfErr result (IsFaultOf bytes.now) }
+{
+    let Ok(text) = str::from_utf8(bytes) else {
+        return Err(CheckFault::List(NetFault::NotToml));
+    };
+    match Network::from_toml(alloc, text) {
+        Ok(network) => Ok(network),
+        Err(NetFault::OutOfMemory) => Err(CheckFault::Input(InputFault::Memory)),
+        Err(fault) => Err(CheckFault::List(fault)),
+    }
+}
+
 /// Reads a network list in TOML to the end of the input. A fault of the list is the first that applies
 /// to the bytes, which aren't TOML where they aren't UTF-8; any other fault is of the input: a read
 /// failed, the input is longer than 1,048,576 bytes, or memory was refused.
@@ -71,14 +89,7 @@ pub fn read_list<R: Read>(alloc: Global, reader: &mut R) -> Result<Network, Chec
         Ok(bytes) => bytes,
         Err(fault) => return Err(CheckFault::Input(fault)),
     };
-    let Ok(text) = str::from_utf8(&bytes) else {
-        return Err(CheckFault::List(NetFault::NotToml));
-    };
-    match Network::from_toml(alloc, text) {
-        Ok(network) => Ok(network),
-        Err(NetFault::OutOfMemory) => Err(CheckFault::Input(InputFault::Memory)),
-        Err(fault) => Err(CheckFault::List(fault)),
-    }
+    list_of(alloc, bytes.as_slice())
 }
 
 /// Writes the line of fault of a network list that wasn't read, and gives its exit status: 1 for a fault

@@ -10,7 +10,8 @@ mod replay;
 mod status;
 
 pub use check::{
-    CheckFault, LONGEST_LIST, check_text, count_kept, count_mandatory, put_check, read_list, refuse,
+    CheckFault, LONGEST_LIST, check_text, count_kept, count_mandatory, list_of, put_check,
+    read_list, refuse,
 };
 pub use mend::{mend_text, mends_one, mends_torn};
 pub use program::{check_file, read_fault, run, run_words};

@@ -1,3 +1,4 @@
 mod DeviceFiles
 mod Added
 mod Given
+mod Values

@@ -6,3 +6,6 @@ pub mod Imports
 pub mod SettingsMade
 pub mod Scans
 pub mod Compared
+pub mod ListKeys
+pub mod FaultPlaces
+pub mod StartWarnings

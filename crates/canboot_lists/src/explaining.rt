@@ -151,7 +151,7 @@ fn put_slaves<W: Write>(network: &Network, out: &mut W) -> io::Result<()>
 }
 
 /// What is said with a warning of a slave.
-fn warning_words(warning: SlaveWarning) -> &'static str
+pub(crate) fn warning_words(warning: SlaveWarning) -> &'static str
     ensures { result.now ≡ warning_words warning }
 {
     match warning {

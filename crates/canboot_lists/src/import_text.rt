@@ -26,7 +26,7 @@ fn put_letter<W: Write>(letter: char, out: &mut W) -> io::Result<()> {
 }
 
 /// Writes a name in UTF-8, the first characters of a long one.
-fn put_text<W: Write>(name: &str, out: &mut W) -> io::Result<()> {
+pub(crate) fn put_text<W: Write>(name: &str, out: &mut W) -> io::Result<()> {
     for letter in name.chars().take(LONGEST_NAME) {
         put_letter(letter, out)?;
     }

@@ -3,9 +3,13 @@
 ghost use Rattle.std.specs.Prelude.{◌≡◌, ◌≤◌, IfOk, None, false, is_some, true};
 ghost use Rattle.canboot_run.specs.Files.{is_same_file};
 
+use crate::refusing::{read_fault_of, refuse_explained};
 use crate::running::{run_listed, unlisted_line};
 use crate::simulation::Options;
-use canboot_check::{FAILED, MISUSED, fault_line, read_fault, read_list, refuse};
+use canboot_check::{
+    FAILED, LONGEST_LIST, MISUSED, fault_line, input_fault_line, list_of, read_fault, refuse,
+};
+use cm_text::read_input;
 use std::fs;
 use std::io::{self, BufWriter, Write};
 use std::os::unix::fs::MetadataExt;
@@ -13,14 +17,16 @@ use std::rt::Files;
 use std::sync::Wait;
 use std::thread::Threads;
 
-/// `canboot run`, over the file of this path, as [`run_text`](crate::run_text) does: 2 also where the journal's file would be the list itself, and
-/// nothing is done then, 3 for a file that can't be opened or made. The journal's file, if there is one, is made behind the look whether
-/// the slaves with faults are listed, and also where the list is refused.
+/// `canboot run`, over the file of this path, as [`run_text`](crate::run_text) does: 2 also where the journal's file would be the
+/// list itself, and nothing is done then, 3 for a file that can't be opened or made. The journal's file, if there is one, is made
+/// once the list is read, behind the look whether the slaves with faults are listed, and also where the list has a fault. Where it is
+/// to be explained, `err` has behind the line of a fault where the list has it, or which file can't be opened and why.
 pub fn run_file<R: Files + AllocGlobal + Wait + Threads + Send + Sync, W: Write, E: Write>(
     rt: &R,
     path: &str,
     options: &Options,
     journal: Option<&str>,
+    is_explained: bool,
     out: &mut W,
     err: &mut E,
 ) -> u8
@@ -30,12 +36,17 @@ pub fn run_file<R: Files + AllocGlobal + Wait + Threads + Send + Sync, W: Write,
 {
     let mut list = match fs::open(rt, path) {
         Ok(file) => file,
+        Err(error) if is_explained => return read_fault_of(err, path, error.kind()),
         Err(error) => return read_fault(err, error.kind()),
     };
     if is_list(rt, path, journal) {
         return fault_line(err, MISUSED, "the file of the journal is the network list");
     }
-    let network = read_list(rt.alloc(), &mut list);
+    let text = match read_input(rt.alloc(), &mut list, LONGEST_LIST) {
+        Ok(text) => text,
+        Err(fault) => return input_fault_line(err, fault),
+    };
+    let network = list_of(rt.alloc(), text.as_slice());
     if let Ok(network) = &network
         && let Some(node) = options.faults.unlisted(network)
     {
@@ -47,6 +58,7 @@ pub fn run_file<R: Files + AllocGlobal + Wait + Threads + Send + Sync, W: Write,
     };
     match network {
         Ok(network) => run_listed(rt, rt.alloc(), &network, options, out, err, &mut journal),
+        Err(fault) if is_explained => refuse_explained(rt.alloc(), text.as_slice(), fault, err),
         Err(fault) => refuse(err, fault),
     }
 }

@@ -139,7 +139,7 @@ fn run_words<R: Files + AllocGlobal + Wait + Threads + Send + Sync, W: Write, E:
                 faults: SlaveFaults::none(rt.alloc()),
             };
             match read_options(rest, &mut options, err) {
-                Ok(journal) => run_file(rt, network.as_str(), &options, journal, out, err),
+                Ok(journal) => run_file(rt, network.as_str(), &options, journal, false, out, err),
                 Err(status) => status,
             }
         }

@@ -41,6 +41,12 @@ fn a_network_is_booted_on_a_bus(rt: HostRuntime) -> Result<(), Fail> {
             .starts_with(b"phase ready\nown operational\n")
     );
     assert!(&rt; has(printed.out.as_slice(), b"\nopen 0\nframe 82 00\n"));
+    assert!(&rt;
+        has(
+            printed.err.as_slice(),
+            b"warning: slave 126: no heartbeat time, "
+        )
+    );
     // The last ones may be told no more, where the operator ends the run.
     assert!(&rt; has(printed.err.as_slice(), b"node 1: status Ok, started\n"));
     assert!(&rt; has(printed.err.as_slice(), b" done\n"));

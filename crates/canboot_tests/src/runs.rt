@@ -13,8 +13,9 @@ use std::sync::Wait;
 use std::test::Fail;
 use std::thread::Threads;
 
+/// A slave that is guarded, so that the list is warned of nothing.
 const LIST: &[u8] =
-    b"own = 1\nstartup = 1\n\n[[slave]]\nid = 2\nassignment = 13\ndevice_type = 0x00020192\n";
+    b"own = 1\nstartup = 1\n\n[[slave]]\nid = 2\nassignment = 0x0064030D\ndevice_type = 0x00020192\n";
 
 /// The report of that list, where slave 2 is silent.
 const REPORT: &[u8] =
@@ -23,7 +24,7 @@ const REPORT: &[u8] =
 /// Its journal.
 const JOURNAL: &[u8] = b"canboot journal 2\n\
     network own 1 startup 00000001 boottime 0 seats 2 limit 4096\n\
-    slave 2 assign 0000000D type 00020192 vendor 00000000 product 00000000 revision 00000000 serial 00000000 \
+    slave 2 assign 0064030D type 00020192 vendor 00000000 product 00000000 revision 00000000 serial 00000000 \
     heartbeat 0 date 00000000 time 00000000 writes 0\n\
     entry 1 start = started / reset-unkept\n\
     entry 2 begin 2 = begun 1 / none\n\
@@ -33,6 +34,10 @@ const JOURNAL: &[u8] = b"canboot journal 2\n\
 
 /// How a report begins where all 126 slaves were booted.
 const ALL_BOOTED: &[u8] = b"phase ready\nown operational\nentries 254\nopen 0\nframe 82 00\n";
+
+/// What is said of a slave that is neither guarded nor has a heartbeat time.
+const UNWATCHED: &str =
+    "no heartbeat time, and no guard time with a retry factor: nobody notices that it is gone";
 
 const NOT_MASTER: &[u8] = b"canboot: start refused: 1 NotMaster\n";
 
@@ -66,9 +71,23 @@ pub(crate) fn full_list(alloc: Global) -> Result<Vec<u8>, Fail> {
     Ok(list)
 }
 
+/// What that list is warned of.
+fn full_warnings(alloc: Global) -> Result<Vec<u8>, Fail> {
+    let mut lines: Vec<u8> = Vec::new(alloc);
+    for id in 1..127 {
+        writeln!(lines, "canboot: warning: slave {id}: {UNWATCHED}")?;
+    }
+    Ok(lines)
+}
+
 /// Runs on that list with 16 workers, and asserts that the journal is one, whose report is the one
-/// that was written, and that all slaves were booted.
-fn is_replayed<R: Wait + Threads + Abort + Send + Sync>(rt: &R, alloc: Global, list: &[u8]) {
+/// that was written, that all slaves were booted, and that just these warnings are told.
+fn is_replayed<R: Wait + Threads + Abort + Send + Sync>(
+    rt: &R,
+    alloc: Global,
+    list: &[u8],
+    warnings: &[u8],
+) {
     let options = Options {
         workers: 16,
         attempts: 2,
@@ -88,7 +107,7 @@ fn is_replayed<R: Wait + Threads + Abort + Send + Sync>(rt: &R, alloc: Global, l
         &mut journal,
     );
     assert_eq!(rt; status, 0);
-    assert_eq!(rt; err.len(), 0);
+    assert_eq!(rt; err.as_slice(), warnings);
     let Some(journal) = journal else {
         panic!(rt; "no journal");
     };
@@ -103,8 +122,9 @@ fn is_replayed<R: Wait + Threads + Abort + Send + Sync>(rt: &R, alloc: Global, l
 #[test]
 fn sixteen_workers_leave_journals_that_are_replayed(rt: HostRuntime) -> Result<(), Fail> {
     let list = full_list(rt.alloc())?;
+    let warnings = full_warnings(rt.alloc())?;
     for _ in 0..RUNS {
-        is_replayed(&rt, rt.alloc(), list.as_slice());
+        is_replayed(&rt, rt.alloc(), list.as_slice(), warnings.as_slice());
     }
     Ok(())
 }

@@ -1,5 +1,5 @@
 -- Working definitions: when what a teller keeps is what a history says, and what it says of an entry is what the history has (own).
-use Rattle.std.specs.Prelude.{◌≡◌, ◌+◌, true, List, [], ◌∷◌, length, option_map}
+use Rattle.std.specs.Prelude.{◌≡◌, ◌+◌, true, List, ◌∷◌, length, option_map}
 use Rattle.cm_history.specs.Phases.{is_halted}
 use Rattle.cm_history.specs.declared.call.Entry.{Entry}
 use Rattle.cm_netlist.specs.Network.{Network}

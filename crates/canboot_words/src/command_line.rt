@@ -1,6 +1,7 @@
 ghost use Rattle.std.specs.Prelude.{◌≤◌, IfOk};
 ghost use Rattle.canboot_words.specs.CommandLine.{IsInRange};
 
+use crate::explain_words::{explain_argument, json_argument};
 use crate::help::{ABOUT, AFTER};
 use crate::help_check::{ABOUT_CHECK, HELP_CHECK};
 use crate::importing::{import_action, import_command};
@@ -9,7 +10,7 @@ use crate::live::{live_action, live_command};
 use crate::running::{SlaveWords, run_action, run_command};
 use crate::scanning::{ScanWords, scan_action, scan_command};
 use clap::error::ErrorKind;
-use clap::{Arg, ArgAction, ArgMatches, Command, Error, value_parser};
+use clap::{Arg, ArgMatches, Command, Error, value_parser};
 use cm_nmt::NodeId;
 use std::alloc::{AllocError, Global};
 
@@ -118,6 +119,8 @@ pub enum Action<'a> {
         attempts: u8,
         slaves: SlaveWords<'a>,
         journal: Option<&'a str>,
+        /// Whether it is said where the list has its fault.
+        is_explained: bool,
     },
     /// Boot a network on a CAN bus and watch it, print the report, and write the journal, if there is a path for it.
     Live(LiveWords<'a>),
@@ -209,21 +212,6 @@ pub(crate) fn described<'a>(
     help: &'a str,
 ) -> Command<'a> {
     Command::new(alloc, name).about(about).long_about(help)
-}
-
-fn explain_argument<'a>(alloc: Global) -> Result<Arg<'a>, AllocError> {
-    let help = "Says in words what the list comes to, and what it is warned of";
-    argument(alloc, "explain", help)
-        .long("explain")
-        .action(ArgAction::SetTrue)
-        .conflicts_with("json")
-}
-
-pub(crate) fn json_argument<'a>(alloc: Global) -> Arg<'a> {
-    let help = "Prints a JSON object, and a fault as one too";
-    argument(alloc, "json", help)
-        .long("json")
-        .action(ArgAction::SetTrue)
 }
 
 fn check_command<'a>(alloc: Global) -> Result<Command<'a>, AllocError> {

@@ -181,7 +181,11 @@ listed ('node 9 isn't in the network list'); nothing is printed
 memory; or 'no worker', where a thread couldn't be made
 
 Nothing is printed on standard output where no report is due; standard error has one line that says \
-why.
+why, and with --explain one behind it that says where, as 'canboot check --explain' does.
+
+Before the boot standard error has a line 'canboot: warning: slave ID: ..' for each slave that any \
+device is taken for, that nobody watches, or that nothing makes send its heartbeat in time; 'canboot \
+check --explain' says the same. These are no faults.
 
 Examples:
   canboot run examples/lists/one-slave.toml
@@ -264,6 +268,9 @@ boot came to. What a line comes to is told on standard error, with its place in 
 the call as a journal spells it, as '17 request 5 4: done' or '18 request 128 5: refused 12: a \
 mandatory slave isn't booted'. Of any other line it is said what is wrong with it, and nothing \
 happens.
+
+Before the first call standard error has the same warnings as 'canboot run' gives before its boot, \
+without 'canboot: '.
 
 Progress goes to standard error as well, a line for each change in the order of the history, such \
 as 'node 5: begun 1', 'node 5: status Ok, started' and 'network ready'. It says in words what a \

@@ -87,6 +87,11 @@ Where faults apply, standard error names the first of these that applies anywher
   too many writes  a slave has more than 32 writes
   value too wide   a write of size 1 has a value above 255, or one of size 2 above 65,535
 
+With --explain a line behind it says where, as '  line 9, slave 4: heartbeat =
+70000: 0 to 65535 ms': the line of the list, the slave, the key and its value,
+and what is allowed there; of an unknown key which known one is like it. A file
+that can't be opened is named with the system's reason.
+
 Exit statuses:
   0  the list has no fault, and the line is printed, with --explain all of it
   1  the list has a fault

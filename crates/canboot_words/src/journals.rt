@@ -1,6 +1,7 @@
 //! The commands that take a journal on standard input.
 
-use crate::command_line::{described, json_argument, option};
+use crate::command_line::{described, option};
+use crate::explain_words::json_argument;
 use crate::help::{ABOUT_MEND, ABOUT_REPLAY, ABOUT_TELL, HELP_MEND, HELP_REPLAY, HELP_TELL};
 use crate::help_picture::{ABOUT_PICTURE, HELP_PICTURE};
 use clap::{Arg, Command, value_parser};

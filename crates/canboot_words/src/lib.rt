@@ -12,6 +12,7 @@ mod event_entry;
 mod event_fields;
 mod event_network;
 mod event_notice;
+mod explain_words;
 mod help;
 mod help_check;
 mod help_import;

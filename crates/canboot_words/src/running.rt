@@ -7,6 +7,7 @@ use crate::command_line::{
     Action, NoAction, WORKERS, attempts_argument, described, journal_argument, network_argument,
     number_of, option, text_of, workers_argument,
 };
+use crate::explain_words::explain_fault_argument;
 use crate::help::{ABOUT_RUN, HELP_RUN};
 use clap::{Arg, ArgAction, ArgMatches, Command};
 use std::alloc::{AllocError, Global};
@@ -54,6 +55,7 @@ pub(crate) fn run_command<'a>(alloc: Global) -> Result<Command<'a>, AllocError> 
         aborts_argument(alloc),
         dies_argument(alloc),
         journal_argument(alloc),
+        explain_fault_argument(alloc),
     ]?;
     described(alloc, "run", ABOUT_RUN, HELP_RUN).args(arguments)
 }
@@ -94,5 +96,6 @@ pub(crate) fn run_action<'a>(alloc: Global, given: &ArgMatches<'a>) -> Result<Ac
         attempts: number_of(given, "attempts", 10),
         slaves,
         journal: given.get_str("journal"),
+        is_explained: given.get_flag("explain"),
     })
 }

@@ -4,9 +4,10 @@ ghost use Rattle.std.specs.Prelude.{◌≤◌, IfOk};
 ghost use Rattle.canboot_words.specs.CommandLine.{IsInRange};
 
 use crate::command_line::{
-    Action, BusPaths, NoAction, ReportForm, argument, described, json_argument, listed, node_of,
-    number_of, option, report_form, text_of, workers_argument,
+    Action, BusPaths, NoAction, ReportForm, argument, described, listed, node_of, number_of,
+    option, report_form, text_of, workers_argument,
 };
+use crate::explain_words::json_argument;
 use crate::help_scan::{ABOUT_SCAN, HELP_SCAN, USAGE_SCAN};
 use crate::live::{
     adapter_argument, answer_argument, bus_group, bus_paths, milliseconds_of, receive_argument,

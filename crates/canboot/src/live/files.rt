@@ -8,14 +8,14 @@ use crate::live::operator_input::{OperatorInput, open_operator};
 use crate::live::paths::wrong_path;
 use crate::live::{Followed, LiveEnds, LiveOptions, ReplaceFile, StatusFile, live_text};
 use canboot_check::{
-    CheckFault, FAILED, LONGEST_LIST, MISUSED, REFUSED, fault_line, read_fault, read_list, refuse,
+    FAILED, LONGEST_LIST, MISUSED, REFUSED, fault_line, input_fault_line, list_of, read_fault,
 };
-use canboot_run::write_fault;
+use canboot_run::{read_fault_of, refuse_explained, write_fault};
 use canboot_words::{
     BusPaths, JournalPath, LivePaths, LiveWords, Names, NamesFault, ShownLines, read_names,
 };
 use cm_live::{Format, Outlet};
-use cm_text::{InputFault, read_input};
+use cm_text::read_input;
 use std::alloc::Global;
 use std::fs::{self, File, OpenOptions};
 use std::io::{self, BufWriter, ErrorKind, StdinLock, Write};
@@ -50,22 +50,54 @@ fn options_of(words: &LiveWords<'_>) -> LiveOptions
     }
 }
 
-/// Opens a bus: where frames are read, and where they are written.
-pub(crate) fn open_bus<R: Files<File = File>>(
+/// Opens where frames are read, and where they are written.
+fn open_both<R: Files<File = File>>(
+    rt: &R,
+    receive: &str,
+    send: &str,
+) -> Result<(File, File), Unopened> {
+    let received = match fs::open(rt, receive) {
+        Ok(file) => file,
+        Err(error) => return Err(Unopened::Received(error.kind())),
+    };
+    match OpenOptions::new().write(true).open(rt, send) {
+        Ok(sent) => Ok((received, sent)),
+        Err(error) => Err(Unopened::Sent(error.kind())),
+    }
+}
+
+/// Opens a serial adapter.
+fn open_adapter<R: Files<File = File>>(rt: &R, device: &str) -> io::Result<(File, File)> {
+    let sent = OpenOptions::new().read(true).write(true).open(rt, device)?;
+    let received = sent.try_clone()?;
+    Ok((received, sent))
+}
+
+/// Why a bus can't be opened: which of its files can't.
+#[derive(Clone, Copy)]
+enum Unopened {
+    Received(ErrorKind),
+    Sent(ErrorKind),
+}
+
+/// Opens a bus: where frames are read, and where they are written. The answer is else the exit status.
+pub(crate) fn open_bus<R: Files<File = File>, E: Write>(
     rt: &R,
     bus: &BusPaths<'_>,
-) -> io::Result<(File, File)> {
+    err: &mut E,
+) -> Result<(File, File), u8>
+    ensures { IfErr result (λ status. status ≡ 3) }
+{
     match bus {
-        BusPaths::CanUtils { receive, send } => {
-            let received = fs::open(rt, *receive)?;
-            let sent = OpenOptions::new().write(true).open(rt, *send)?;
-            Ok((received, sent))
-        }
-        BusPaths::Adapter { device } => {
-            let sent = OpenOptions::new().read(true).write(true).open(rt, *device)?;
-            let received = sent.try_clone()?;
-            Ok((received, sent))
-        }
+        BusPaths::CanUtils { receive, send } => match open_both(rt, *receive, *send) {
+            Ok(opened) => Ok(opened),
+            Err(Unopened::Received(kind)) => Err(read_fault_of(err, *receive, kind)),
+            Err(Unopened::Sent(kind)) => Err(read_fault_of(err, *send, kind)),
+        },
+        BusPaths::Adapter { device } => match open_adapter(rt, *device) {
+            Ok(opened) => Ok(opened),
+            Err(error) => Err(read_fault_of(err, *device, error.kind())),
+        },
     }
 }
 
@@ -110,17 +142,20 @@ fn operator_fault<E: Write>(err: &mut E, kind: ErrorKind) -> u8
     }
 }
 
-/// The bytes of the file of this path.
-fn read_file<R: Files + AllocGlobal>(rt: &R, path: &str) -> Result<Vec<u8>, CheckFault> {
+/// The bytes of the file of this path. The answer is else the exit status; the line of fault is written, and why the file can't be opened.
+pub(crate) fn read_file<R: Files + AllocGlobal, E: Write>(
+    rt: &R,
+    path: &str,
+    err: &mut E,
+) -> Result<Vec<u8>, u8>
+    ensures { IfErr result (λ status. status ≡ 3) }
+{
     match fs::open(rt, path) {
         Ok(mut file) => match read_input(rt.alloc(), &mut file, LONGEST_LIST) {
             Ok(text) => Ok(text),
-            Err(fault) => Err(CheckFault::Input(fault)),
+            Err(fault) => Err(input_fault_line(err, fault)),
         },
-        Err(error) => Err(CheckFault::Input(match error.kind() {
-            ErrorKind::OutOfMemory => InputFault::Memory,
-            _ => InputFault::Read,
-        })),
+        Err(error) => Err(read_fault_of(err, path, error.kind())),
     }
 }
 
@@ -135,9 +170,9 @@ fn read_names_file<R: Files + AllocGlobal, E: Write>(
     let Some(path) = path else {
         return Ok(Names::new(rt.alloc()));
     };
-    let text = match read_file(rt, path) {
+    let text = match read_file(rt, path, err) {
         Ok(text) => text,
-        Err(fault) => return Err(refuse(err, fault)),
+        Err(status) => return Err(status),
     };
     match read_names(rt.alloc(), text.as_slice()) {
         Ok(names) => Ok(names),
@@ -215,9 +250,9 @@ fn open_ends<
         Ok(typed) => typed,
         Err(error) => return Err(operator_fault(err, error.kind())),
     };
-    let (received, sent) = match open_bus(rt, bus) {
+    let (received, sent) = match open_bus(rt, bus, err) {
         Ok(opened) => opened,
-        Err(error) => return Err(read_fault(err, error.kind())),
+        Err(status) => return Err(status),
     };
     // One for each worker, one for error control, and one for the NMT messages.
     let mut written = match writers_to(rt.alloc(), &sent, options.workers + 2) {
@@ -322,13 +357,13 @@ pub(crate) fn live_file<
     ensures statuses { result ≤ 3 }
 {
     let (paths, options) = (&words.paths, options_of(words));
-    let text = match read_file(rt, paths.network) {
+    let text = match read_file(rt, paths.network, err) {
         Ok(text) => text,
-        Err(fault) => return refuse(err, fault),
+        Err(status) => return status,
     };
-    let is_master = match read_list(rt.alloc(), &mut text.as_slice()) {
+    let is_master = match list_of(rt.alloc(), text.as_slice()) {
         Ok(network) => network.startup().is_master(),
-        Err(fault) => return refuse(err, fault),
+        Err(fault) => return refuse_explained(rt.alloc(), text.as_slice(), fault, err),
     };
     if let Some(wrong) = wrong_path(rt, paths) {
         return fault_line(err, MISUSED, wrong);

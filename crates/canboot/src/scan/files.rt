@@ -2,16 +2,18 @@
 
 ghost use Rattle.std.specs.Prelude.{◌≡◌, ◌≤◌, ◌⊎◌, IfErr};
 
-use crate::live::files::{channel_closing, channel_opening, format_of, open_bus, writers_to};
+use crate::live::files::{
+    channel_closing, channel_opening, format_of, open_bus, read_file, writers_to,
+};
 use crate::scan::{ListForm, ScanEnds, ScanOptions, scan_check, scan_text};
-use canboot_check::{FAILED, MISUSED, fault_line, read_fault, read_list, refuse};
-use canboot_run::{node_list, write_fault};
+use canboot_check::{FAILED, MISUSED, fault_line, list_of};
+use canboot_run::{node_list, refuse_explained, write_fault};
 use canboot_words::{ReportForm, ScanOutput, ScanWords};
 use cm_history::NodeSet;
 use cm_netlist::Network;
 use cm_nmt::NodeId;
 use std::alloc::{AllocError, Global};
-use std::fs::{self, File};
+use std::fs::File;
 use std::io::{BufWriter, Write};
 use std::rt::Files;
 use std::sync::Wait;
@@ -38,13 +40,13 @@ fn read_output<R: Files + AllocGlobal, E: Write>(
             own: *own,
             with_profiles: *with_profiles,
         })),
-        ScanOutput::Differences { network, form } => match fs::open(rt, *network) {
-            Ok(mut file) => match read_list(rt.alloc(), &mut file) {
+        ScanOutput::Differences { network, form } => {
+            let text = read_file(rt, *network, err)?;
+            match list_of(rt.alloc(), text.as_slice()) {
                 Ok(network) => Ok(Output::Differences(network, *form)),
-                Err(fault) => Err(refuse(err, fault)),
-            },
-            Err(error) => Err(read_fault(err, error.kind())),
-        },
+                Err(fault) => Err(refuse_explained(rt.alloc(), text.as_slice(), fault, err)),
+            }
+        }
     }
 }
 
@@ -138,9 +140,9 @@ pub(crate) fn scan_file<
         answer_ms: words.answer_ms,
         format: format_of(&words.bus),
     };
-    let (received, mut sent) = match open_bus(rt, &words.bus) {
+    let (received, mut sent) = match open_bus(rt, &words.bus, err) {
         Ok(opened) => opened,
-        Err(error) => return read_fault(err, error.kind()),
+        Err(status) => return status,
     };
     let written = match writers_to(alloc, &sent, options.workers) {
         Ok(written) => written,
