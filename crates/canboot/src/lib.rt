@@ -10,16 +10,23 @@ mod json;
 mod live;
 mod picture;
 mod program;
+mod replaying;
 mod report;
 mod scan;
+mod simulated;
 mod tell;
 
 pub use canboot_check::{
     DONE, FAILED, LONGEST_JOURNAL, LONGEST_LIST, MISUSED, REFUSED, check_text, replay_text,
 };
 pub use canboot_lists::ImportWords;
-pub use canboot_run::{JournalOutput, LONGEST_RUN, Options, SlaveFaults, run_text};
-pub use canboot_words::{Action, CheckOutput, NoAction, ReportForm, SlaveWords, read_words};
+pub use canboot_run::{
+    JournalOutput, LONGEST_RUN, Options, ReportLines, SlaveFaults, WriteReport, run_text,
+    run_text_as,
+};
+pub use canboot_words::{
+    Action, CheckOutput, NoAction, ReplayOutput, ReportForm, RunWords, SlaveWords, read_words,
+};
 pub use cm_live::Outlet;
 pub use explain::explain_text;
 pub use importing::{LONGEST_DEVICE_FILE, import_text};
@@ -30,5 +37,7 @@ pub use live::{
 };
 pub use picture::picture_text;
 pub use program::{run, run_words};
+pub use replaying::replay_explained;
+pub use report::ReportObject;
 pub use scan::{ListForm, ScanEnds, ScanOptions, scan_check, scan_text};
 pub use tell::tell_text;

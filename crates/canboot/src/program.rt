@@ -1,4 +1,4 @@
-ghost use Rattle.std.specs.Prelude.{◌≡◌, ◌≤◌, IfErr, IfOk};
+ghost use Rattle.std.specs.Prelude.{◌≡◌, ◌≤◌, IfOk};
 ghost use Rattle.std.specs.Io.KnownBytes.{Appends};
 ghost use Rattle.canboot.specs.Program.{EndsWithout};
 
@@ -8,14 +8,15 @@ use crate::json::{check_file_as_json, replay_as_json};
 use crate::live::ReplaceFile;
 use crate::live::files::live_file;
 use crate::picture::picture_text;
+use crate::replaying::replay_explained;
 use crate::scan::files::scan_file;
+use crate::simulated::run_simulated;
 use crate::tell::tell_text;
 use canboot_check::{
     FAILED, MISUSED, check_file, fault_line, mend_text, output_status, read_fault, replay_text,
 };
 use canboot_lists::ImportWords;
-use canboot_run::{Options, SlaveFaults, SlaveOption, run_file, set_fault};
-use canboot_words::{Action, CheckOutput, NoAction, ReportForm, SlaveWords, read_words};
+use canboot_words::{Action, CheckOutput, FaultObjects, NoAction, ReplayOutput, read_words};
 use std::alloc::Global;
 use std::env;
 use std::fs::File;
@@ -99,8 +100,8 @@ fn has_no_color<R: Env + AllocGlobal>(rt: &R) -> bool {
 
 /// Runs canboot on these words, of which the first is the program's name, with these streams, and gives its exit status: that of
 /// [`check_file`], [`explain_text`](crate::explain_text), [`import_text`](crate::import_text), [`scan_text`](crate::scan_text),
-/// [`scan_check`](crate::scan_check), [`run_file`], [`live_text`](crate::live_text), [`replay_text`], [`mend_text`], [`tell_text`] or
-/// [`picture_text`], 0 for help and the version, 2 for wrong words, 3 for a file that can't be opened or made. Where `err` is a
+/// [`scan_check`](crate::scan_check), [`run_file`](canboot_run::run_file), [`live_text`](crate::live_text), [`replay_text`],
+/// [`replay_explained`], [`mend_text`], [`tell_text`] or [`picture_text`], 0 for help and the version, 2 for wrong words, 3 for a file that can't be opened or made. Where `err` is a
 /// terminal, a live run says the time with each line there.
 pub fn run_words<
     R: Files<File = File>
@@ -146,75 +147,42 @@ pub fn run_words<
             };
             import_file(rt, file, words, out, err)
         }
-        Ok(
-            Action::Run {
-                network,
-                workers,
-                attempts,
-                slaves,
-                journal,
-                is_explained,
-            },
-        ) => match faults_of(rt.alloc(), &slaves, err) {
-            Ok(faults) => {
-                let options = Options {
-                    workers,
-                    attempts,
-                    faults,
-                };
-                run_file(rt, network, &options, journal, is_explained, out, err)
-            }
-            Err(status) => status,
-        },
-        Ok(Action::Scan(words)) => scan_file(rt, &words, out, err),
-        Ok(Action::Live(words)) => live_file(rt, &words, files, out, err, is_coloured),
-        Ok(Action::Replay(ReportForm::Text)) => replay_text(rt.alloc(), input, out, err),
-        Ok(Action::Replay(ReportForm::Json)) => replay_as_json(rt.alloc(), input, out, err),
+        Ok(Action::Run(words)) => run_simulated(rt, &words, out, err),
+        Ok(Action::Scan(words)) => {
+            let mut err = FaultObjects::new(rt.alloc(), words.output.form(), err);
+            let status = scan_file(rt, &words, out, &mut err);
+            err.end(status)
+        }
+        Ok(Action::Live(words)) => {
+            let mut err = FaultObjects::new(rt.alloc(), words.report, err);
+            let status = live_file(rt, &words, files, out, &mut err, is_coloured);
+            err.end(status)
+        }
+        Ok(Action::Replay(output)) => replay_as(rt.alloc(), output, input, out, err),
         Ok(Action::Mend) => mend_text(rt.alloc(), input, out, err),
-        Ok(Action::Tell { node }) => tell_text(rt.alloc(), input, node, out, err),
+        Ok(Action::Tell { node, is_explained }) => {
+            tell_text(rt.alloc(), input, node, is_explained, out, err)
+        }
         Ok(Action::Picture) => picture_text(rt.alloc(), input, out, err),
         Err(none) => say(&none, out, err),
     }
 }
 
-/// Adds what an option says that was given so often.
-fn set_faults<E: Write>(
-    faults: &mut SlaveFaults,
-    option: SlaveOption,
-    values: &[&str],
-    err: &mut E,
-) -> Result<(), u8>
-    ensures { IfErr result (λ status. status ≤ 3) }
-{
-    for value in values {
-        set_fault(faults, option, value, err)?;
-    }
-    Ok(())
-}
-
-/// What slaves do, as it was typed; the exit status where a text says nothing.
-fn faults_of<E: Write>(
+/// `canboot replay`, with what is to be printed.
+fn replay_as<I: Read, W: Write, E: Write>(
     alloc: Global,
-    words: &SlaveWords<'_>,
+    output: ReplayOutput,
+    input: &mut I,
+    out: &mut W,
     err: &mut E,
-) -> Result<SlaveFaults, u8>
-    ensures { IfErr result (λ status. status ≤ 3) }
+) -> u8
+    ensures statuses { result ≤ 3 }
 {
-    let mut faults = SlaveFaults::none(alloc);
-    if let Some(list) = words.silent {
-        set_fault(&mut faults, SlaveOption::Silent, list, err)?;
+    match output {
+        ReplayOutput::Text => replay_text(alloc, input, out, err),
+        ReplayOutput::Words => replay_explained(alloc, input, out, err),
+        ReplayOutput::Json => replay_as_json(alloc, input, out, err),
     }
-    if let Some(list) = words.dies {
-        set_fault(&mut faults, SlaveOption::Dies, list, err)?;
-    }
-    set_faults(&mut faults, SlaveOption::Wrong, words.wrong.as_slice(), err)?;
-    set_faults(
-        &mut faults,
-        SlaveOption::Aborts,
-        words.aborts.as_slice(),
-        err,
-    )?;
-    Ok(faults)
 }
 
 /// `canboot check`, over the file of this path, with what is to be printed.

@@ -6,7 +6,7 @@ ghost use Rattle.cm_sequential.specs.Standing.{Stands};
 ghost use Rattle.cm_format.specs.ReportJson.{report_json};
 ghost use Rattle.canboot.specs.Run.{report_in};
 
-use canboot_run::put_report;
+use canboot_run::{WriteReport, put_report};
 use canboot_words::ReportForm;
 use cm_history::Entry;
 use cm_netlist::Network;
@@ -27,6 +27,24 @@ fn put_object<W: Write>(
 {
     report_json_of(network, manager, entries, out)?;
     out.flush()
+}
+
+/// The report as one JSON object on a line.
+#[derive(Clone, Copy, Debug, PartialEq, Eq)]
+pub struct ReportObject;
+
+impl WriteReport for ReportObject {
+    ghost text = { report_json };
+
+    fn put<W: Write>(
+        &self,
+        network: &Network,
+        manager: &Manager,
+        entries: &[Entry],
+        out: &mut W,
+    ) -> io::Result<()> {
+        put_object(network, manager, entries, out)
+    }
 }
 
 /// Writes the report in this form, and all of it.

@@ -8,7 +8,8 @@ ghost use Rattle.canboot_check.specs.Replay.{FailsToReplay, Refuses};
 ghost use Rattle.canboot_words.specs.ToldHistory.{history_told};
 ghost use Rattle.canboot.specs.Tell.{TellsJournal};
 
-use canboot_check::{LONGEST_JOURNAL, input_fault_line, output_status, refuse_journal};
+use crate::replaying::refuse_bytes;
+use canboot_check::{LONGEST_JOURNAL, input_fault_line, output_status};
 use canboot_words::tell_history;
 use cm_journal::{Journal, journal_read};
 use cm_nmt::NodeId;
@@ -32,13 +33,14 @@ fn put_told<W: Write>(journal: &Journal, node: Option<NodeId>, out: &mut W) -> i
 ///
 /// - 0: the words are written;
 /// - 1: the bytes are no journal, or its entries aren't the manager's answers; `err` has one line that names the first line with a
-///   fault, and nothing is written to `out`;
+///   fault, behind it, where it is to be explained, what was expected there, and nothing is written to `out`;
 /// - 3: a read or a write failed, the input is longer than 268,435,456 bytes, or memory was refused; `err` has one line that says
 ///   which. Only where the input is a legal journal may anything be written to `out`.
 pub fn tell_text<R: Read, W: Write, E: Write>(
     alloc: Global,
     reader: &mut R,
     node: Option<NodeId>,
+    is_explained: bool,
     out: &mut W,
     err: &mut E,
 ) -> u8
@@ -59,6 +61,6 @@ pub fn tell_text<R: Read, W: Write, E: Write>(
     };
     match journal_read(alloc, bytes.as_slice()) {
         Ok(journal) => output_status(err, put_told(&journal, node, out)),
-        Err(fault) => refuse_journal(err, fault),
+        Err(fault) => refuse_bytes(alloc, bytes.as_slice(), fault, is_explained, err),
     }
 }

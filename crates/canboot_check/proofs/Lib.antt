@@ -5,3 +5,4 @@ pub mod MendLaws
 pub mod TornTexts
 pub mod Reread
 pub mod ListsRead
+pub mod ExpectedAnswers

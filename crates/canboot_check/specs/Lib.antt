@@ -1,4 +1,5 @@
 pub mod Check
 pub mod Ended
+pub mod Expected
 pub mod Mend
 pub mod Replay

@@ -2,11 +2,11 @@
 use Rattle.std.specs.Prelude.{◌≡◌, ◌⊎◌, ◌+◌, ℕ, List, Option, false}
 use Rattle.std.specs.Io.KnownBytes.{Appends}
 use Rattle.cm_nmt.specs.Bits.{has_bit}
+use Rattle.cm_history.specs.declared.call.Entry.{Entry}
 use Rattle.cm_netlist.specs.Network.{Network}
 use Rattle.cm_format.specs.Text.{JournalView, text}
 use Rattle.cm_format.specs.declared.version.Version.TheVariants.{Two}
 use Rattle.cm_format.specs.Journals.{IsJournal}
-use Rattle.cm_format.specs.Report.{report_text}
 pub use Rattle.canboot_run.specs.Recorded.{AppendsIfThere}
 use Rattle.canboot_check.specs.Check.{IsFaultyText, IsList}
 use Rattle.canboot_run.specs.Simulated.{IsSimulated}
@@ -23,15 +23,15 @@ pub record IsRun (workers limit : ℕ) (input input' : Option (List ℕ)) (j : J
   pub most : j.limit ≡ limit
 
 -- the input was read to its end and is a network list, in which each slave that is to die, to be wrong or to abort is listed; of the
--- legal history of a journal of it, which is that of a run with simulated slaves, just the report was written, and to the journal's
--- output, if there is one, just the text of that journal
-pub record Runs (workers attempts : ℕ) (faults : SlaveFaults) (limit : ℕ) (input input' output output' : Option (List ℕ))
+-- legal history of a journal of it, which is that of a run with simulated slaves, just the report was written, in the form that has
+-- this text, and to the journal's output, if there is one, just the text of that journal
+pub record Runs (report : Network → List Entry → List ℕ) (workers attempts : ℕ) (faults : SlaveFaults) (limit : ℕ) (input input' output output' : Option (List ℕ))
     (journal journal' : Option (Option (List ℕ))) : Type 0 where
   pub of : JournalView
   pub run : IsRun workers limit input input' of
   pub listed : AreListed of.network faults
   pub simulated : IsSimulated of.network workers attempts faults of.entries
-  pub reported : Appends output output' (report_text of.network of.entries)
+  pub reported : Appends output output' (report of.network of.entries)
   pub recorded : AppendsIfThere journal journal' (text of)
 
 -- the device isn't the NMT master: 1F80h bit 0 is clear (CiA 302-2)
@@ -83,14 +83,14 @@ pub record IsRunOn (net : Network) (workers limit : ℕ) (j : JournalView) : Typ
   pub seats : j.seats ≡ workers + 1
   pub most : j.limit ≡ limit
 
--- of the history of such a journal, which is that of a run with simulated slaves, just the report was written, and to the journal's
--- output, if there is one, just the text of that journal
-pub record RunsOn (net : Network) (workers attempts : ℕ) (faults : SlaveFaults) (limit : ℕ) (output output' : Option (List ℕ))
+-- of the history of such a journal, which is that of a run with simulated slaves, just the report was written, in the form that has
+-- this text, and to the journal's output, if there is one, just the text of that journal
+pub record RunsOn (report : Network → List Entry → List ℕ) (net : Network) (workers attempts : ℕ) (faults : SlaveFaults) (limit : ℕ) (output output' : Option (List ℕ))
     (journal journal' : Option (Option (List ℕ))) : Type 0 where
   pub of : JournalView
   pub run : IsRunOn net workers limit of
   pub simulated : IsSimulated of.network workers attempts faults of.entries
-  pub reported : Appends output output' (report_text of.network of.entries)
+  pub reported : Appends output output' (report of.network of.entries)
   pub recorded : AppendsIfThere journal journal' (text of)
 
 -- the report of such a history was to be written

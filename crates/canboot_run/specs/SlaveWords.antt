@@ -1,5 +1,5 @@
 -- How the words of a command line spell what slaves do (own).
-use Rattle.std.specs.Prelude.{◌≡◌, ◌+◌, ◌*◌, ◌^◌, ◌==◌, ◌&&◌, ℕ, Bool, false, if◌then◌else◌, nat_le, nat_lt, List, [], ◌∷◌, ◌++◌, Option, Some, None, is_some, length, bytes_eq, codes}
+use Rattle.std.specs.Prelude.{◌≡◌, ◌+◌, ◌*◌, ◌^◌, ◌==◌, ◌&&◌, ◌||◌, ℕ, Bool, false, if◌then◌else◌, nat_le, nat_lt, List, [], ◌∷◌, ◌++◌, Option, Some, None, is_some, length, bytes_eq, codes}
 use Rattle.std.specs.Char.{digit_value}
 use Rattle.std.specs.List.{list_all, list_any}
 use Rattle.cm_text.specs.FieldReading.{◌>>=◌, is_empty}
@@ -130,14 +130,14 @@ says option.Dies text = is_node_list text
 says option.Wrong text = is_some (wrong_in text)
 says option.Aborts text = is_some (aborted_in text)
 
--- just the nodes of the list are silent; all else is as before
+-- the nodes of the list are silent as well; all else is as before
 pub record AreSilent (text : List ℕ) (old new : SlaveFaults) : Type 0 where
-  pub nodes : (i : ℕ) → has new.silent i ≡ lists text i
+  pub nodes : (i : ℕ) → has new.silent i ≡ (has old.silent i || lists text i)
   pub kept : new ≡ record old { silent = new.silent }
 
--- just the nodes of the list die; all else is as before
+-- the nodes of the list die as well; all else is as before
 pub record AreDying (text : List ℕ) (old new : SlaveFaults) : Type 0 where
-  pub nodes : (i : ℕ) → has new.dying i ≡ lists text i
+  pub nodes : (i : ℕ) → has new.dying i ≡ (has old.dying i || lists text i)
   pub kept : new ≡ record old { dying = new.dying }
 
 -- one wrong value more is given, the one of the text

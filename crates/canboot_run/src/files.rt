@@ -6,6 +6,7 @@ ghost use Rattle.canboot_run.specs.Files.{is_same_file};
 use crate::refusing::{read_fault_of, refuse_explained};
 use crate::running::{run_listed, unlisted_line};
 use crate::simulation::Options;
+use crate::write_report::WriteReport;
 use canboot_check::{
     FAILED, LONGEST_LIST, MISUSED, fault_line, input_fault_line, list_of, read_fault, refuse,
 };
@@ -17,14 +18,20 @@ use std::rt::Files;
 use std::sync::Wait;
 use std::thread::Threads;
 
-/// `canboot run`, over the file of this path, as [`run_text`](crate::run_text) does: 2 also where the journal's file would be the
+/// `canboot run`, over the file of this path, as [`run_text_as`](crate::run_text_as) does: 2 also where the journal's file would be the
 /// list itself, and nothing is done then, 3 for a file that can't be opened or made. The journal's file, if there is one, is made
 /// once the list is read, behind the look whether the slaves with faults are listed, and also where the list has a fault. Where it is
 /// to be explained, `err` has behind the line of a fault where the list has it, or which file can't be opened and why.
-pub fn run_file<R: Files + AllocGlobal + Wait + Threads + Send + Sync, W: Write, E: Write>(
+pub fn run_file<
+    R: Files + AllocGlobal + Wait + Threads + Send + Sync,
+    P: WriteReport,
+    W: Write,
+    E: Write,
+>(
     rt: &R,
     path: &str,
     options: &Options,
+    report: &P,
     journal: Option<&str>,
     is_explained: bool,
     out: &mut W,
@@ -57,7 +64,16 @@ pub fn run_file<R: Files + AllocGlobal + Wait + Threads + Send + Sync, W: Write,
         Err(error) => return write_fault(err, error.kind()),
     };
     match network {
-        Ok(network) => run_listed(rt, rt.alloc(), &network, options, out, err, &mut journal),
+        Ok(network) => run_listed(
+            rt,
+            rt.alloc(),
+            &network,
+            options,
+            report,
+            out,
+            err,
+            &mut journal,
+        ),
         Err(fault) if is_explained => refuse_explained(rt.alloc(), text.as_slice(), fault, err),
         Err(fault) => refuse(err, fault),
     }

@@ -17,6 +17,7 @@ mod simulation;
 mod slave_faults;
 mod slave_options;
 mod slave_words;
+mod write_report;
 
 pub use files::{is_list, run_file, write_fault};
 pub use journal_output::JournalOutput;
@@ -24,8 +25,9 @@ pub use journal_recorder::{JournalName, JournalRecorder};
 pub use program::run;
 pub use recording::{NoHistory, Recorded, not_called, not_opened, started};
 pub use refusing::{read_fault_of, refuse_explained, tell_warnings};
-pub use running::{no_history_line, put_report, run_text};
+pub use running::{no_history_line, run_text, run_text_as};
 pub use simulation::{LONGEST_RUN, Options};
 pub use slave_faults::{AbortedObject, SlaveFaults, SlaveValue, WrongValue};
 pub use slave_options::{SlaveOption, set_fault};
 pub use slave_words::node_list;
+pub use write_report::{ReportLines, WriteReport, put_report};

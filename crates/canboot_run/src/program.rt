@@ -7,6 +7,7 @@ use crate::files::run_file;
 use crate::simulation::Options;
 use crate::slave_faults::SlaveFaults;
 use crate::slave_options::{SlaveOption, set_fault};
+use crate::write_report::ReportLines;
 use canboot_check::{FAILED, MISUSED, fault_line, read_fault};
 use std::env;
 use std::io::{self, BufWriter, Write};
@@ -139,7 +140,16 @@ fn run_words<R: Files + AllocGlobal + Wait + Threads + Send + Sync, W: Write, E:
                 faults: SlaveFaults::none(rt.alloc()),
             };
             match read_options(rest, &mut options, err) {
-                Ok(journal) => run_file(rt, network.as_str(), &options, journal, false, out, err),
+                Ok(journal) => run_file(
+                    rt,
+                    network.as_str(),
+                    &options,
+                    &ReportLines,
+                    journal,
+                    false,
+                    out,
+                    err,
+                ),
                 Err(status) => status,
             }
         }

@@ -5,7 +5,7 @@ ghost use Rattle.canboot_run.specs.SlaveWords.{AreDying, AreSilent, IsAborted, I
 ghost use Rattle.canboot_run.specs.SlaveWords.{aborted_in, is_node_list, says, wrong_in};
 
 use crate::slave_faults::SlaveFaults;
-use crate::slave_words::{aborted_in, node_list, wrong_in};
+use crate::slave_words::{aborted_in, with_nodes, wrong_in};
 use canboot_check::{FAILED, MISUSED, fault_line};
 use std::io::Write;
 
@@ -59,7 +59,7 @@ enum WordFault {
     OutOfMemory,
 }
 
-/// Just the nodes of the list are silent.
+/// The nodes of the list are silent as well.
 fn say_silent(faults: &mut SlaveFaults, text: &[u8]) -> Result<(), WordFault>
     ensures said { OnOk result (AreSilent text.now faults.old faults.new) }
     ensures spelled { OnOk result (is_node_list text.now ≡ true) }
@@ -67,7 +67,7 @@ fn say_silent(faults: &mut SlaveFaults, text: &[u8]) -> Result<(), WordFault>
     ensures kind { OnErr result (result ≡ Err WordFault.Spelling) }
     ensures kept { OnErr result (faults.new ≡ faults.old) }
 {
-    match node_list(text) {
+    match with_nodes(faults.silent, text) {
         Some(nodes) => {
             faults.silent = nodes;
             Ok(())
@@ -76,7 +76,7 @@ fn say_silent(faults: &mut SlaveFaults, text: &[u8]) -> Result<(), WordFault>
     }
 }
 
-/// Just the nodes of the list die.
+/// The nodes of the list die as well.
 fn say_dying(faults: &mut SlaveFaults, text: &[u8]) -> Result<(), WordFault>
     ensures said { OnOk result (AreDying text.now faults.old faults.new) }
     ensures spelled { OnOk result (is_node_list text.now ≡ true) }
@@ -84,7 +84,7 @@ fn say_dying(faults: &mut SlaveFaults, text: &[u8]) -> Result<(), WordFault>
     ensures kind { OnErr result (result ≡ Err WordFault.Spelling) }
     ensures kept { OnErr result (faults.new ≡ faults.old) }
 {
-    match node_list(text) {
+    match with_nodes(faults.dying, text) {
         Some(nodes) => {
             faults.dying = nodes;
             Ok(())
@@ -127,7 +127,7 @@ fn say_aborted(faults: &mut SlaveFaults, text: &[u8]) -> Result<(), WordFault>
     }
 }
 
-/// Adds what an option with this value says. Of two lists of one option the later one counts.
+/// Adds what an option with this value says.
 fn say_of_slaves(
     faults: &mut SlaveFaults,
     option: SlaveOption,
@@ -159,7 +159,7 @@ fn misspelled<E: Write>(err: &mut E, option: SlaveOption, value: &str) -> u8
     MISUSED
 }
 
-/// Adds what an option with this value says. Of two lists of one option the later one counts. Where its value is spelled otherwise, that
+/// Adds what an option with this value says. Where its value is spelled otherwise, that
 /// is written, and the exit status is 2; 3 where memory was refused. Then all is said of slaves that was said before.
 pub fn set_fault<E: Write>(
     faults: &mut SlaveFaults,

@@ -153,19 +153,28 @@ fn insert_range(set: &mut NodeSet, range: &NodeRange)
     }
 }
 
+/// The nodes of a set, and those of a list.
+pub(crate) fn with_nodes(nodes: NodeSet, text: &[u8]) -> Option<NodeSet>
+    ensures none { IfNone result (is_node_list text.now ≡ false) }
+    ensures list { IfSome result (λ _. is_node_list text.now ≡ true) }
+    ensures nodes { IfSome result (λ set. (i : ℕ) → has set i ≡ (has nodes i || lists text.now i)) }
+{
+    let mut all = nodes;
+    let mut parts = Fields::new(text, b',');
+    while let Some(part) = parts.next_field() {
+        let range = range_in(part)?;
+        insert_range(&mut all, &range);
+    }
+    Some(all)
+}
+
 /// The nodes of a list.
 pub fn node_list(text: &[u8]) -> Option<NodeSet>
     ensures none { IfNone result (is_node_list text.now ≡ false) }
     ensures list { IfSome result (λ _. is_node_list text.now ≡ true) }
     ensures nodes { IfSome result (λ set. (i : ℕ) → has set i ≡ lists text.now i) }
 {
-    let mut nodes = NodeSet::empty();
-    let mut parts = Fields::new(text, b',');
-    while let Some(part) = parts.next_field() {
-        let range = range_in(part)?;
-        insert_range(&mut nodes, &range);
-    }
-    Some(nodes)
+    with_nodes(NodeSet::empty(), text)
 }
 
 /// A value that a slave is to give, as `3=product:0x999`.

@@ -9,11 +9,11 @@ abbrev pub IsInRange : Action → Type 0
 IsInRange (action.Check n output) = Unit {0}
 IsInRange (action.Scan s) = (1 ≤ s.workers) × (s.workers ≤ 16) × (1 ≤ s.answer_ms) × (s.answer_ms ≤ 60000)
 IsInRange (action.Import file id mandatory heartbeat) = Unit {0}
-IsInRange (action.Run n workers attempts slaves journal explained) = (1 ≤ workers) × (workers ≤ 16) × (1 ≤ attempts) × (attempts ≤ 10)
+IsInRange (action.Run r) = (1 ≤ r.workers) × (r.workers ≤ 16) × (1 ≤ r.attempts) × (r.attempts ≤ 10)
 IsInRange (action.Live l) =
     (1 ≤ l.workers) × (l.workers ≤ 16) × (1 ≤ l.attempts) × (l.attempts ≤ 10) × (1 ≤ l.answer_ms) × (l.answer_ms ≤ 60000)
     × ((l.heartbeat_ms ≡ 0) ⊎ (10 ≤ l.heartbeat_ms))
-IsInRange (action.Replay form) = Unit {0}
+IsInRange (action.Replay output) = Unit {0}
 IsInRange action.Mend = Unit {0}
-IsInRange (action.Tell n) = Unit {0}
+IsInRange (action.Tell n explained) = Unit {0}
 IsInRange action.Picture = Unit {0}

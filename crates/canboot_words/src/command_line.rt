@@ -7,7 +7,7 @@ use crate::help_check::{ABOUT_CHECK, HELP_CHECK};
 use crate::importing::{import_action, import_command};
 use crate::journals::{mend_command, picture_command, replay_command, tell_command};
 use crate::live::{live_action, live_command};
-use crate::running::{SlaveWords, run_action, run_command};
+use crate::running::{RunWords, run_action, run_command};
 use crate::scanning::{ScanWords, scan_action, scan_command};
 use clap::error::ErrorKind;
 use clap::{Arg, ArgMatches, Command, Error, value_parser};
@@ -80,6 +80,17 @@ pub enum CheckOutput {
     Json,
 }
 
+/// What is printed of a journal.
+#[derive(Clone, Copy, Debug, PartialEq, Eq)]
+pub enum ReplayOutput {
+    /// Its report as lines.
+    Text,
+    /// That, and where it has a fault, what the line was expected to be.
+    Words,
+    /// Its report as a JSON object.
+    Json,
+}
+
 /// In which form a report is printed.
 #[derive(Clone, Copy, Debug, PartialEq, Eq)]
 pub enum ReportForm {
@@ -109,29 +120,20 @@ pub enum Action<'a> {
         /// The time in ms in which its heartbeat has to come, 0 for none.
         heartbeat_ms: u16,
     },
-    /// Boot the network of the list of this path, print the report, and write the journal to this
-    /// path, if there is one.
-    Run {
-        network: &'a str,
-        /// How many workers boot slaves, 1 to 16.
-        workers: u8,
-        /// How often a slave is tried at most, 1 to 10.
-        attempts: u8,
-        slaves: SlaveWords<'a>,
-        journal: Option<&'a str>,
-        /// Whether it is said where the list has its fault.
-        is_explained: bool,
-    },
+    /// Boot the network of a list with simulated slaves, print the report, and write the journal, if there is a path for it.
+    Run(RunWords<'a>),
     /// Boot a network on a CAN bus and watch it, print the report, and write the journal, if there is a path for it.
     Live(LiveWords<'a>),
-    /// Read a journal, and print its report in this form.
-    Replay(ReportForm),
+    /// Read a journal, and print its report.
+    Replay(ReplayOutput),
     /// Read a journal that a crash may have torn, and print it whole.
     Mend,
     /// Read a journal, and print its history in words.
     Tell {
         /// The node whose calls are told; none: all.
         node: Option<NodeId>,
+        /// Whether it is said what a line with a fault was expected to be.
+        is_explained: bool,
     },
     /// Read a journal, and print a picture of its history.
     Picture,
@@ -286,6 +288,16 @@ fn check_output(given: &ArgMatches<'_>) -> CheckOutput {
     }
 }
 
+fn replay_output(given: &ArgMatches<'_>) -> ReplayOutput {
+    if given.get_flag("explain") {
+        ReplayOutput::Words
+    } else if given.get_flag("json") {
+        ReplayOutput::Json
+    } else {
+        ReplayOutput::Text
+    }
+}
+
 pub(crate) fn report_form(given: &ArgMatches<'_>) -> ReportForm {
     if given.get_flag("json") {
         ReportForm::Json
@@ -298,7 +310,7 @@ fn action_of<'a>(alloc: Global, matches: &ArgMatches<'a>) -> Result<Action<'a>, 
     ensures { IfOk result IsInRange }
 {
     let Some((name, given)) = matches.subcommand() else {
-        return Ok(Action::Replay(ReportForm::Text));
+        return Ok(Action::Replay(ReplayOutput::Text));
     };
     match name {
         "check" => Ok(Action::Check {
@@ -312,9 +324,10 @@ fn action_of<'a>(alloc: Global, matches: &ArgMatches<'a>) -> Result<Action<'a>, 
         "mend" => Ok(Action::Mend),
         "tell" => Ok(Action::Tell {
             node: node_of(given, "node"),
+            is_explained: given.get_flag("explain"),
         }),
         "picture" => Ok(Action::Picture),
-        _ => Ok(Action::Replay(report_form(given))),
+        _ => Ok(Action::Replay(replay_output(given))),
     }
 }
 

@@ -11,7 +11,8 @@ input to its end, makes sure that it is a legal history, and prints the status r
 history on standard output: the phase, the manager's own NMT state, the number of entries and of \
 mandatory slaves that aren't booted, each NMT frame sent, and a line for each listed slave, which \
 ends with 'held' where an operator holds it. With --json the report is one JSON object on a line \
-(docs/report.schema.json), and a fault one on standard error.
+(docs/report.schema.json), and a fault one on standard error (docs/fault.schema.json). With --explain a line behind that of a \
+fault says what was expected there.
 
 A journal has these lines, with one space between two fields:
 
@@ -40,7 +41,14 @@ Exit statuses:
 
 Nothing is printed on standard output where the journal is refused or can't be read.
 
-Example: canboot replay < examples/one-slave.journal";
+Behind the line of a fault --explain has one that begins with two blanks: at a wrong reply the \
+manager's answer at this place, as 'expected: begun 3 / none'; 'expected: end 7', where the last \
+line is missing or has another number; which seats there are; how a line is spelled; or that a line \
+ends in CR LF. Where nothing is known it has none.
+
+Examples:
+  canboot replay < examples/one-slave.journal
+  canboot replay --explain < day.journal";
 
 pub(crate) const ABOUT_MEND: &str =
     "Reads a journal that a crash tore on standard input and prints it whole";
@@ -86,7 +94,9 @@ behind it what became of the network and of slaves.
   node 7: status M (product code 00000457, expected 00000456)
   network halted: node 7 has status M; once that is mended, type start
 
-With --node ID it prints just the lines of the calls that name the node.
+With --node ID it prints just the lines of the calls that name the node. Behind
+the line of a fault --explain has what was expected there, as 'canboot replay
+--explain' says it.
 
 Statuses of a boot (CiA 302-2), by the question that ended it:
 
@@ -146,9 +156,9 @@ Slaves that don't agree are made by options, for trying what a list does then:
                           behind all boots the operator reports each slave that
                           dies and is booted, in rising node-ID
 
---wrong and --aborts may be given several times, and --dies takes a list as
---silent does. Of one node silence counts before aborts, aborts before wrong
-values, and of two values of one object the later one. What the boot of a slave
+Each of them may be given several times, and --dies takes a list as --silent
+does. Of one node silence counts before aborts, aborts before wrong values, and
+of two values of one object the later one. What the boot of a slave
 doesn't ask changes nothing: a value isn't read where the list has 0 for it.
 A node of --wrong, --aborts or --dies that isn't listed is refused, with status
 2; one of --silent that isn't listed has no effect.
@@ -181,7 +191,9 @@ listed ('node 9 isn't in the network list'); nothing is printed
 memory; or 'no worker', where a thread couldn't be made
 
 Nothing is printed on standard output where no report is due; standard error has one line that says \
-why, and with --explain one behind it that says where, as 'canboot check --explain' does.
+why, and with --explain one behind it that says where, as 'canboot check --explain' does. With --json \
+the report is one JSON object on a line (docs/report.schema.json), and a fault one on standard error \
+(docs/fault.schema.json).
 
 Before the boot standard error has a line 'canboot: warning: slave ID: ..' for each slave that any \
 device is taken for, that nobody watches, or that nothing makes send its heartbeat in time; 'canboot \
@@ -297,7 +309,8 @@ With --status FILE the report so far stands in FILE as a JSON object. It is
 written each second in which something has happened, and at the end of the run:
 as FILE.new, which then takes the place of FILE, so that whoever reads FILE
 finds a whole report. Want of a disk never stops the run: it is told once.
-With --json the report that is printed at the end is such an object too.
+With --json the report that is printed at the end is such an object too, and a
+fault that ends the run is one on standard error (docs/fault.schema.json).
 
 The run ends with 'quit'; --for SECONDS behind the end of the operator's input, where that is \
 given (a FIFO of --operator has none); or where no more frames can be received or sent. Without an \

@@ -35,7 +35,8 @@ each: a listed node that didn't answer its device type ('node 3: missing'), a
 value that isn't the expected one ('node 4: product code 00000457, expected
 00000456'), a device that isn't listed ('node 9: unknown'); 'ok slaves 20' where
 there is none. Each listed slave is asked, whatever --nodes has. With --json
-they are one JSON object on a line (docs/differences.schema.json).
+they are one JSON object on a line (docs/differences.schema.json), and a fault
+is one on standard error (docs/fault.schema.json).
 
 --receive and --send are what 'canboot live --help' says of them; with can-utils
 './canboot-on-can can0 scan' does it.

@@ -1,14 +1,16 @@
 //! The commands that take a journal on standard input.
 
 use crate::command_line::{described, option};
-use crate::explain_words::json_argument;
+use crate::explain_words::{explain_line_argument, json_argument};
 use crate::help::{ABOUT_MEND, ABOUT_REPLAY, ABOUT_TELL, HELP_MEND, HELP_REPLAY, HELP_TELL};
 use crate::help_picture::{ABOUT_PICTURE, HELP_PICTURE};
 use clap::{Arg, Command, value_parser};
 use std::alloc::{AllocError, Global};
 
 pub(crate) fn replay_command<'a>(alloc: Global) -> Result<Command<'a>, AllocError> {
-    described(alloc, "replay", ABOUT_REPLAY, HELP_REPLAY).arg(json_argument(alloc))
+    let explain = explain_line_argument(alloc).conflicts_with("json")?;
+    let arguments = vec![in alloc; explain, json_argument(alloc)]?;
+    described(alloc, "replay", ABOUT_REPLAY, HELP_REPLAY).args(arguments)
 }
 
 pub(crate) fn mend_command<'a>(alloc: Global) -> Command<'a> {
@@ -21,7 +23,8 @@ fn node_argument<'a>(alloc: Global) -> Arg<'a> {
 }
 
 pub(crate) fn tell_command<'a>(alloc: Global) -> Result<Command<'a>, AllocError> {
-    described(alloc, "tell", ABOUT_TELL, HELP_TELL).arg(node_argument(alloc))
+    let arguments = vec![in alloc; node_argument(alloc), explain_line_argument(alloc)]?;
+    described(alloc, "tell", ABOUT_TELL, HELP_TELL).args(arguments)
 }
 
 pub(crate) fn picture_command<'a>(alloc: Global) -> Command<'a> {

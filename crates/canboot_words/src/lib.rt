@@ -13,6 +13,7 @@ mod event_fields;
 mod event_network;
 mod event_notice;
 mod explain_words;
+mod fault_objects;
 mod help;
 mod help_check;
 mod help_import;
@@ -30,12 +31,13 @@ mod spelling;
 mod told;
 
 pub use command_line::{
-    Action, BusPaths, CheckOutput, JournalPath, LivePaths, LiveWords, NoAction, ReportForm,
-    read_words,
+    Action, BusPaths, CheckOutput, JournalPath, LivePaths, LiveWords, NoAction, ReplayOutput,
+    ReportForm, read_words,
 };
 pub use event::{Event, EventLine, NoBoot};
+pub use fault_objects::FaultObjects;
 pub use names::{Names, NamesFault, read_names};
-pub use running::SlaveWords;
+pub use running::{RunWords, SlaveWords};
 pub use scanning::{ScanOutput, ScanWords};
 pub use shown::ShownLines;
 pub use told::{

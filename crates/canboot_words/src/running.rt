@@ -4,10 +4,10 @@ ghost use Rattle.std.specs.Prelude.{◌≤◌, IfOk};
 ghost use Rattle.canboot_words.specs.CommandLine.{IsInRange};
 
 use crate::command_line::{
-    Action, NoAction, WORKERS, attempts_argument, described, journal_argument, network_argument,
-    number_of, option, text_of, workers_argument,
+    Action, NoAction, ReportForm, WORKERS, attempts_argument, described, journal_argument,
+    network_argument, number_of, option, report_form, text_of, workers_argument,
 };
-use crate::explain_words::explain_fault_argument;
+use crate::explain_words::{explain_fault_argument, json_argument};
 use crate::help::{ABOUT_RUN, HELP_RUN};
 use clap::{Arg, ArgAction, ArgMatches, Command};
 use std::alloc::{AllocError, Global};
@@ -15,19 +15,37 @@ use std::alloc::{AllocError, Global};
 /// What slaves of a run do, as it was typed; none of these texts is read here.
 #[derive(Drop)]
 pub struct SlaveWords<'a> {
-    /// A list of nodes that give no answer.
-    pub silent: Option<&'a str>,
+    /// Lists of nodes that give no answer.
+    pub silent: Vec<&'a str>,
     /// Values that slaves give in the place of those that are expected.
     pub wrong: Vec<&'a str>,
     /// Objects of which slaves abort each read and write.
     pub aborts: Vec<&'a str>,
-    /// A list of nodes that are lost once they are booted.
-    pub dies: Option<&'a str>,
+    /// Lists of nodes that are lost once they are booted.
+    pub dies: Vec<&'a str>,
+}
+
+/// What a run with simulated slaves is asked for.
+#[derive(Drop)]
+pub struct RunWords<'a> {
+    /// The path of the network list.
+    pub network: &'a str,
+    /// How many workers boot slaves, 1 to 16.
+    pub workers: u8,
+    /// How often a slave is tried at most, 1 to 10.
+    pub attempts: u8,
+    pub slaves: SlaveWords<'a>,
+    /// The path that the journal is written to, if it is.
+    pub journal: Option<&'a str>,
+    /// Whether it is said where the list has its fault.
+    pub is_explained: bool,
+    /// In which form the report is printed.
+    pub report: ReportForm,
 }
 
 fn silent_argument<'a>(alloc: Global) -> Arg<'a> {
     let help = "Nodes that give no answer, as 3 or 2,5-9";
-    option(alloc, "silent", "LIST", help)
+    option(alloc, "silent", "LIST", help).action(ArgAction::Append)
 }
 
 fn wrong_argument<'a>(alloc: Global) -> Arg<'a> {
@@ -42,7 +60,7 @@ fn aborts_argument<'a>(alloc: Global) -> Arg<'a> {
 
 fn dies_argument<'a>(alloc: Global) -> Arg<'a> {
     let help = "Nodes that are lost once they are booted, as 3 or 2,5-9";
-    option(alloc, "dies", "LIST", help)
+    option(alloc, "dies", "LIST", help).action(ArgAction::Append)
 }
 
 pub(crate) fn run_command<'a>(alloc: Global) -> Result<Command<'a>, AllocError> {
@@ -56,6 +74,7 @@ pub(crate) fn run_command<'a>(alloc: Global) -> Result<Command<'a>, AllocError> 
         dies_argument(alloc),
         journal_argument(alloc),
         explain_fault_argument(alloc),
+        json_argument(alloc),
     ]?;
     described(alloc, "run", ABOUT_RUN, HELP_RUN).args(arguments)
 }
@@ -77,10 +96,10 @@ fn texts_of<'a>(
 
 fn slave_words<'a>(alloc: Global, given: &ArgMatches<'a>) -> Result<SlaveWords<'a>, AllocError> {
     Ok(SlaveWords {
-        silent: given.get_str("silent"),
+        silent: texts_of(alloc, given, "silent")?,
         wrong: texts_of(alloc, given, "wrong")?,
         aborts: texts_of(alloc, given, "aborts")?,
-        dies: given.get_str("dies"),
+        dies: texts_of(alloc, given, "dies")?,
     })
 }
 
@@ -90,12 +109,13 @@ pub(crate) fn run_action<'a>(alloc: Global, given: &ArgMatches<'a>) -> Result<Ac
     let Ok(slaves) = slave_words(alloc, given) else {
         return Err(NoAction::OutOfMemory);
     };
-    Ok(Action::Run {
+    Ok(Action::Run(RunWords {
         network: text_of(given, "network"),
         workers: number_of(given, "workers", 16),
         attempts: number_of(given, "attempts", 10),
         slaves,
         journal: given.get_str("journal"),
         is_explained: given.get_flag("explain"),
-    })
+        report: report_form(given),
+    }))
 }

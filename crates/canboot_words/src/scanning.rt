@@ -47,6 +47,16 @@ pub enum ScanOutput<'a> {
     },
 }
 
+impl ScanOutput<'_> {
+    /// In which form it is printed.
+    pub fn form(&self) -> ReportForm {
+        match self {
+            ScanOutput::List { .. } => ReportForm::Text,
+            ScanOutput::Differences { form, .. } => *form,
+        }
+    }
+}
+
 fn nodes_argument<'a>(alloc: Global) -> Arg<'a> {
     let help = "The node-IDs that are asked, as 5 or 2,5-9";
     option(alloc, "nodes", "LIST", help).default_value("1-127")

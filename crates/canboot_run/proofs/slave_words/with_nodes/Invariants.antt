@@ -4,13 +4,13 @@ use Rattle.cm_history.specs.NodeSets.{has}
 use Rattle.cm_text.specs.Left.{left}
 use Rattle.canboot_run.specs.SlaveWords.{is_node_list, lists}
 use Rattle.canboot_run.proofs.SlaveLists.{has_one, spelled}
-use Rattle.canboot_run.proofs.slave_words.node_list.Given as goal
+use Rattle.canboot_run.proofs.slave_words.with_nodes.Given as goal
 
--- the parts so far were ranges, and with those that are left there are all nodes
+-- the parts so far were ranges, and with the nodes of those that are left there are all
 abbrev pub invariant-loop-part : goal.invariant-loop-part
 invariant-loop-part l = record {
   spelled : spelled (left l.parts) ≡ is_node_list l.text;
-  nodes : (i : ℕ) → (has l.nodes i || has_one (left l.parts) i) ≡ lists l.text i;
+  nodes : (i : ℕ) → (has l.all i || has_one (left l.parts) i) ≡ (has l.fn.nodes i || lists l.text i);
 }
 
 abbrev pub decreases-loop-part : goal.decreases-loop-part
