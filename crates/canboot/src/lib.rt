@@ -1,7 +1,6 @@
-//! canboot, the NMT master of a CANopen network, as a library: its command line over any streams,
-//! and `canboot check`, `canboot import`, `canboot run`, `canboot live`, `canboot replay`, `canboot tell` and
-//! `canboot picture` over any reader and writer. The program is
-//! `canboot_main`.
+//! canboot, the NMT master of a CANopen network, as a library: its command line over any streams (`run`), and what its
+//! commands do over any reader and writer: `check_text`, `import_text`, `scan_text`, `scan_check`, `run_text`,
+//! `live_text`, `replay_text`, `mend_text`, `tell_text` and `picture_text`. The program is `canboot_main`.
 #![tactic(auto)]
 
 mod explain;

@@ -130,13 +130,15 @@ says option.Dies text = is_node_list text
 says option.Wrong text = is_some (wrong_in text)
 says option.Aborts text = is_some (aborted_in text)
 
--- the nodes of the list are silent as well; all else is as before
+-- the text is a list, whose nodes are silent as well; all else is as before
 pub record AreSilent (text : List ℕ) (old new : SlaveFaults) : Type 0 where
+  pub spelled : is_node_list text ≡ true
   pub nodes : (i : ℕ) → has new.silent i ≡ (has old.silent i || lists text i)
   pub kept : new ≡ record old { silent = new.silent }
 
--- the nodes of the list die as well; all else is as before
+-- the text is a list, whose nodes die as well; all else is as before
 pub record AreDying (text : List ℕ) (old new : SlaveFaults) : Type 0 where
+  pub spelled : is_node_list text ≡ true
   pub nodes : (i : ℕ) → has new.dying i ≡ (has old.dying i || lists text i)
   pub kept : new ≡ record old { dying = new.dying }
 

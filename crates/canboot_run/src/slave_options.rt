@@ -62,7 +62,6 @@ enum WordFault {
 /// The nodes of the list are silent as well.
 fn say_silent(faults: &mut SlaveFaults, text: &[u8]) -> Result<(), WordFault>
     ensures said { OnOk result (AreSilent text.now faults.old faults.new) }
-    ensures spelled { OnOk result (is_node_list text.now ≡ true) }
     ensures fault { OnErr result (is_node_list text.now ≡ false) }
     ensures kind { OnErr result (result ≡ Err WordFault.Spelling) }
     ensures kept { OnErr result (faults.new ≡ faults.old) }
@@ -79,7 +78,6 @@ fn say_silent(faults: &mut SlaveFaults, text: &[u8]) -> Result<(), WordFault>
 /// The nodes of the list die as well.
 fn say_dying(faults: &mut SlaveFaults, text: &[u8]) -> Result<(), WordFault>
     ensures said { OnOk result (AreDying text.now faults.old faults.new) }
-    ensures spelled { OnOk result (is_node_list text.now ≡ true) }
     ensures fault { OnErr result (is_node_list text.now ≡ false) }
     ensures kind { OnErr result (result ≡ Err WordFault.Spelling) }
     ensures kept { OnErr result (faults.new ≡ faults.old) }

@@ -2,8 +2,10 @@
 
 use crate::command_line::{described, option};
 use crate::explain_words::{explain_line_argument, json_argument};
-use crate::help::{ABOUT_MEND, ABOUT_REPLAY, ABOUT_TELL, HELP_MEND, HELP_REPLAY, HELP_TELL};
+use crate::help_mend::{ABOUT_MEND, HELP_MEND};
 use crate::help_picture::{ABOUT_PICTURE, HELP_PICTURE};
+use crate::help_replay::{ABOUT_REPLAY, HELP_REPLAY};
+use crate::help_tell::{ABOUT_TELL, HELP_TELL};
 use clap::{Arg, Command, value_parser};
 use std::alloc::{AllocError, Global};
 

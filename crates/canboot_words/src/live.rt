@@ -6,7 +6,7 @@ use crate::command_line::{
     attempts_argument, described, journal_argument, listed, network_argument, number_of, option,
     report_form, text_of, workers_argument,
 };
-use crate::help::{ABOUT_LIVE, HELP_LIVE, USAGE_LIVE};
+use crate::help_live::{ABOUT_LIVE, HELP_LIVE, USAGE_LIVE};
 use clap::{Arg, ArgAction, ArgGroup, ArgMatches, Command, value_parser};
 use std::alloc::{AllocError, Global};
 

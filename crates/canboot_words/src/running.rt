@@ -8,7 +8,7 @@ use crate::command_line::{
     network_argument, number_of, option, report_form, text_of, workers_argument,
 };
 use crate::explain_words::{explain_fault_argument, json_argument};
-use crate::help::{ABOUT_RUN, HELP_RUN};
+use crate::help_run::{ABOUT_RUN, HELP_RUN};
 use clap::{Arg, ArgAction, ArgMatches, Command};
 use std::alloc::{AllocError, Global};
 

@@ -127,12 +127,14 @@ impl ListingCopy {
         node < 128 && self.terms[node as usize].is_some()
     }
 
+    /// Whether the node is listed and mandatory: without it the network doesn't become ready (CiA 302-2, 1F81h bit 3).
     pub fn is_mandatory(&self, id: NodeId) -> bool
         ensures { result ≡ is_mandatory (kept_listing self.now) id }
     {
         self.mandatory.contains(id)
     }
 
+    /// Whether the node is listed, and its boot configures and starts it (CiA 302-2, 1F81h bit 2).
     pub fn is_to_be_booted(&self, id: NodeId) -> bool
         ensures { result ≡ is_to_be_booted (kept_listing self.now) id }
     {

@@ -70,6 +70,7 @@ impl SlaveTable {
         }
     }
 
+    /// The last known NMT state of the node, as it is on the wire (CiA 301), or `UNKNOWN` or `MISSING`.
     #[inline(always)]
     pub fn state(&self, id: NodeId) -> u8
         ensures { result ≡ (kept_slave self.now id).state }
@@ -77,6 +78,7 @@ impl SlaveTable {
         self.states[id.get() as usize]
     }
 
+    /// Whether the node is booted: a report with status Ok or L made it so, and nothing cleared it since.
     #[inline(always)]
     pub fn booted(&self, id: NodeId) -> bool
         ensures { result ≡ (kept_slave self.now id).booted }
@@ -84,6 +86,7 @@ impl SlaveTable {
         self.booted.contains(id)
     }
 
+    /// The number of the node's boot that isn't reported yet, from 1; `None` where there is none.
     #[inline(always)]
     pub fn session(&self, id: NodeId) -> Option<u64>
         ensures { result ≡ (kept_slave self.now id).session }
