@@ -1,6 +1,6 @@
 //! The files of a run: its network list, and the one that its journal is written to.
 
-ghost use Rattle.std.specs.Prelude.{◌≡◌, ◌≤◌, IfOk, None, false, is_some, true};
+ghost use Rattle.std.specs.Prelude.{◌≡◌, ◌≤◌, IfErr, IfOk, None, false, is_some, true};
 ghost use Rattle.canboot_run.specs.Files.{is_same_file};
 
 use crate::refusing::{read_fault_of, refuse_explained};
@@ -8,8 +8,10 @@ use crate::running::{run_listed, unlisted_line};
 use crate::simulation::Options;
 use crate::write_report::WriteReport;
 use canboot_check::{
-    FAILED, LONGEST_LIST, MISUSED, fault_line, input_fault_line, list_of, read_fault, refuse,
+    CheckFault, FAILED, LONGEST_LIST, MISUSED, fault_line, input_fault_line, list_of, read_fault,
+    refuse,
 };
+use cm_netlist::Network;
 use cm_text::read_input;
 use std::fs;
 use std::io::{self, BufWriter, Write};
@@ -41,41 +43,94 @@ pub fn run_file<
     requires attempts { (1 ≤ options.now.attempts) × (options.now.attempts ≤ 10) }
     ensures statuses { result ≤ 3 }
 {
+    let text = match list_text(rt, path, journal, is_explained, err) {
+        Ok(text) => text,
+        Err(status) => return status,
+    };
+    match list_of(rt.alloc(), text.as_slice()) {
+        Ok(network) => run_network(rt, &network, options, report, journal, out, err),
+        Err(fault) => refuse_list(rt, text.as_slice(), fault, journal, is_explained, err),
+    }
+}
+
+/// The bytes of the file of this path, unless the journal's file would be the list itself. What can't be read is written, and
+/// is the exit status.
+fn list_text<R: Files + AllocGlobal, E: Write>(
+    rt: &R,
+    path: &str,
+    journal: Option<&str>,
+    is_explained: bool,
+    err: &mut E,
+) -> Result<Vec<u8>, u8>
+    ensures { IfErr result (λ status. status ≤ 3) }
+{
     let mut list = match fs::open(rt, path) {
         Ok(file) => file,
-        Err(error) if is_explained => return read_fault_of(err, path, error.kind()),
-        Err(error) => return read_fault(err, error.kind()),
+        Err(error) if is_explained => return Err(read_fault_of(err, path, error.kind())),
+        Err(error) => return Err(read_fault(err, error.kind())),
     };
     if is_list(rt, path, journal) {
-        return fault_line(err, MISUSED, "the file of the journal is the network list");
+        let said = "the file of the journal is the network list";
+        return Err(fault_line(err, MISUSED, said));
     }
-    let text = match read_input(rt.alloc(), &mut list, LONGEST_LIST) {
-        Ok(text) => text,
-        Err(fault) => return input_fault_line(err, fault),
-    };
-    let network = list_of(rt.alloc(), text.as_slice());
-    if let Ok(network) = &network
-        && let Some(node) = options.faults.unlisted(network)
-    {
+    match read_input(rt.alloc(), &mut list, LONGEST_LIST) {
+        Ok(text) => Ok(text),
+        Err(fault) => Err(input_fault_line(err, fault)),
+    }
+}
+
+/// Runs a network that was read; its journal's file is made, if there is one, where each slave with faults is listed.
+fn run_network<
+    R: Files + AllocGlobal + Wait + Threads + Send + Sync,
+    P: WriteReport,
+    W: Write,
+    E: Write,
+>(
+    rt: &R,
+    network: &Network,
+    options: &Options,
+    report: &P,
+    journal: Option<&str>,
+    out: &mut W,
+    err: &mut E,
+) -> u8
+    requires workers { (1 ≤ options.now.workers) × (options.now.workers ≤ 16) }
+    requires attempts { (1 ≤ options.now.attempts) × (options.now.attempts ≤ 10) }
+    ensures { result ≤ 3 }
+{
+    if let Some(node) = options.faults.unlisted(network) {
         return unlisted_line(err, node);
     }
-    let mut journal = match make(rt, journal) {
-        Ok(file) => file,
-        Err(error) => return write_fault(err, error.kind()),
-    };
-    match network {
-        Ok(network) => run_listed(
+    match make(rt, journal) {
+        Ok(mut file) => run_listed(
             rt,
             rt.alloc(),
-            &network,
+            network,
             options,
             report,
             out,
             err,
-            &mut journal,
+            &mut file,
         ),
-        Err(fault) if is_explained => refuse_explained(rt.alloc(), text.as_slice(), fault, err),
-        Err(fault) => refuse(err, fault),
+        Err(error) => write_fault(err, error.kind()),
+    }
+}
+
+/// Refuses a list that was read, once the journal's file is made, if there is one.
+fn refuse_list<R: Files + AllocGlobal, E: Write>(
+    rt: &R,
+    text: &[u8],
+    fault: CheckFault,
+    journal: Option<&str>,
+    is_explained: bool,
+    err: &mut E,
+) -> u8
+    ensures { result ≤ 3 }
+{
+    match make(rt, journal) {
+        Ok(_) if is_explained => refuse_explained(rt.alloc(), text, fault, err),
+        Ok(_) => refuse(err, fault),
+        Err(error) => write_fault(err, error.kind()),
     }
 }
 
