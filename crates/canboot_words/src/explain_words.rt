@@ -12,7 +12,7 @@ fn explain<'a>(alloc: Global, help: &'a str) -> Arg<'a> {
 
 /// What the list of `check` comes to.
 pub(crate) fn explain_argument<'a>(alloc: Global) -> Result<Arg<'a>, AllocError> {
-    let help = "Says in words what the list comes to and is warned of, or where it has its fault";
+    let help = "Says what the list comes to and is warned of, or where its fault is";
     explain(alloc, help).conflicts_with("json")
 }
 

@@ -55,14 +55,14 @@ fn settle_argument<'a>(alloc: Global) -> Arg<'a> {
 }
 
 fn heartbeat_argument<'a>(alloc: Global) -> Arg<'a> {
-    let help = "How often the manager sends its own heartbeat, 10 to 65535; 0: it sends none";
+    let help = "How often the manager sends its heartbeat, 10 to 65535; 0: never";
     option(alloc, "heartbeat", "MS", help)
         .value_parser(value_parser!(u16).range(0..65_536))
         .default_value("0")
 }
 
 fn seconds_argument<'a>(alloc: Global) -> Arg<'a> {
-    let help = "How long the run goes on behind the end of the operator's input, 0 to 31536000";
+    let help = "How long it runs on behind the end of the input, 0 to 31536000";
     option(alloc, "for", "SECONDS", help).value_parser(value_parser!(u32).range(0..31_536_001))
 }
 
@@ -85,7 +85,7 @@ fn names_argument<'a>(alloc: Global) -> Arg<'a> {
 }
 
 fn events_argument<'a>(alloc: Global) -> Arg<'a> {
-    let help = "The path to which each thing that is told is written as a JSON object, a line each";
+    let help = "The path to which each event is written, as a JSON object a line";
     option(alloc, "events", "FILE", help)
 }
 

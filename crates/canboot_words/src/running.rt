@@ -49,7 +49,7 @@ fn silent_argument<'a>(alloc: Global) -> Arg<'a> {
 }
 
 fn wrong_argument<'a>(alloc: Global) -> Arg<'a> {
-    let help = "A value that a slave gives in the place of the expected one, as 3=product:999";
+    let help = "A value that a slave gives, as 3=product:999";
     option(alloc, "wrong", "ID=OBJECT:VALUE", help).action(ArgAction::Append)
 }
 
