@@ -30,7 +30,7 @@ fn put_object<W: Write>(
 }
 
 /// The report as one JSON object on a line.
-#[derive(Clone, Copy, Debug, PartialEq, Eq)]
+#[derive(Clone, Copy)]
 pub struct ReportObject;
 
 impl WriteReport for ReportObject {

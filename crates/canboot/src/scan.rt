@@ -28,7 +28,7 @@ use std::thread::Threads;
 use std::time::Clock;
 
 /// How `canboot scan` asks.
-#[derive(Clone, Copy, Debug, PartialEq, Eq)]
+#[derive(Clone, Copy)]
 pub struct ScanOptions {
     /// How many workers ask nodes, 1 to 16.
     pub workers: u8,
@@ -48,7 +48,7 @@ pub struct ScanEnds<I, W> {
 }
 
 /// What is printed of the devices that were found.
-#[derive(Clone, Copy, Debug, PartialEq, Eq)]
+#[derive(Clone, Copy)]
 pub struct ListForm {
     /// The manager's own node-ID in the list.
     pub own: NodeId,

@@ -11,7 +11,7 @@ use std::alloc::Global;
 use thiserror::Error;
 
 /// Why a file is no device file.
-#[derive(Clone, Copy, Debug, PartialEq, Eq, Error)]
+#[derive(Clone, Copy, Debug, Error)]
 pub enum LineFault {
     /// The line is no section, no key with a value, no comment, and isn't empty.
     #[error("neither a section nor a key with a value")]
@@ -22,7 +22,7 @@ pub enum LineFault {
 }
 
 /// Why the lines of a file aren't read.
-#[derive(Clone, Copy, Debug, PartialEq, Eq)]
+#[derive(Clone, Copy)]
 pub enum FileFault {
     /// A line is wrong: the first such line, counted from 1.
     Line(usize, LineFault),

@@ -5,7 +5,7 @@ use cm_nmt::NodeId;
 use std::fmt;
 
 /// A value of a device, of those that a network list may expect (CiA 302-2, 1F84h to 1F88h).
-#[derive(Clone, Copy, Debug, PartialEq, Eq)]
+#[derive(Clone, Copy)]
 pub enum ExpectedValue {
     DeviceType,
     Vendor,
@@ -15,7 +15,7 @@ pub enum ExpectedValue {
 }
 
 /// How what was found differs from what is listed.
-#[derive(Clone, Copy, Debug, PartialEq, Eq)]
+#[derive(Clone, Copy)]
 pub enum Difference {
     /// The slave is listed, and no device was found at its node.
     Missing(NodeId),

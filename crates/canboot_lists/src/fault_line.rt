@@ -37,15 +37,15 @@ fn header_of(statement: Part<'_>) -> Option<Header<'_>> {
     }
 }
 
-/// Whether the header begins a slave.
-fn begins_slave(header: &Header<'_>) -> bool {
-    header.is_element && header.name.is_key("slave")
+/// Whether the statement is a header.
+fn is_header(statement: Part<'_>) -> bool {
+    header_of(statement).is_some()
 }
 
 /// Whether the statement is a header that begins a slave.
 fn is_slave_header(statement: Part<'_>) -> bool {
     match header_of(statement) {
-        Some(header) => begins_slave(&header),
+        Some(header) => header.is_element && header.name.is_key("slave"),
         None => false,
     }
 }
@@ -61,25 +61,24 @@ fn begins_key(header: &Header<'_>, key: &str) -> bool {
     }
 }
 
+/// Whether the statement gives this key of the top table: with its value, in front of all headers, or as the header of a table.
+fn gives_top_key(statement: Part<'_>, key: &str, is_top: bool) -> bool {
+    match header_of(statement) {
+        Some(header) => header.name.before(b'.').is_key(key),
+        None => is_top && statement.has_key(key),
+    }
+}
+
 /// What stands under a key of the top table: the key with its value, or the header that begins it.
 fn top_key<'a>(list: Part<'a>, key: &str) -> Option<Part<'a>> {
     let mut rest = list;
     let mut is_top = true;
     for _statement in 0..list.text.len() {
         let statement = rest.before(b'\n');
-        match header_of(statement) {
-            Some(header) => {
-                is_top = false;
-                if header.name.before(b'.').is_key(key) {
-                    return Some(statement);
-                }
-            }
-            None => {
-                if is_top && statement.has_key(key) {
-                    return Some(statement);
-                }
-            }
+        if gives_top_key(statement, key, is_top) {
+            return Some(statement);
         }
+        is_top = is_top && !is_header(statement);
         rest = rest.after(b'\n')?;
     }
     None
@@ -101,28 +100,27 @@ fn slave_behind_header(list: Part<'_>, number: usize) -> Option<Part<'_>> {
     None
 }
 
+/// Whether the statement gives this key of a slave: with its value, in front of the headers of the slave's tables, or as one of them.
+fn gives_slave_key(statement: Part<'_>, key: &str, is_slave: bool) -> bool {
+    match header_of(statement) {
+        Some(header) => begins_key(&header, key),
+        None => is_slave && statement.has_key(key),
+    }
+}
+
 /// A key of the slave whose header stands in front of the text, with its value; or the header that begins it.
 fn key_behind_header<'a>(slave: Part<'a>, key: &str) -> Option<Part<'a>> {
     let mut rest = slave.after(b'\n')?;
     let mut is_slave = true;
     for _statement in 0..slave.text.len() {
         let statement = rest.before(b'\n');
-        match header_of(statement) {
-            Some(header) => {
-                is_slave = false;
-                if begins_slave(&header) {
-                    return None;
-                }
-                if begins_key(&header, key) {
-                    return Some(statement);
-                }
-            }
-            None => {
-                if is_slave && statement.has_key(key) {
-                    return Some(statement);
-                }
-            }
+        if is_slave_header(statement) {
+            return None;
         }
+        if gives_slave_key(statement, key, is_slave) {
+            return Some(statement);
+        }
+        is_slave = is_slave && !is_header(statement);
         rest = rest.after(b'\n')?;
     }
     None

@@ -15,7 +15,7 @@ use cm_nmt::{NodeId, Terms};
 use std::alloc::Global;
 
 /// What a slave is made of beside its file.
-#[derive(Clone, Copy, Debug, PartialEq, Eq)]
+#[derive(Clone, Copy)]
 pub struct ImportWords {
     /// Its node-ID, in the place of the one that the file has.
     pub id: Option<NodeId>,
@@ -26,7 +26,7 @@ pub struct ImportWords {
 }
 
 /// Why a file gives no slave.
-#[derive(Clone, Copy, Debug, PartialEq, Eq)]
+#[derive(Clone, Copy)]
 pub enum ImportFault {
     /// It is no device file, or memory was refused.
     File(FileFault),

@@ -6,7 +6,7 @@ ghost use Rattle.canboot_lists.specs.Imports.{is_cob_id, is_count};
 use crate::device_file::is_same;
 
 /// What an object is to a PDO.
-#[derive(Clone, Copy, PartialEq, Eq)]
+#[derive(Clone, Copy)]
 enum Part {
     None,
     /// A communication parameter.
@@ -67,7 +67,7 @@ pub(crate) fn step_of(index: u16, sub: u8) -> u8 {
 pub(crate) fn rank(index: u16, sub: u8, step: u8) -> u64 {
     let (stage, object) = match index {
         0x1016 | 0x1017 => (2, index),
-        _ if part_of(index) != Part::None => (1, index & !0x0200),
+        _ if !matches!(part_of(index), Part::None) => (1, index & !0x0200),
         _ => (0, index),
     };
     ((stage * 0x1_0000 + u64::from(object)) * 0x100 + u64::from(step)) * 0x100 + u64::from(sub)

@@ -11,7 +11,7 @@ use std::alloc::Global;
 use std::str;
 
 /// A device that was found. A value that it didn't give is 0, by which nothing is compared.
-#[derive(Clone, Copy, Debug, PartialEq, Eq)]
+#[derive(Clone, Copy)]
 pub struct Found {
     pub id: NodeId,
     /// 1000h.
@@ -27,7 +27,7 @@ pub struct Found {
 }
 
 /// Why no list is given.
-#[derive(Clone, Copy, Debug, PartialEq, Eq)]
+#[derive(Clone, Copy)]
 pub enum ScanFault {
     /// What was written isn't the list of just these devices, where it is read back.
     NoList,

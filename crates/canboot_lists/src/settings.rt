@@ -24,7 +24,7 @@ pub(crate) struct Setting<'a> {
 }
 
 /// Why a value that a file gives is no write.
-#[derive(Clone, Copy, Debug, PartialEq, Eq)]
+#[derive(Clone, Copy)]
 pub(crate) enum Reason {
     /// The data type has no size of 1, 2 or 4 bytes, or isn't given.
     Size,
@@ -263,7 +263,13 @@ fn name_of<'a>(items: &[Item<'a>], item: &Item<'a>) -> &'a [u8] {
 
 /// Whether an item is a value that may be written to this object.
 fn is_set(items: &[Item<'_>], item: &Item<'_>, index: u16) -> bool {
-    !is_left_out(index) && value_beside(items, item, "AccessType").is_some_and(is_writable)
+    if is_left_out(index) {
+        return false;
+    }
+    match value_beside(items, item, "AccessType") {
+        Some(access) => is_writable(access),
+        None => false,
+    }
 }
 
 /// The item of this key in the section of an object, with a value that isn't empty.

@@ -1,7 +1,7 @@
 //! The parts of a text in TOML, with the lines on which they begin. Of a text that isn't TOML any part may be given.
 
 /// What a byte of the text stands in.
-#[derive(Clone, Copy, PartialEq, Eq)]
+#[derive(Clone, Copy)]
 enum Within {
     /// No string and no comment.
     Plain,
@@ -79,7 +79,7 @@ fn length_before(text: &[u8], separator: u8) -> usize {
     let mut depth = 0usize;
     for (place, byte) in text.iter().enumerate() {
         let here = within.at(*byte);
-        if here == Within::Plain {
+        if matches!(here, Within::Plain) {
             if depth == 0 && (*byte == separator || is_closing(*byte)) {
                 return place;
             }

@@ -30,7 +30,7 @@ use cm_nmt::{Command, Status};
 use std::io::{self, Write};
 
 /// What a mark says.
-#[derive(Clone, Copy, Debug, PartialEq, Eq)]
+#[derive(Clone, Copy)]
 pub enum MarkKind {
     /// A boot, from its begin to its report.
     Boot(Status),
@@ -52,7 +52,7 @@ pub enum MarkKind {
 }
 
 /// What stands beside a mark.
-#[derive(Clone, Copy, Debug, PartialEq, Eq)]
+#[derive(Clone, Copy)]
 pub enum Label {
     Nothing,
     /// The letter of the status.
@@ -66,7 +66,7 @@ pub enum Label {
 }
 
 /// A mark. Places and sizes are in pixels, from the left and from the top.
-#[derive(Clone, Copy, Debug, PartialEq, Eq)]
+#[derive(Clone, Copy)]
 pub struct Mark {
     pub kind: MarkKind,
     /// Its entry, counted from 1; 0: none.

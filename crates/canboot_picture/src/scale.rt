@@ -4,7 +4,7 @@ ghost use Rattle.std.specs.Prelude.{◌≡◌, ◌+◌, ◌*◌, ◌-◌, ◌≤
 ghost use Rattle.canboot_picture.specs.Spans.{left_of, top_of};
 
 /// How a picture is divided into columns.
-#[derive(Clone, Copy, Debug, PartialEq, Eq)]
+#[derive(Clone, Copy)]
 pub struct Scale {
     /// How many entries a column stands for.
     pub width: u32,
@@ -15,7 +15,7 @@ pub struct Scale {
 }
 
 /// Columns beside each other in which a node is shown in one state.
-#[derive(Clone, Copy, Debug, PartialEq, Eq)]
+#[derive(Clone, Copy)]
 pub struct Span {
     /// Its first column; the leftmost one is 0.
     pub first: u32,

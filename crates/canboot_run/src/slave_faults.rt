@@ -14,7 +14,7 @@ use std::alloc::Global;
 const NO_OBJECT: u32 = 0x0602_0000;
 
 /// A value of a slave that its boot reads, by its key in a network list.
-#[derive(Clone, Copy, Debug, PartialEq, Eq)]
+#[derive(Clone, Copy)]
 pub enum SlaveValue {
     /// 1000h.
     DeviceType,
@@ -33,7 +33,7 @@ pub enum SlaveValue {
 }
 
 /// A value that a slave gives, in the place of the one that is expected.
-#[derive(Clone, Copy, Debug, PartialEq, Eq)]
+#[derive(Clone, Copy)]
 pub struct WrongValue {
     pub id: NodeId,
     pub object: SlaveValue,
@@ -41,7 +41,7 @@ pub struct WrongValue {
 }
 
 /// An object of which a slave aborts each read and write, as one that it doesn't have.
-#[derive(Clone, Copy, Debug, PartialEq, Eq)]
+#[derive(Clone, Copy)]
 pub struct AbortedObject {
     pub id: NodeId,
     pub index: u16,

@@ -10,7 +10,7 @@ use canboot_check::{FAILED, MISUSED, fault_line};
 use std::io::Write;
 
 /// An option that says what slaves do.
-#[derive(Clone, Copy, Debug, PartialEq, Eq)]
+#[derive(Clone, Copy)]
 pub enum SlaveOption {
     /// The nodes of a list give no answer.
     Silent,
@@ -51,7 +51,7 @@ as 3=product:999 or 3=product:0x3e7"
 }
 
 /// Why an option says nothing.
-#[derive(Clone, Copy, Debug, PartialEq, Eq)]
+#[derive(Clone, Copy)]
 enum WordFault {
     /// Its value is spelled otherwise.
     Spelling,

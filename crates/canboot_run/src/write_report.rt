@@ -34,7 +34,7 @@ pub trait WriteReport {
 }
 
 /// The report as lines.
-#[derive(Clone, Copy, Debug, PartialEq, Eq)]
+#[derive(Clone, Copy)]
 pub struct ReportLines;
 
 impl WriteReport for ReportLines {

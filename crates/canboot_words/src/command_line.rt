@@ -81,7 +81,7 @@ pub enum CheckOutput {
 }
 
 /// What is printed of a journal.
-#[derive(Clone, Copy, Debug, PartialEq, Eq)]
+#[derive(Clone, Copy)]
 pub enum ReplayOutput {
     /// Its report as lines.
     Text,
@@ -92,7 +92,7 @@ pub enum ReplayOutput {
 }
 
 /// In which form a report is printed.
-#[derive(Clone, Copy, Debug, PartialEq, Eq)]
+#[derive(Clone, Copy)]
 pub enum ReportForm {
     /// As lines.
     Text,

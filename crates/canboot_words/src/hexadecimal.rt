@@ -18,7 +18,7 @@ fn write_digits<W: fmt::Write>(f: &mut fmt::Formatter<W>, digits: &[u8]) -> fmt:
 }
 
 /// A byte in two digits, `0` to `9` and `A` to `F`.
-#[derive(Clone, Copy, Debug)]
+#[derive(Clone, Copy)]
 pub struct HexTwo(pub u8);
 
 impl fmt::Display for HexTwo {
@@ -30,7 +30,7 @@ impl fmt::Display for HexTwo {
 }
 
 /// A number of 16 bits in four such digits, the high one first.
-#[derive(Clone, Copy, Debug)]
+#[derive(Clone, Copy)]
 pub struct HexFour(pub u16);
 
 impl fmt::Display for HexFour {
@@ -42,7 +42,7 @@ impl fmt::Display for HexFour {
 }
 
 /// A number of 32 bits in eight such digits, the high one first.
-#[derive(Clone, Copy, Debug)]
+#[derive(Clone, Copy)]
 pub struct HexEight(pub u32);
 
 impl fmt::Display for HexEight {

@@ -19,7 +19,7 @@ use thiserror::Error;
 use toml::{Table, Value};
 
 /// Why a text gives no names. Of several faults it is the first in this order, wherever they stand.
-#[derive(Clone, Copy, Debug, PartialEq, Eq, Error)]
+#[derive(Clone, Copy, Debug, Error)]
 pub enum NamesFault {
     /// The text isn't UTF-8, or isn't TOML.
     #[error("not TOML")]

@@ -14,7 +14,7 @@ use std::io::{self, Write};
 use std::time::Clock;
 
 /// The colour of a word on a terminal.
-#[derive(Clone, Copy, Debug, PartialEq, Eq)]
+#[derive(Clone, Copy)]
 enum Colour {
     /// What it says is bad.
     Red,

@@ -6,7 +6,7 @@ use cm_watch::Step;
 use std::alloc::AllocError;
 
 /// How a live run ends.
-#[derive(Clone, Copy, Debug, PartialEq, Eq)]
+#[derive(Clone, Copy)]
 pub(crate) enum Ending {
     /// As its operator asked.
     Asked,

@@ -26,7 +26,7 @@ pub trait ReplaceFile {
 }
 
 /// Who replaces no file, for a run that writes no status.
-#[derive(Clone, Copy, Debug, Drop)]
+#[derive(Clone, Copy, Drop)]
 pub struct NoFiles;
 
 impl ReplaceFile for NoFiles {

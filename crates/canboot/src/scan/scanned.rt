@@ -20,7 +20,7 @@ pub(crate) struct Scanned {
 }
 
 /// Why a scan gives nothing.
-#[derive(Clone, Copy, Debug, PartialEq, Eq)]
+#[derive(Clone, Copy)]
 pub(crate) enum NoScan {
     /// Memory was refused.
     OutOfMemory,
