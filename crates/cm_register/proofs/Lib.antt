@@ -3,3 +3,4 @@ pub mod SeatLists
 pub mod Longer
 pub mod Managing
 mod Behind
+mod Unseen
