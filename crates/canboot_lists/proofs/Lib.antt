@@ -1,4 +1,5 @@
 mod DeviceFiles
 mod Added
 mod Given
+mod Lines
 mod Values
