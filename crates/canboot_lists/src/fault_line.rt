@@ -126,6 +126,11 @@ fn key_behind_header<'a>(slave: Part<'a>, key: &str) -> Option<Part<'a>> {
     None
 }
 
+/// The element of this number of the array that stands under the key.
+fn element_of(key: Part<'_>, number: usize) -> Option<Part<'_>> {
+    key.value()?.element(number)
+}
+
 /// A slave's key, or the slave itself without one.
 fn slave_key<'a>(list: Part<'a>, number: usize, key: Option<&str>) -> Option<Part<'a>> {
     if let Some(slave) = slave_behind_header(list, number) {
@@ -134,22 +139,26 @@ fn slave_key<'a>(list: Part<'a>, number: usize, key: Option<&str>) -> Option<Par
             None => Some(slave),
         };
     }
-    let slave = top_key(list, "slave")?.value()?.element(number)?;
+    let slave = element_of(top_key(list, "slave")?, number)?;
     match key {
         Some(key) => slave.member(key),
         None => Some(slave),
     }
 }
 
+/// What stands under the key that is looked for.
+fn key_sought<'a>(list: Part<'a>, sought: &Sought<'_>) -> Option<Part<'a>> {
+    match sought.slave {
+        Some(number) => slave_key(list, number, sought.key),
+        None => top_key(list, sought.key?),
+    }
+}
+
 /// The line of what is looked for, counted from 1, where it is found.
 pub(crate) fn line_of(text: &[u8], sought: &Sought<'_>) -> Option<usize> {
-    let list = Part::whole(text);
-    let found = match sought.slave {
-        Some(number) => slave_key(list, number, sought.key)?,
-        None => top_key(list, sought.key?)?,
-    };
+    let found = key_sought(Part::whole(text), sought)?;
     match sought.element {
-        Some(number) => Some(found.value()?.element(number)?.line),
+        Some(number) => Some(element_of(found, number)?.line),
         None => Some(found.line),
     }
 }

@@ -79,10 +79,10 @@ fn ordinal_end(number: usize) -> &'static str {
     }
 }
 
-/// Writes which of several one is, by its number, counted from 0: `the 1st`.
-pub(crate) fn put_ordinal<W: Write>(number: usize, out: &mut W) -> io::Result<()> {
+/// Writes which of several one is, by its number, counted from 0, and what that is: `the 1st slave`.
+fn put_ordinal<W: Write>(number: usize, what: &str, out: &mut W) -> io::Result<()> {
     let counted = number.saturating_add(1);
-    write!(out, "the {counted}{}", ordinal_end(counted))
+    write!(out, "the {counted}{}{what}", ordinal_end(counted))
 }
 
 /// Writes what is called a slave: by its node-ID where it has one, else by its number.
@@ -91,8 +91,7 @@ fn put_slave_name<W: Write>(slave: &Table, number: usize, out: &mut W) -> io::Re
     if 0 < id && id < 128 {
         return write!(out, "slave {id}");
     }
-    put_ordinal(number, out)?;
-    out.write_all(b" slave")
+    put_ordinal(number, " slave", out)
 }
 
 /// Writes the begin of a line, with the line of the list where that is known.
@@ -187,19 +186,22 @@ fn nearest(
     nearest
 }
 
+/// The nearest key that is known of the list itself, or of a slave.
+fn nearest_known(alloc: Global, name: &str, is_slave: bool) -> Option<&'static str> {
+    if is_slave {
+        nearest(alloc, name, &slave_integers(), "writes")
+    } else {
+        nearest(alloc, name, &top_integers(), "slave")
+    }
+}
+
 /// Writes an unknown key, and the nearest that is known.
 fn put_unknown<W: Write>(alloc: Global, name: &str, is_slave: bool, out: &mut W) -> io::Result<()> {
     out.write_all(b"'")?;
     put_text(name, out)?;
-    out.write_all(b"'")?;
-    let known = if is_slave {
-        nearest(alloc, name, &slave_integers(), "writes")
-    } else {
-        nearest(alloc, name, &top_integers(), "slave")
-    };
-    match known {
-        Some(known) => write!(out, " ({known}?)"),
-        None => Ok(()),
+    match nearest_known(alloc, name, is_slave) {
+        Some(known) => write!(out, "' ({known}?)"),
+        None => out.write_all(b"'"),
     }
 }
 
@@ -224,11 +226,11 @@ fn put_element<W: Write>(
     let Some(element) = elements_at(table, array_name(is_slave)).get(number) else {
         return Ok(());
     };
-    put_ordinal(number, out)?;
     if is_slave {
+        put_ordinal(number, "", out)?;
         return put_write(fault, element, out);
     }
-    out.write_all(b" slave")?;
+    put_ordinal(number, " slave", out)?;
     put_value(element, out)?;
     out.write_all(b": a table")
 }
@@ -258,8 +260,7 @@ fn put_double<W: Write>(text: &[u8], slave: &Table, earlier: usize, out: &mut W)
         Some(line) => write!(out, ", as in line {line}"),
         None => {
             out.write_all(b", as that of ")?;
-            put_ordinal(earlier, out)?;
-            out.write_all(b" slave")
+            put_ordinal(earlier, " slave", out)
         }
     }
 }
