@@ -2,4 +2,5 @@ mod DeviceFiles
 mod Added
 mod Given
 mod Lines
+mod Places
 mod Values
