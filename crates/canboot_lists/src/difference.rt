@@ -54,42 +54,33 @@ impl ExpectedValue {
     }
 }
 
-/// Writes that a device was found at a node that isn't listed.
-fn put_unknown<W: fmt::Write>(found: &Found, f: &mut fmt::Formatter<W>) -> fmt::Result {
-    let (node, device_type) = (found.id.get(), found.device_type);
-    let (vendor, product) = (found.vendor, found.product);
-    write!(
-        f,
-        "node {node}: unknown (device type {device_type:08X}, vendor-ID {vendor:08X}, product code {product:08X})"
-    )
-}
-
-/// Writes that the slave at this node has another value than the expected one.
-fn put_other<W: fmt::Write>(
-    id: NodeId,
-    value: ExpectedValue,
-    expected: u32,
-    found: u32,
-    f: &mut fmt::Formatter<W>,
-) -> fmt::Result {
-    let (node, words) = (id.get(), value.words());
-    write!(
-        f,
-        "node {node}: {words} {found:08X}, expected {expected:08X}"
-    )
-}
-
 impl fmt::Display for Difference {
     fn fmt<W: fmt::Write>(&self, f: &mut fmt::Formatter<W>) -> fmt::Result {
         match self {
-            Difference::Missing(id) => write!(f, "node {}: missing", id.get()),
-            Difference::Unknown(found) => put_unknown(found, f),
+            Difference::Missing(id) => {
+                let node = id.get();
+                write!(f, "node {node}: missing")
+            }
+            Difference::Unknown(found) => {
+                let (node, device_type) = (found.id.get(), found.device_type);
+                let (vendor, product) = (found.vendor, found.product);
+                write!(
+                    f,
+                    "node {node}: unknown (device type {device_type:08X}, vendor-ID {vendor:08X}, product code {product:08X})"
+                )
+            }
             Difference::Other {
                 id,
                 value,
                 expected,
                 found,
-            } => put_other(*id, *value, *expected, *found, f),
+            } => {
+                let (node, words) = (id.get(), value.words());
+                write!(
+                    f,
+                    "node {node}: {words} {found:08X}, expected {expected:08X}"
+                )
+            }
         }
     }
 }

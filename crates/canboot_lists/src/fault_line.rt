@@ -79,7 +79,10 @@ fn top_key<'a>(list: Part<'a>, key: &str) -> Option<Part<'a>> {
             return Some(statement);
         }
         is_top = is_top && !is_header(statement);
-        rest = rest.after(b'\n')?;
+        match rest.after(b'\n') {
+            Some(behind) => rest = behind,
+            None => return None,
+        }
     }
     None
 }
@@ -95,7 +98,10 @@ fn slave_behind_header(list: Part<'_>, number: usize) -> Option<Part<'_>> {
             }
             count = count.saturating_add(1);
         }
-        rest = rest.after(b'\n')?;
+        match rest.after(b'\n') {
+            Some(behind) => rest = behind,
+            None => return None,
+        }
     }
     None
 }
@@ -110,7 +116,9 @@ fn gives_slave_key(statement: Part<'_>, key: &str, is_slave: bool) -> bool {
 
 /// A key of the slave whose header stands in front of the text, with its value; or the header that begins it.
 fn key_behind_header<'a>(slave: Part<'a>, key: &str) -> Option<Part<'a>> {
-    let mut rest = slave.after(b'\n')?;
+    let Some(mut rest) = slave.after(b'\n') else {
+        return None;
+    };
     let mut is_slave = true;
     for _statement in 0..slave.text.len() {
         let statement = rest.before(b'\n');
@@ -121,14 +129,12 @@ fn key_behind_header<'a>(slave: Part<'a>, key: &str) -> Option<Part<'a>> {
             return Some(statement);
         }
         is_slave = is_slave && !is_header(statement);
-        rest = rest.after(b'\n')?;
+        match rest.after(b'\n') {
+            Some(behind) => rest = behind,
+            None => return None,
+        }
     }
     None
-}
-
-/// The element of this number of the array that stands under the key.
-fn element_of(key: Part<'_>, number: usize) -> Option<Part<'_>> {
-    key.value()?.element(number)
 }
 
 /// A slave's key, or the slave itself without one.
@@ -139,26 +145,26 @@ fn slave_key<'a>(list: Part<'a>, number: usize, key: Option<&str>) -> Option<Par
             None => Some(slave),
         };
     }
-    let slave = element_of(top_key(list, "slave")?, number)?;
+    let slave = top_key(list, "slave")?.value()?.element(number)?;
     match key {
         Some(key) => slave.member(key),
         None => Some(slave),
     }
 }
 
-/// What stands under the key that is looked for.
-fn key_sought<'a>(list: Part<'a>, sought: &Sought<'_>) -> Option<Part<'a>> {
-    match sought.slave {
-        Some(number) => slave_key(list, number, sought.key),
-        None => top_key(list, sought.key?),
-    }
-}
-
 /// The line of what is looked for, counted from 1, where it is found.
 pub(crate) fn line_of(text: &[u8], sought: &Sought<'_>) -> Option<usize> {
-    let found = key_sought(Part::whole(text), sought)?;
+    let list = Part::whole(text);
+    let place = match (sought.slave, sought.key) {
+        (Some(number), key) => slave_key(list, number, key),
+        (None, Some(key)) => top_key(list, key),
+        (None, None) => None,
+    };
+    let Some(found) = place else {
+        return None;
+    };
     match sought.element {
-        Some(number) => Some(element_of(found, number)?.line),
+        Some(number) => Some(found.value()?.element(number)?.line),
         None => Some(found.line),
     }
 }

@@ -94,21 +94,11 @@ fn put_slave_name<W: Write>(slave: &Table, number: usize, out: &mut W) -> io::Re
     put_ordinal(number, " slave", out)
 }
 
-/// Writes the begin of a line, with the line of the list where that is known.
-fn put_line<W: Write>(line: Option<usize>, out: &mut W) -> io::Result<()> {
+/// Writes the begin of a line, with the line of the list and these words behind it where that is known.
+fn put_line<W: Write>(line: Option<usize>, words: &str, out: &mut W) -> io::Result<()> {
     match line {
-        Some(line) => write!(out, "  line {line}"),
+        Some(line) => write!(out, "  line {line}{words}"),
         None => out.write_all(b"  "),
-    }
-}
-
-/// Writes the begin of a line that speaks of the list itself.
-fn put_top<W: Write>(line: Option<usize>, out: &mut W) -> io::Result<()> {
-    put_line(line, out)?;
-    if line.is_some() {
-        out.write_all(b": ")
-    } else {
-        Ok(())
     }
 }
 
@@ -119,10 +109,7 @@ fn put_slave<W: Write>(
     number: usize,
     out: &mut W,
 ) -> io::Result<()> {
-    put_line(line, out)?;
-    if line.is_some() {
-        out.write_all(b", ")?;
-    }
+    put_line(line, ", ", out)?;
     put_slave_name(slave, number, out)?;
     out.write_all(b": ")
 }
@@ -174,16 +161,19 @@ fn nearest(
     let mut least = 4;
     let mut nearest = None;
     for key in keys {
-        let distance = levenshtein(alloc, name, key.name).ok()?;
+        let Ok(distance) = levenshtein(alloc, name, key.name) else {
+            return None;
+        };
         if distance < least {
             least = distance;
             nearest = Some(key.name);
         }
     }
-    if levenshtein(alloc, name, array).ok()? < least {
-        nearest = Some(array);
+    match levenshtein(alloc, name, array) {
+        Ok(distance) if distance < least => Some(array),
+        Ok(_) => nearest,
+        Err(_) => None,
     }
-    nearest
 }
 
 /// The nearest key that is known of the list itself, or of a slave.
@@ -301,14 +291,14 @@ fn put_place<W: Write>(
                 return Ok(());
             };
             if is_double(place) && line.is_some() {
-                put_top(line, out)?;
+                put_line(line, ": ", out)?;
             } else {
                 put_slave(line, slave, number, out)?;
             }
             put_spot(alloc, text, fault, slave, place, out)?;
         }
         None => {
-            put_top(line, out)?;
+            put_line(line, ": ", out)?;
             put_spot(alloc, text, fault, list, place, out)?;
         }
     }

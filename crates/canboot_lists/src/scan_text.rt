@@ -35,14 +35,6 @@ fn put_device<W: Write>(
     put_key("serial", found.serial, out)
 }
 
-/// What is known of the name of the device of this number, counted from 0.
-fn name_of(names: &[Vec<u8>], place: usize) -> &[u8] {
-    match names.get(place) {
-        Some(name) => name.as_slice(),
-        None => b"",
-    }
-}
-
 /// Writes the network list of these devices, with what is known of their names.
 pub(crate) fn put_found<W: Write>(
     own: NodeId,
@@ -53,7 +45,11 @@ pub(crate) fn put_found<W: Write>(
 ) -> io::Result<()> {
     writeln!(out, "own = {}\nstartup = 0x00000001", own.get())?;
     for place in 0..all.len() {
-        put_device(&all[place], name_of(names, place), with_profiles, out)?;
+        let name = match names.get(place) {
+            Some(name) => name.as_slice(),
+            None => b"",
+        };
+        put_device(&all[place], name, with_profiles, out)?;
     }
     Ok(())
 }

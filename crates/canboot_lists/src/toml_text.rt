@@ -218,22 +218,32 @@ impl<'a> Part<'a> {
 
     /// The element of this number, counted from 0, of the array that it is.
     pub fn element(self, number: usize) -> Option<Part<'a>> {
-        let mut rest = self.inside(b'[')?;
+        let Some(mut rest) = self.inside(b'[') else {
+            return None;
+        };
         for _element in 0..number {
-            rest = rest.after(b',')?;
+            match rest.after(b',') {
+                Some(behind) => rest = behind,
+                None => return None,
+            }
         }
         Some(rest.before(b','))
     }
 
     /// The key of this name, with its value, of the table in braces that it is.
     pub fn member(self, name: &str) -> Option<Part<'a>> {
-        let mut rest = self.inside(b'{')?;
+        let Some(mut rest) = self.inside(b'{') else {
+            return None;
+        };
         for _member in 0..self.text.len() {
             let member = rest.before(b',');
             if member.has_key(name) {
                 return Some(member);
             }
-            rest = rest.after(b',')?;
+            match rest.after(b',') {
+                Some(behind) => rest = behind,
+                None => return None,
+            }
         }
         None
     }
