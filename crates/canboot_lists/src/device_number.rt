@@ -18,7 +18,9 @@ fn in_base(digits: &[u8], base: u32) -> Option<u32>
     if let [b'+', ..] = digits {
         return None;
     }
-    let digits = str::from_utf8(digits).ok()?;
+    let Ok(digits) = str::from_utf8(digits) else {
+        return None;
+    };
     u32::from_str_radix(digits, base).ok()
 }
 
@@ -63,27 +65,36 @@ fn sum(first: &[u8], second: &[u8], node: NodeId) -> Option<u32>
     ensures { IfSome result (λ n. AreSummed node first.now second.now n) }
 {
     let other = if is_node_id(first) {
-        plain_number(second)?
+        plain_number(second)
     } else if is_node_id(second) {
-        plain_number(first)?
+        plain_number(first)
     } else {
-        return None;
+        None
     };
-    other.checked_add(u32::from(node.get()))
+    match other {
+        Some(other) => other.checked_add(u32::from(node.get())),
+        None => None,
+    }
 }
 
 /// The index that these digits are.
 fn index_of(digits: &[u8]) -> Option<u16>
     ensures { IfSome result (λ n. IsWritten 16 digits.now n) }
 {
-    u16::try_from(in_base(digits, 16)?).ok()
+    match in_base(digits, 16) {
+        Some(number) => u16::try_from(number).ok(),
+        None => None,
+    }
 }
 
 /// The sub-index that these digits are.
 fn sub_index_of(digits: &[u8]) -> Option<u8>
     ensures { IfSome result (λ n. IsWritten 16 digits.now n) }
 {
-    u8::try_from(in_base(digits, 16)?).ok()
+    match in_base(digits, 16) {
+        Some(number) => u8::try_from(number).ok(),
+        None => None,
+    }
 }
 
 /// The index and the sub-index of the object that a section is named for: four hexadecimal digits, and `sub` with the digits of

@@ -275,6 +275,19 @@ fn put_spot<W: Write>(
     }
 }
 
+/// Writes the begin of a line that speaks of the list itself, or of the slave whose table this is.
+fn put_begin<W: Write>(
+    line: Option<usize>,
+    place: &FaultPlace<'_>,
+    table: &Table,
+    out: &mut W,
+) -> io::Result<()> {
+    match place.slave {
+        Some(number) if !is_double(place) || line.is_none() => put_slave(line, table, number, out),
+        _ => put_line(line, ": ", out),
+    }
+}
+
 /// Writes a place of a list, and what is wrong there.
 fn put_place<W: Write>(
     alloc: Global,
@@ -285,23 +298,15 @@ fn put_place<W: Write>(
     out: &mut W,
 ) -> io::Result<()> {
     let line = line_of_place(text, fault, place);
-    match place.slave {
-        Some(number) => {
-            let Some(slave) = slave_at(list, number) else {
-                return Ok(());
-            };
-            if is_double(place) && line.is_some() {
-                put_line(line, ": ", out)?;
-            } else {
-                put_slave(line, slave, number, out)?;
-            }
-            put_spot(alloc, text, fault, slave, place, out)?;
-        }
-        None => {
-            put_line(line, ": ", out)?;
-            put_spot(alloc, text, fault, list, place, out)?;
-        }
-    }
+    let found = match place.slave {
+        Some(number) => slave_at(list, number),
+        None => Some(list),
+    };
+    let Some(table) = found else {
+        return Ok(());
+    };
+    put_begin(line, place, table, out)?;
+    put_spot(alloc, text, fault, table, place, out)?;
     writeln!(out)
 }
 

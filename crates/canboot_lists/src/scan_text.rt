@@ -44,12 +44,12 @@ pub(crate) fn put_found<W: Write>(
     out: &mut W,
 ) -> io::Result<()> {
     writeln!(out, "own = {}\nstartup = 0x00000001", own.get())?;
-    for place in 0..all.len() {
+    for (place, found) in all.iter().enumerate() {
         let name = match names.get(place) {
             Some(name) => name.as_slice(),
             None => b"",
         };
-        put_device(&all[place], name, with_profiles, out)?;
+        put_device(found, name, with_profiles, out)?;
     }
     Ok(())
 }

@@ -177,21 +177,17 @@ impl<'a> Part<'a> {
     /// What stands behind that separator, if there is one.
     pub fn after(self, separator: u8) -> Option<Part<'a>> {
         let count = length_before(self.text, separator);
-        let found = self.text.get(count)?;
-        if *found == separator {
-            Some(self.behind(count.saturating_add(1)))
-        } else {
-            None
+        match self.text.get(count) {
+            Some(found) if *found == separator => Some(self.behind(count.saturating_add(1))),
+            _ => None,
         }
     }
 
     /// What stands in the brackets with which it begins, if it does.
     pub fn inside(self, bracket: u8) -> Option<Part<'a>> {
-        let first = self.text.first()?;
-        if *first == bracket {
-            Some(self.behind(1))
-        } else {
-            None
+        match self.text.first() {
+            Some(first) if *first == bracket => Some(self.behind(1)),
+            _ => None,
         }
     }
 
@@ -213,7 +209,10 @@ impl<'a> Part<'a> {
 
     /// The value of a key, if it is one with its value.
     pub fn value(self) -> Option<Part<'a>> {
-        Some(self.after(b'=')?.begun())
+        match self.after(b'=') {
+            Some(value) => Some(value.begun()),
+            None => None,
+        }
     }
 
     /// The element of this number, counted from 0, of the array that it is.
