@@ -103,7 +103,10 @@ pub(crate) fn object_of(name: &[u8]) -> Option<(u16, u8)>
     ensures { IfSome result (λ o. IsObject name.now o) }
 {
     if name.len() == 4 {
-        return Some((index_of(name)?, 0));
+        return match index_of(name) {
+            Some(index) => Some((index, 0)),
+            None => None,
+        };
     }
     if name.len() < 7 {
         return None;
@@ -113,7 +116,13 @@ pub(crate) fn object_of(name: &[u8]) -> Option<(u16, u8)>
     if !is_same(word, b"sub") {
         return None;
     }
-    Some((index_of(digits)?, sub_index_of(sub)?))
+    let Some(index) = index_of(digits) else {
+        return None;
+    };
+    match sub_index_of(sub) {
+        Some(sub) => Some((index, sub)),
+        None => None,
+    }
 }
 
 /// The size in bytes of the values of a data type, where a write can have it: BOOLEAN, INTEGER8, 16 and 32, UNSIGNED8, 16

@@ -227,20 +227,16 @@ fn put_element<W: Write>(
 
 /// Writes what is wrong with a slave as a whole.
 fn put_itself<W: Write>(fault: NetFault, slave: &Table, out: &mut W) -> io::Result<()> {
-    match fault {
+    let (key, words) = match fault {
         NetFault::TooManyWrites => {
             let writes = elements_at(slave, "writes").len();
-            write!(out, "{writes} writes: at most 32")
+            return write!(out, "{writes} writes: at most 32");
         }
-        NetFault::NotListedBit => {
-            put_key(slave, "assignment", out)?;
-            out.write_all(b": bit 0 has to be set")
-        }
-        _ => {
-            put_key(slave, "id", out)?;
-            out.write_all(b": the manager's own node-ID")
-        }
-    }
+        NetFault::NotListedBit => ("assignment", ": bit 0 has to be set"),
+        _ => ("id", ": the manager's own node-ID"),
+    };
+    put_key(slave, key, out)?;
+    out.write_all(words.as_bytes())
 }
 
 /// Writes an id that an earlier slave has.
