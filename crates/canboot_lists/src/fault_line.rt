@@ -24,7 +24,9 @@ struct Header<'a> {
 
 /// The header that a statement is, if it is one.
 fn header_of(statement: Part<'_>) -> Option<Header<'_>> {
-    let once = statement.inside(b'[')?;
+    let Some(once) = statement.inside(b'[') else {
+        return None;
+    };
     match once.inside(b'[') {
         Some(twice) => Some(Header {
             is_element: true,
@@ -137,6 +139,14 @@ fn key_behind_header<'a>(slave: Part<'a>, key: &str) -> Option<Part<'a>> {
     None
 }
 
+/// The element of this number of the array that stands under the key.
+fn element_of(key: Part<'_>, number: usize) -> Option<Part<'_>> {
+    match key.value() {
+        Some(array) => array.element(number),
+        None => None,
+    }
+}
+
 /// A slave's key, or the slave itself without one.
 fn slave_key<'a>(list: Part<'a>, number: usize, key: Option<&str>) -> Option<Part<'a>> {
     if let Some(slave) = slave_behind_header(list, number) {
@@ -145,7 +155,12 @@ fn slave_key<'a>(list: Part<'a>, number: usize, key: Option<&str>) -> Option<Par
             None => Some(slave),
         };
     }
-    let slave = top_key(list, "slave")?.value()?.element(number)?;
+    let Some(slaves) = top_key(list, "slave") else {
+        return None;
+    };
+    let Some(slave) = element_of(slaves, number) else {
+        return None;
+    };
     match key {
         Some(key) => slave.member(key),
         None => Some(slave),
@@ -164,7 +179,10 @@ pub(crate) fn line_of(text: &[u8], sought: &Sought<'_>) -> Option<usize> {
         return None;
     };
     match sought.element {
-        Some(number) => Some(found.value()?.element(number)?.line),
+        Some(number) => match element_of(found, number) {
+            Some(element) => Some(element.line),
+            None => None,
+        },
         None => Some(found.line),
     }
 }

@@ -118,7 +118,10 @@ fn key_spot<'a>(
     if fault == NetFault::WrongKind && is_no_array(value_at(table, array)) {
         return Some(Spot::Array);
     }
-    Some(Spot::Integer(faulty_integer(fault, keys, table)?))
+    match faulty_integer(fault, keys, table) {
+        Some(key) => Some(Spot::Integer(key)),
+        None => None,
+    }
 }
 
 /// The first element of `slave` that is no table.
@@ -246,7 +249,9 @@ fn slave_spot(fault: NetFault, table: &Table, place: usize) -> Option<Spot<'_>>
     ensures { IfSome result (λ s. SlaveIs (table_view table.now) place
         (λ t. SlaveHas fault (table_view table.now) place t s)) }
 {
-    let slave = slave_at(table, place)?;
+    let Some(slave) = slave_at(table, place) else {
+        return None;
+    };
     if fault == NetFault::DoubleSlave {
         let id = number_at(slave, "id");
         return Some(Spot::Double(earlier_with_id(table, place, id)?));
@@ -257,7 +262,10 @@ fn slave_spot(fault: NetFault, table: &Table, place: usize) -> Option<Spot<'_>>
     if let Some(spot) = key_spot(fault, &slave_integers(), "writes", slave) {
         return Some(spot);
     }
-    Some(Spot::Element(faulty_write(fault, slave)?))
+    match faulty_write(fault, slave) {
+        Some(write) => Some(Spot::Element(write)),
+        None => None,
+    }
 }
 
 /// Where this fault of a network list applies, whose table this is: a key of the list, an element of `slave` that is no table, or a key
