@@ -97,12 +97,8 @@ fn entry_of(text: &[u8]) -> Option<Entry<'_>>
     ensures { IfSome result (λ e. IsEntry text.now e.key.now e.value.now) }
 {
     let mut parts = Fields::new(text, b'=');
-    let Some(key) = parts.next_field() else {
-        return None;
-    };
-    let Some(value) = parts.next_field() else {
-        return None;
-    };
+    let key = parts.next_field()?;
+    let value = parts.next_field()?;
     Some(Entry {
         key: key.trim_ascii(),
         value: value.trim_ascii(),

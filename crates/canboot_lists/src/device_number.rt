@@ -18,9 +18,7 @@ fn in_base(digits: &[u8], base: u32) -> Option<u32>
     if let [b'+', ..] = digits {
         return None;
     }
-    let Ok(digits) = str::from_utf8(digits) else {
-        return None;
-    };
+    let digits = str::from_utf8(digits).ok()?;
     u32::from_str_radix(digits, base).ok()
 }
 
@@ -65,36 +63,27 @@ fn sum(first: &[u8], second: &[u8], node: NodeId) -> Option<u32>
     ensures { IfSome result (λ n. AreSummed node first.now second.now n) }
 {
     let other = if is_node_id(first) {
-        plain_number(second)
+        plain_number(second)?
     } else if is_node_id(second) {
-        plain_number(first)
+        plain_number(first)?
     } else {
-        None
+        return None;
     };
-    match other {
-        Some(other) => other.checked_add(u32::from(node.get())),
-        None => None,
-    }
+    other.checked_add(u32::from(node.get()))
 }
 
 /// The index that these digits are.
 fn index_of(digits: &[u8]) -> Option<u16>
     ensures { IfSome result (λ n. IsWritten 16 digits.now n) }
 {
-    match in_base(digits, 16) {
-        Some(number) => u16::try_from(number).ok(),
-        None => None,
-    }
+    u16::try_from(in_base(digits, 16)?).ok()
 }
 
 /// The sub-index that these digits are.
 fn sub_index_of(digits: &[u8]) -> Option<u8>
     ensures { IfSome result (λ n. IsWritten 16 digits.now n) }
 {
-    match in_base(digits, 16) {
-        Some(number) => u8::try_from(number).ok(),
-        None => None,
-    }
+    u8::try_from(in_base(digits, 16)?).ok()
 }
 
 /// The index and the sub-index of the object that a section is named for: four hexadecimal digits, and `sub` with the digits of
@@ -103,10 +92,7 @@ pub(crate) fn object_of(name: &[u8]) -> Option<(u16, u8)>
     ensures { IfSome result (λ o. IsObject name.now o) }
 {
     if name.len() == 4 {
-        return match index_of(name) {
-            Some(index) => Some((index, 0)),
-            None => None,
-        };
+        return Some((index_of(name)?, 0));
     }
     if name.len() < 7 {
         return None;
@@ -116,13 +102,7 @@ pub(crate) fn object_of(name: &[u8]) -> Option<(u16, u8)>
     if !is_same(word, b"sub") {
         return None;
     }
-    let Some(index) = index_of(digits) else {
-        return None;
-    };
-    match sub_index_of(sub) {
-        Some(sub) => Some((index, sub)),
-        None => None,
-    }
+    Some((index_of(digits)?, sub_index_of(sub)?))
 }
 
 /// The size in bytes of the values of a data type, where a write can have it: BOOLEAN, INTEGER8, 16 and 32, UNSIGNED8, 16

@@ -24,9 +24,7 @@ struct Header<'a> {
 
 /// The header that a statement is, if it is one.
 fn header_of(statement: Part<'_>) -> Option<Header<'_>> {
-    let Some(once) = statement.inside(b'[') else {
-        return None;
-    };
+    let once = statement.inside(b'[')?;
     match once.inside(b'[') {
         Some(twice) => Some(Header {
             is_element: true,
@@ -81,10 +79,7 @@ fn top_key<'a>(list: Part<'a>, key: &str) -> Option<Part<'a>> {
             return Some(statement);
         }
         is_top = is_top && !is_header(statement);
-        match rest.after(b'\n') {
-            Some(behind) => rest = behind,
-            None => return None,
-        }
+        rest = rest.after(b'\n')?;
     }
     None
 }
@@ -100,10 +95,7 @@ fn slave_behind_header(list: Part<'_>, number: usize) -> Option<Part<'_>> {
             }
             count = count.saturating_add(1);
         }
-        match rest.after(b'\n') {
-            Some(behind) => rest = behind,
-            None => return None,
-        }
+        rest = rest.after(b'\n')?;
     }
     None
 }
@@ -118,9 +110,7 @@ fn gives_slave_key(statement: Part<'_>, key: &str, is_slave: bool) -> bool {
 
 /// A key of the slave whose header stands in front of the text, with its value; or the header that begins it.
 fn key_behind_header<'a>(slave: Part<'a>, key: &str) -> Option<Part<'a>> {
-    let Some(mut rest) = slave.after(b'\n') else {
-        return None;
-    };
+    let mut rest = slave.after(b'\n')?;
     let mut is_slave = true;
     for _statement in 0..slave.text.len() {
         let statement = rest.before(b'\n');
@@ -131,20 +121,9 @@ fn key_behind_header<'a>(slave: Part<'a>, key: &str) -> Option<Part<'a>> {
             return Some(statement);
         }
         is_slave = is_slave && !is_header(statement);
-        match rest.after(b'\n') {
-            Some(behind) => rest = behind,
-            None => return None,
-        }
+        rest = rest.after(b'\n')?;
     }
     None
-}
-
-/// The element of this number of the array that stands under the key.
-fn element_of(key: Part<'_>, number: usize) -> Option<Part<'_>> {
-    match key.value() {
-        Some(array) => array.element(number),
-        None => None,
-    }
 }
 
 /// A slave's key, or the slave itself without one.
@@ -155,12 +134,7 @@ fn slave_key<'a>(list: Part<'a>, number: usize, key: Option<&str>) -> Option<Par
             None => Some(slave),
         };
     }
-    let Some(slaves) = top_key(list, "slave") else {
-        return None;
-    };
-    let Some(slave) = element_of(slaves, number) else {
-        return None;
-    };
+    let slave = top_key(list, "slave")?.value()?.element(number)?;
     match key {
         Some(key) => slave.member(key),
         None => Some(slave),
@@ -170,19 +144,12 @@ fn slave_key<'a>(list: Part<'a>, number: usize, key: Option<&str>) -> Option<Par
 /// The line of what is looked for, counted from 1, where it is found.
 pub(crate) fn line_of(text: &[u8], sought: &Sought<'_>) -> Option<usize> {
     let list = Part::whole(text);
-    let place = match (sought.slave, sought.key) {
-        (Some(number), key) => slave_key(list, number, key),
-        (None, Some(key)) => top_key(list, key),
-        (None, None) => None,
-    };
-    let Some(found) = place else {
-        return None;
+    let found = match sought.slave {
+        Some(number) => slave_key(list, number, sought.key)?,
+        None => top_key(list, sought.key?)?,
     };
     match sought.element {
-        Some(number) => match element_of(found, number) {
-            Some(element) => Some(element.line),
-            None => None,
-        },
+        Some(number) => Some(found.value()?.element(number)?.line),
         None => Some(found.line),
     }
 }

@@ -161,19 +161,16 @@ fn nearest(
     let mut least = 4;
     let mut nearest = None;
     for key in keys {
-        let Ok(distance) = levenshtein(alloc, name, key.name) else {
-            return None;
-        };
+        let distance = levenshtein(alloc, name, key.name).ok()?;
         if distance < least {
             least = distance;
             nearest = Some(key.name);
         }
     }
-    match levenshtein(alloc, name, array) {
-        Ok(distance) if distance < least => Some(array),
-        Ok(_) => nearest,
-        Err(_) => None,
+    if levenshtein(alloc, name, array).ok()? < least {
+        nearest = Some(array);
     }
+    nearest
 }
 
 /// The nearest key that is known of the list itself, or of a slave.

@@ -99,13 +99,8 @@ fn node_number(items: &[Item<'_>]) -> Option<u32>
 fn node_in(items: &[Item<'_>]) -> Option<NodeId>
     ensures { (file : _) → AreOf file items.now → IfSome result (IsNodeOf file) }
 {
-    let Some(number) = node_number(items) else {
-        return None;
-    };
-    match u8::try_from(number) {
-        Ok(found) => NodeId::new(found),
-        Err(_) => None,
-    }
+    let found = u8::try_from(node_number(items)?).ok()?;
+    NodeId::new(found)
 }
 
 /// The slave's node-ID: that of the words, else the file's.

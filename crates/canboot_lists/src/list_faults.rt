@@ -118,10 +118,7 @@ fn key_spot<'a>(
     if fault == NetFault::WrongKind && is_no_array(value_at(table, array)) {
         return Some(Spot::Array);
     }
-    match faulty_integer(fault, keys, table) {
-        Some(key) => Some(Spot::Integer(key)),
-        None => None,
-    }
+    Some(Spot::Integer(faulty_integer(fault, keys, table)?))
 }
 
 /// The first element of `slave` that is no table.
@@ -249,9 +246,7 @@ fn slave_spot(fault: NetFault, table: &Table, place: usize) -> Option<Spot<'_>>
     ensures { IfSome result (λ s. SlaveIs (table_view table.now) place
         (λ t. SlaveHas fault (table_view table.now) place t s)) }
 {
-    let Some(slave) = slave_at(table, place) else {
-        return None;
-    };
+    let slave = slave_at(table, place)?;
     if fault == NetFault::DoubleSlave {
         let id = number_at(slave, "id");
         return Some(Spot::Double(earlier_with_id(table, place, id)?));
@@ -262,10 +257,7 @@ fn slave_spot(fault: NetFault, table: &Table, place: usize) -> Option<Spot<'_>>
     if let Some(spot) = key_spot(fault, &slave_integers(), "writes", slave) {
         return Some(spot);
     }
-    match faulty_write(fault, slave) {
-        Some(write) => Some(Spot::Element(write)),
-        None => None,
-    }
+    Some(Spot::Element(faulty_write(fault, slave)?))
 }
 
 /// Where this fault of a network list applies, whose table this is: a key of the list, an element of `slave` that is no table, or a key

@@ -177,17 +177,21 @@ impl<'a> Part<'a> {
     /// What stands behind that separator, if there is one.
     pub fn after(self, separator: u8) -> Option<Part<'a>> {
         let count = length_before(self.text, separator);
-        match self.text.get(count) {
-            Some(found) if *found == separator => Some(self.behind(count.saturating_add(1))),
-            _ => None,
+        let found = self.text.get(count)?;
+        if *found == separator {
+            Some(self.behind(count.saturating_add(1)))
+        } else {
+            None
         }
     }
 
     /// What stands in the brackets with which it begins, if it does.
     pub fn inside(self, bracket: u8) -> Option<Part<'a>> {
-        match self.text.first() {
-            Some(first) if *first == bracket => Some(self.behind(1)),
-            _ => None,
+        let first = self.text.first()?;
+        if *first == bracket {
+            Some(self.behind(1))
+        } else {
+            None
         }
     }
 
@@ -209,40 +213,27 @@ impl<'a> Part<'a> {
 
     /// The value of a key, if it is one with its value.
     pub fn value(self) -> Option<Part<'a>> {
-        match self.after(b'=') {
-            Some(value) => Some(value.begun()),
-            None => None,
-        }
+        Some(self.after(b'=')?.begun())
     }
 
     /// The element of this number, counted from 0, of the array that it is.
     pub fn element(self, number: usize) -> Option<Part<'a>> {
-        let Some(mut rest) = self.inside(b'[') else {
-            return None;
-        };
+        let mut rest = self.inside(b'[')?;
         for _element in 0..number {
-            match rest.after(b',') {
-                Some(behind) => rest = behind,
-                None => return None,
-            }
+            rest = rest.after(b',')?;
         }
         Some(rest.before(b','))
     }
 
     /// The key of this name, with its value, of the table in braces that it is.
     pub fn member(self, name: &str) -> Option<Part<'a>> {
-        let Some(mut rest) = self.inside(b'{') else {
-            return None;
-        };
+        let mut rest = self.inside(b'{')?;
         for _member in 0..self.text.len() {
             let member = rest.before(b',');
             if member.has_key(name) {
                 return Some(member);
             }
-            match rest.after(b',') {
-                Some(behind) => rest = behind,
-                None => return None,
-            }
+            rest = rest.after(b',')?;
         }
         None
     }

@@ -16,25 +16,25 @@ returns-then-eq c =
     let earlier = c.in_ok-earlier_with_id.ensures in
     let fault : c.args.fault ≡ net.DoubleSlave = search (rules, tests) in
     slave_is ms c.args.place _ _ (λ t same. (fault, (earlier.0, slave_is ms c.in_ok-earlier_with_id.field-0 _ _ (λ u e. e ∙ c.number_at-id.ensures ∙ ap slave_id same) earlier.1)))
-    c.in-Some.ensures
+    c.in_ok-slave.ensures
 
 pub returns-then-itself_has : goal.returns-then-itself_has
 returns-then-itself_has c =
     let ms = table_view c.args.table.now in
-    let has = subst (λ n. slave_has c.args.fault n (table_view c.in-Some.slave.now) ≡ true) c.number_at.ensures (c.if-itself_has.ensures refl) in
-    slave_is ms c.args.place _ _ (λ t same. subst (λ s. slave_has c.args.fault (number_at (codes "own") ms) s ≡ true) same has) c.in-Some.ensures
+    let has = subst (λ n. slave_has c.args.fault n (table_view c.in_ok-slave.slave.now) ≡ true) c.number_at.ensures (c.if-itself_has.ensures refl) in
+    slave_is ms c.args.place _ _ (λ t same. subst (λ s. slave_has c.args.fault (number_at (codes "own") ms) s ≡ true) same has) c.in_ok-slave.ensures
 
-pub returns-in-Some-key_spot : goal.returns-in-Some-key_spot
-returns-in-Some-key_spot c =
+pub returns-in-Some : goal.returns-in-Some
+returns-in-Some c =
     let ms = table_view c.args.table.now in
-    let here = table_view c.in-Some.slave.now in
-    let has = subst (λ ks. HasByKey c.args.fault ks (codes "writes") here c.in-Some-key_spot.spot) c.slave_integers.ensures c.in-Some-key_spot.ensures in
+    let here = table_view c.in_ok-slave.slave.now in
+    let has = subst (λ ks. HasByKey c.args.fault ks (codes "writes") here c.in-Some.spot) c.slave_integers.ensures c.in-Some.ensures in
     slave_is ms c.args.place _ _
-    (λ t same. by_key c.args.fault ms c.args.place t c.in-Some-key_spot.spot (subst (λ s. HasByKey c.args.fault slave_integers (codes "writes") s c.in-Some-key_spot.spot) same has))
-    c.in-Some.ensures
+    (λ t same. by_key c.args.fault ms c.args.place t c.in-Some.spot (subst (λ s. HasByKey c.args.fault slave_integers (codes "writes") s c.in-Some.spot) same has))
+    c.in_ok-slave.ensures
 
-pub returns-in-Some-faulty_write : goal.returns-in-Some-faulty_write
-returns-in-Some-faulty_write c =
+pub returns : goal.returns
+returns c =
     slave_is (table_view c.args.table.now) c.args.place _ _
-    (λ t same. subst (λ s. IsSomeAnd (slice_get (writes s) c.in-Some-faulty_write.write) (λ d. write_has c.args.fault d ≡ true)) same c.in-Some-faulty_write.ensures)
-    c.in-Some.ensures
+    (λ t same. subst (λ s. IsSomeAnd (slice_get (writes s) c.in_ok-faulty_write.field-0) (λ d. write_has c.args.fault d ≡ true)) same c.in_ok-faulty_write.ensures)
+    c.in_ok-slave.ensures
