@@ -1,4 +1,6 @@
 mod DeviceFiles
 mod Added
 mod Given
+mod Lines
+mod Places
 mod Values

@@ -79,10 +79,10 @@ fn ordinal_end(number: usize) -> &'static str {
     }
 }
 
-/// Writes which of several one is, by its number, counted from 0: `the 1st`.
-pub(crate) fn put_ordinal<W: Write>(number: usize, out: &mut W) -> io::Result<()> {
+/// Writes which of several one is, by its number, counted from 0, and what that is: `the 1st slave`.
+fn put_ordinal<W: Write>(number: usize, what: &str, out: &mut W) -> io::Result<()> {
     let counted = number.saturating_add(1);
-    write!(out, "the {counted}{}", ordinal_end(counted))
+    write!(out, "the {counted}{}{what}", ordinal_end(counted))
 }
 
 /// Writes what is called a slave: by its node-ID where it has one, else by its number.
@@ -91,25 +91,14 @@ fn put_slave_name<W: Write>(slave: &Table, number: usize, out: &mut W) -> io::Re
     if 0 < id && id < 128 {
         return write!(out, "slave {id}");
     }
-    put_ordinal(number, out)?;
-    out.write_all(b" slave")
+    put_ordinal(number, " slave", out)
 }
 
-/// Writes the begin of a line, with the line of the list where that is known.
-fn put_line<W: Write>(line: Option<usize>, out: &mut W) -> io::Result<()> {
+/// Writes the begin of a line, with the line of the list and these words behind it where that is known.
+fn put_line<W: Write>(line: Option<usize>, words: &str, out: &mut W) -> io::Result<()> {
     match line {
-        Some(line) => write!(out, "  line {line}"),
+        Some(line) => write!(out, "  line {line}{words}"),
         None => out.write_all(b"  "),
-    }
-}
-
-/// Writes the begin of a line that speaks of the list itself.
-fn put_top<W: Write>(line: Option<usize>, out: &mut W) -> io::Result<()> {
-    put_line(line, out)?;
-    if line.is_some() {
-        out.write_all(b": ")
-    } else {
-        Ok(())
     }
 }
 
@@ -120,10 +109,7 @@ fn put_slave<W: Write>(
     number: usize,
     out: &mut W,
 ) -> io::Result<()> {
-    put_line(line, out)?;
-    if line.is_some() {
-        out.write_all(b", ")?;
-    }
+    put_line(line, ", ", out)?;
     put_slave_name(slave, number, out)?;
     out.write_all(b": ")
 }
@@ -187,19 +173,22 @@ fn nearest(
     nearest
 }
 
+/// The nearest key that is known of the list itself, or of a slave.
+fn nearest_known(alloc: Global, name: &str, is_slave: bool) -> Option<&'static str> {
+    if is_slave {
+        nearest(alloc, name, &slave_integers(), "writes")
+    } else {
+        nearest(alloc, name, &top_integers(), "slave")
+    }
+}
+
 /// Writes an unknown key, and the nearest that is known.
 fn put_unknown<W: Write>(alloc: Global, name: &str, is_slave: bool, out: &mut W) -> io::Result<()> {
     out.write_all(b"'")?;
     put_text(name, out)?;
-    out.write_all(b"'")?;
-    let known = if is_slave {
-        nearest(alloc, name, &slave_integers(), "writes")
-    } else {
-        nearest(alloc, name, &top_integers(), "slave")
-    };
-    match known {
-        Some(known) => write!(out, " ({known}?)"),
-        None => Ok(()),
+    match nearest_known(alloc, name, is_slave) {
+        Some(known) => write!(out, "' ({known}?)"),
+        None => out.write_all(b"'"),
     }
 }
 
@@ -224,31 +213,27 @@ fn put_element<W: Write>(
     let Some(element) = elements_at(table, array_name(is_slave)).get(number) else {
         return Ok(());
     };
-    put_ordinal(number, out)?;
     if is_slave {
+        put_ordinal(number, "", out)?;
         return put_write(fault, element, out);
     }
-    out.write_all(b" slave")?;
+    put_ordinal(number, " slave", out)?;
     put_value(element, out)?;
     out.write_all(b": a table")
 }
 
 /// Writes what is wrong with a slave as a whole.
 fn put_itself<W: Write>(fault: NetFault, slave: &Table, out: &mut W) -> io::Result<()> {
-    match fault {
+    let (key, words) = match fault {
         NetFault::TooManyWrites => {
             let writes = elements_at(slave, "writes").len();
-            write!(out, "{writes} writes: at most 32")
+            return write!(out, "{writes} writes: at most 32");
         }
-        NetFault::NotListedBit => {
-            put_key(slave, "assignment", out)?;
-            out.write_all(b": bit 0 has to be set")
-        }
-        _ => {
-            put_key(slave, "id", out)?;
-            out.write_all(b": the manager's own node-ID")
-        }
-    }
+        NetFault::NotListedBit => ("assignment", ": bit 0 has to be set"),
+        _ => ("id", ": the manager's own node-ID"),
+    };
+    put_key(slave, key, out)?;
+    out.write_all(words.as_bytes())
 }
 
 /// Writes an id that an earlier slave has.
@@ -258,8 +243,7 @@ fn put_double<W: Write>(text: &[u8], slave: &Table, earlier: usize, out: &mut W)
         Some(line) => write!(out, ", as in line {line}"),
         None => {
             out.write_all(b", as that of ")?;
-            put_ordinal(earlier, out)?;
-            out.write_all(b" slave")
+            put_ordinal(earlier, " slave", out)
         }
     }
 }
@@ -284,6 +268,19 @@ fn put_spot<W: Write>(
     }
 }
 
+/// Writes the begin of a line that speaks of the list itself, or of the slave whose table this is.
+fn put_begin<W: Write>(
+    line: Option<usize>,
+    place: &FaultPlace<'_>,
+    table: &Table,
+    out: &mut W,
+) -> io::Result<()> {
+    match place.slave {
+        Some(number) if !is_double(place) || line.is_none() => put_slave(line, table, number, out),
+        _ => put_line(line, ": ", out),
+    }
+}
+
 /// Writes a place of a list, and what is wrong there.
 fn put_place<W: Write>(
     alloc: Global,
@@ -294,23 +291,15 @@ fn put_place<W: Write>(
     out: &mut W,
 ) -> io::Result<()> {
     let line = line_of_place(text, fault, place);
-    match place.slave {
-        Some(number) => {
-            let Some(slave) = slave_at(list, number) else {
-                return Ok(());
-            };
-            if is_double(place) && line.is_some() {
-                put_top(line, out)?;
-            } else {
-                put_slave(line, slave, number, out)?;
-            }
-            put_spot(alloc, text, fault, slave, place, out)?;
-        }
-        None => {
-            put_top(line, out)?;
-            put_spot(alloc, text, fault, list, place, out)?;
-        }
-    }
+    let found = match place.slave {
+        Some(number) => slave_at(list, number),
+        None => Some(list),
+    };
+    let Some(table) = found else {
+        return Ok(());
+    };
+    put_begin(line, place, table, out)?;
+    put_spot(alloc, text, fault, table, place, out)?;
     writeln!(out)
 }
 

@@ -3,7 +3,6 @@
 use crate::import_text::put_text;
 use crate::list_values::{is_no_integer, is_outside, number};
 use cm_netlist::NetFault;
-use cm_text::hex4;
 use std::io::{self, Write};
 use toml::Value;
 
@@ -132,9 +131,7 @@ fn put_wide<W: Write>(write: &Value, out: &mut W) -> io::Result<()> {
     let index = u16::try_from(number(write.get(0usize))).unwrap_or(0);
     let sub = number(write.get(1usize));
     let size = number(write.get(2usize));
-    out.write_all(b", ")?;
-    out.write_all(&hex4(index))?;
-    write!(out, "h sub {sub}")?;
+    write!(out, ", {index:04X}h sub {sub}")?;
     put_part(write, WritePart::Value, out)?;
     let most = if size == 1 { 255 } else { 65_535 };
     write!(out, ": 0 to {most}, as its size is {size}")

@@ -3,7 +3,7 @@
 use crate::imported::Imported;
 use crate::settings::{Reason, Setting, Unwritten};
 use cm_netlist::SlaveEntry;
-use cm_text::{hex4, hex8};
+use cm_text::hex8;
 use std::io::{self, Write};
 use std::str;
 
@@ -11,7 +11,7 @@ use std::str;
 const LONGEST_NAME: usize = 64;
 
 /// Writes a hexadecimal number as TOML has it.
-pub(crate) fn put_hex<W: Write>(digits: &[u8], out: &mut W) -> io::Result<()> {
+fn put_hex<W: Write>(digits: &[u8], out: &mut W) -> io::Result<()> {
     out.write_all(b"0x")?;
     out.write_all(digits)
 }
@@ -58,9 +58,19 @@ pub(crate) fn put_key<W: Write>(key: &str, value: u32, out: &mut W) -> io::Resul
     if value == 0 {
         return Ok(());
     }
-    write!(out, "{key} = ")?;
-    put_hex(&hex8(value), out)?;
-    out.write_all(b"\n")
+    writeln!(out, "{key} = 0x{value:08X}")
+}
+
+/// Writes the identity of a device, as far as an electronic data sheet gives it.
+pub(crate) fn put_identity<W: Write>(
+    vendor: u32,
+    product: u32,
+    revision: u32,
+    out: &mut W,
+) -> io::Result<()> {
+    put_key("vendor", vendor, out)?;
+    put_key("product", product, out)?;
+    put_key("revision", revision, out)
 }
 
 /// Writes a value in the digits of its size.
@@ -76,10 +86,9 @@ fn put_value<W: Write>(size: u8, value: u32, out: &mut W) -> io::Result<()> {
 /// Writes the line of a write.
 fn put_write<W: Write>(setting: &Setting<'_>, out: &mut W) -> io::Result<()> {
     let write = setting.write;
-    out.write_all(b"  [")?;
-    put_hex(&hex4(write.index), out)?;
-    write!(out, ", {}, {}, ", write.sub, write.size)?;
-    put_value(write.size, write.value, out)?;
+    let (index, sub, size) = (write.index, write.sub, write.size);
+    write!(out, "  [0x{index:04X}, {sub}, {size}, ")?;
+    put_value(size, write.value, out)?;
     out.write_all(b"],")?;
     put_comment(setting.name, out)
 }
@@ -110,9 +119,7 @@ fn reason_words(reason: Reason) -> &'static str {
 /// Writes what isn't written to the device, and why.
 pub(crate) fn put_unwritten<W: Write>(unwritten: &Unwritten<'_>, out: &mut W) -> io::Result<()> {
     let (index, sub) = unwritten.object;
-    out.write_all(b"not written: ")?;
-    out.write_all(&hex4(index))?;
-    write!(out, "h sub {sub}")?;
+    write!(out, "not written: {index:04X}h sub {sub}")?;
     if !unwritten.name.is_empty() {
         out.write_all(b", ")?;
         put_name(unwritten.name, out)?;
@@ -131,17 +138,13 @@ fn put_all_unwritten<W: Write>(all: &[Unwritten<'_>], out: &mut W) -> io::Result
 
 /// Writes what the list says of the slave beside its writes.
 fn put_terms<W: Write>(entry: &SlaveEntry, out: &mut W) -> io::Result<()> {
-    out.write_all(b"assignment = ")?;
-    put_hex(&hex8(entry.assignment.0), out)?;
-    out.write_all(b"\n")?;
+    writeln!(out, "assignment = 0x{:08X}", entry.assignment.0)?;
     put_key("device_type", entry.device_type, out)?;
-    put_key("vendor", entry.vendor, out)?;
-    put_key("product", entry.product, out)?;
-    put_key("revision", entry.revision, out)?;
-    if entry.heartbeat_ms != 0 {
-        writeln!(out, "heartbeat = {}", entry.heartbeat_ms)?;
+    put_identity(entry.vendor, entry.product, entry.revision, out)?;
+    if entry.heartbeat_ms == 0 {
+        return Ok(());
     }
-    Ok(())
+    writeln!(out, "heartbeat = {}", entry.heartbeat_ms)
 }
 
 /// Writes the slave as a table of a network list.

@@ -1,10 +1,9 @@
 //! The devices that were found on a bus as a network list in TOML.
 
-use crate::import_text::{put_comment, put_hex, put_key};
+use crate::import_text::{put_comment, put_identity, put_key};
 use crate::profile::profile_words;
 use crate::scanned::Found;
 use cm_nmt::NodeId;
-use cm_text::hex8;
 use std::io::{self, Write};
 
 /// Writes the device type, and in a comment what its profile is about, where that is wanted and known.
@@ -12,11 +11,12 @@ fn put_device_type<W: Write>(device_type: u32, with_profiles: bool, out: &mut W)
     if !with_profiles || device_type == 0 {
         return put_key("device_type", device_type, out);
     }
-    out.write_all(b"device_type = ")?;
-    put_hex(&hex8(device_type), out)?;
     match profile_words(device_type) {
-        Some((number, words)) => writeln!(out, "  # CiA {number}, {words}"),
-        None => out.write_all(b"\n"),
+        Some((number, words)) => writeln!(
+            out,
+            "device_type = 0x{device_type:08X}  # CiA {number}, {words}"
+        ),
+        None => put_key("device_type", device_type, out),
     }
 }
 
@@ -31,9 +31,7 @@ fn put_device<W: Write>(
     put_comment(name, out)?;
     writeln!(out, "id = {}\nassignment = 0x00000005", found.id.get())?;
     put_device_type(found.device_type, with_profiles, out)?;
-    put_key("vendor", found.vendor, out)?;
-    put_key("product", found.product, out)?;
-    put_key("revision", found.revision, out)?;
+    put_identity(found.vendor, found.product, found.revision, out)?;
     put_key("serial", found.serial, out)
 }
 

@@ -267,8 +267,12 @@ fn put_heading<W: Write>(number: u8, assignment: Assignment, out: &mut W) -> io:
 {
     write!(out, "slave {number}: assignment ")?;
     out.write_all(&hex8(assignment.0))?;
-    write!(out, "{}", mandatory_words(assignment))?;
-    writeln!(out, "{}", kept_words(assignment))
+    writeln!(
+        out,
+        "{}{}",
+        mandatory_words(assignment),
+        kept_words(assignment)
+    )
 }
 
 /// Writes a slave: its assignment, what a boot asks of it in its order, and how it is watched then.
