@@ -14,9 +14,9 @@ use Rattle.cm_boot.specs.declared.question.Answer.TheVariants as answer
 use Rattle.cm_live.specs.Receiving.{BusView, HasHeardIdentity, IsGiven, IsHeard, IsHeardAs}
 use Rattle.cm_live.specs.Talk.{IsAsked}
 use Rattle.cm_live.specs.declared.outlet.Format.{Format}
-use Rattle.canboot_lists.specs.Compared.{HasExpected, IsAsListed, IsFoundAsListed}
-use Rattle.canboot_lists.specs.Scans.{listed_as}
-use Rattle.canboot_lists.specs.declared.scanned.Found.{Found}
+use Rattle.canboot_tools.specs.Compared.{HasExpected, IsAsListed, IsFoundAsListed}
+use Rattle.canboot_tools.specs.Scans.{listed_as}
+use Rattle.canboot_tools.specs.declared.scanned.Found.{Found}
 use Rattle.canboot.specs.Scanning.{AreHeardAsListed, IsHeardAsListed, IsHeardDevice, found_of}
 
 module _ (format : Format) (text : Option (List ℕ)) (node : ℕ) where

@@ -3,7 +3,7 @@ use Rattle.std.specs.Prelude.{◌++◌, ℕ, List, Option}
 use Rattle.std.specs.Io.KnownBytes.{Appends}
 use Rattle.cm_netlist.specs.Network.{Network}
 use Rattle.canboot_check.specs.Check.{IsList, check_line}
-use Rattle.canboot_lists.specs.Explained.{explained}
+use Rattle.canboot_tools.specs.Explained.{explained}
 
 -- the input was read to its end, and just the line of the network list that its bytes say was written, and what that list comes to
 pub record ExplainsList (input input' output output' : Option (List ℕ)) : Type 0 where

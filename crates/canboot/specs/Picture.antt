@@ -2,7 +2,7 @@
 use Rattle.std.specs.Prelude.{ℕ, List, Option}
 use Rattle.cm_format.specs.Text.{JournalView}
 use Rattle.canboot_check.specs.Replay.{IsLegalInput}
-use Rattle.canboot_picture.specs.Pictures.{WritesPicture}
+use Rattle.canboot_tools.specs.Pictures.{WritesPicture}
 
 -- the input was read to its end, its bytes are the text of a journal whose entries are legal, and just a picture of that history was
 -- written

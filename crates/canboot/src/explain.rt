@@ -3,11 +3,11 @@
 ghost use Rattle.std.specs.Prelude.{◌≡◌, ◌⊎◌, ◌++◌, OnOk};
 ghost use Rattle.std.specs.Io.KnownBytes.{Appends};
 ghost use Rattle.canboot_check.specs.Check.{FailsToCheck, RefusesList, check_line};
-ghost use Rattle.canboot_lists.specs.Explained.{explained};
+ghost use Rattle.canboot_tools.specs.Explained.{explained};
 ghost use Rattle.canboot.specs.Explain.{ExplainsList};
 
 use canboot_check::{LONGEST_LIST, input_fault_line, list_of, output_status, put_check};
-use canboot_lists::explain;
+use canboot_tools::explain;
 use canboot_run::{read_fault_of, refuse_explained};
 use cm_netlist::Network;
 use cm_text::read_input;

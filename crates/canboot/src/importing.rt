@@ -5,7 +5,7 @@ ghost use Rattle.std.specs.Io.KnownBytes.{Appends};
 ghost use Rattle.canboot.specs.Importing.{FailsToImport, ImportsSlave};
 
 use canboot_check::{FAILED, REFUSED, fault_line, input_fault_line, output_status};
-use canboot_lists::{FileFault, ImportFault, ImportWords, ImportedText, import};
+use canboot_tools::{FileFault, ImportFault, ImportWords, ImportedText, import};
 use canboot_run::read_fault_of;
 use cm_text::{InputFault, read_input};
 use std::alloc::Global;

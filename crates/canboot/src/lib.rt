@@ -18,7 +18,7 @@ mod tell;
 pub use canboot_check::{
     DONE, FAILED, LONGEST_JOURNAL, LONGEST_LIST, MISUSED, REFUSED, check_text, replay_text,
 };
-pub use canboot_lists::ImportWords;
+pub use canboot_tools::ImportWords;
 pub use canboot_run::{
     JournalOutput, LONGEST_RUN, Options, ReportLines, SlaveFaults, WriteReport, run_text,
     run_text_as,

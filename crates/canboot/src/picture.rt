@@ -5,14 +5,14 @@ ghost use Rattle.cm_history.specs.Legal.{IsLegal, most_entries};
 ghost use Rattle.cm_history.specs.declared.call.Entry.{Entry};
 ghost use Rattle.cm_netlist.specs.Network.{listing};
 ghost use Rattle.canboot_check.specs.Replay.{FailsToReplay, Refuses};
-ghost use Rattle.canboot_picture.specs.Drawn.{IsPictureOf};
-ghost use Rattle.canboot_picture.specs.Pictures.{WritesPicture};
+ghost use Rattle.canboot_tools.specs.Drawn.{IsPictureOf};
+ghost use Rattle.canboot_tools.specs.Pictures.{WritesPicture};
 ghost use Rattle.canboot.specs.Picture.{PicturesJournal};
 
 use canboot_check::{
     FAILED, LONGEST_JOURNAL, fault_line, input_fault_line, output_status, refuse_journal,
 };
-use canboot_picture::{Picture, picture_of, put_picture};
+use canboot_tools::{Picture, picture_of, put_picture};
 use cm_journal::{Journal, journal_read};
 use cm_netlist::Network;
 use cm_text::read_input;

@@ -16,7 +16,7 @@ use crate::scan::differences::{put_lines, put_object};
 use crate::scan::finding::find_devices;
 use crate::scan::scanned::{NoScan, Scanned};
 use canboot_check::{DONE, FAILED, REFUSED, fault_line, output_status};
-use canboot_lists::{Difference, ScanFault, compare, list_found};
+use canboot_tools::{Difference, ScanFault, compare, list_found};
 use canboot_words::{NoFrames, ReportForm};
 use cm_live::Format;
 use cm_netlist::{Network, Startup};

@@ -1,6 +1,3 @@
-mod DeviceFiles
-mod Added
-mod Given
 mod Lines
 mod Places
 mod Values

@@ -1,15 +1,9 @@
--- Lines that are written in several parts.
-use Rattle.std.proofs.Common.{◌≡◌, ℕ, ◌+◌, ◌<◌, ◌≤◌, List, [], ◌++◌, append_assoc, ap, get_or, length, subst, sym, take, ◌∙◌}
-use Rattle.std.specs.Prelude.{Option, Result, OnOk, flat_map}
+-- Texts that are written item by item.
+use Rattle.std.proofs.Common.{◌≡◌, ℕ, ◌+◌, ◌<◌, ◌≤◌, List, [], ap, get_or, length, subst, sym, take, ◌∙◌}
+use Rattle.std.specs.Prelude.{Option, flat_map}
 use Rattle.std.specs.Io.KnownBytes.{Appends}
 use Rattle.std.proofs.KnownBytes.{Appends-trans}
 use Rattle.std.proofs.lemmas.List.{flat_map_more, take_all, take_more}
-use Rattle.cm_text.proofs.Writes.{then_last}
-
--- a text and the words behind it, and then a last write, which may fail
-pub then_words : {T E : Type 0} (r : Result T E) (a b c : Option (List ℕ)) (xs ys cs : List ℕ) → Appends a b (xs ++ ys)
-    → OnOk r (Appends b c cs) → OnOk r (Appends a c (xs ++ (ys ++ cs)))
-then_words r a b c xs ys cs p q = subst (λ (bytes : List ℕ). OnOk r (Appends a c bytes)) (append_assoc xs ys cs) (then_last r a b c (xs ++ ys) cs p q)
 
 -- what is written of one item more
 pub one_more : {X : Type 0} (f : X → List ℕ) (xs : List X) (i : ℕ) (x : X) (a b c : Option (List ℕ)) → i < length xs → x ≡ get_or xs i x

@@ -1,12 +1,31 @@
--- What is told of a network list before its network is booted (own).
-use Rattle.std.specs.Prelude.{ℕ, List, [], ◌++◌, flat_map}
+-- What slaves of a network list are warned of, in words, and what is told before its network is booted (own).
+use Rattle.std.specs.Prelude.{ℕ, Bool, true, false, List, [], ◌∷◌, ◌++◌, codes, decimal, flat_map}
 use Rattle.std.specs.Option.{option_map_or}
 use Rattle.cm_netlist.specs.Network.{Network, entry, listed_ids}
 use Rattle.cm_netlist.specs.declared.entry.SlaveEntry.{SlaveEntry}
-use Rattle.canboot_lists.specs.Explained.{given, warning_text, warning_words}
 use Rattle.canboot_lists.specs.Warnings.{is_warned}
 use Rattle.canboot_lists.specs.declared.warning.SlaveWarning.{SlaveWarning}
 use Rattle.canboot_lists.specs.declared.warning.SlaveWarning.TheVariants as slave
+
+-- a text on a line of its own
+abbrev pub ended : List ℕ → List ℕ
+ended text = text ++ 10 ∷ []
+
+-- the text, where this holds
+abbrev pub given : Bool → List ℕ → List ℕ
+given true text = text
+given false text = []
+
+-- what a slave is warned of
+abbrev pub warning_words : SlaveWarning → List ℕ
+warning_words slave.Unchecked = codes "bit 2 of its assignment is clear: any device is taken for it, as nothing is compared or written"
+warning_words slave.Unwatched = codes "no heartbeat time, and no guard time with a retry factor: nobody notices that it is gone"
+warning_words slave.Silent = codes "no write of 1017h sets a time shorter than its heartbeat time, and most devices send none by themselves"
+warning_words slave.UnusedBits = codes "its assignment has bit 1, 6 or 7, which mean nothing"
+
+-- a warning of a slave, in these words
+abbrev pub warning_text : ℕ → List ℕ → List ℕ
+warning_text i words = codes "warning: slave " ++ (decimal i ++ (codes ": " ++ ended words))
 
 -- the line of a warning behind these words, where the slave is warned of for this
 abbrev pub told_warning : List ℕ → ℕ → SlaveEntry → SlaveWarning → List ℕ

@@ -1,17 +1,13 @@
--- What a network list is warned of that has no fault (own).
+-- What a slave of a network list without a fault is warned of (own).
 use Rattle.std.specs.Prelude.{ℕ, Bool, ◌==◌, ◌&&◌, ◌||◌, not, nat_lt, length}
 use Rattle.std.specs.List.{list_any}
 use Rattle.cm_nmt.specs.Bits.{has_bit}
 use Rattle.cm_nmt.specs.Guarding.{guard_time, retry_factor}
 use Rattle.cm_nmt.specs.declared.write.Write.{Write}
-use Rattle.cm_netlist.specs.Network.{Network, expected_of, listed_ids}
+use Rattle.cm_netlist.specs.Network.{expected_of}
 use Rattle.cm_netlist.specs.declared.entry.SlaveEntry.{SlaveEntry}
 use Rattle.canboot_lists.specs.declared.warning.SlaveWarning.{SlaveWarning}
 use Rattle.canboot_lists.specs.declared.warning.SlaveWarning.TheVariants as slave
-use Rattle.canboot_lists.specs.declared.warning.ListWarning.{ListWarning}
-use Rattle.canboot_lists.specs.declared.warning.ListWarning.TheVariants as list
-
--- ---- of a slave
 
 -- a device type, an identity or a write is given (CiA 302-2, 1F84h to 1F88h; CiA 302-3, 1F22h)
 abbrev pub is_described : SlaveEntry → Bool
@@ -44,10 +40,3 @@ is_warned e slave.Unchecked = is_unchecked e
 is_warned e slave.Unwatched = is_unwatched e
 is_warned e slave.Silent = is_silent e
 is_warned e slave.UnusedBits = has_unused_bits e
-
--- ---- of a list
-
--- the list is warned of for this: it has no slave, or 1F80h bit 0 is clear, so that every call is refused (CiA 302-2, NMT startup)
-abbrev pub is_list_warned : Network → ListWarning → Bool
-is_list_warned net list.NoSlave = length (listed_ids net) == 0
-is_list_warned net list.NotMaster = not (has_bit net.startup 0)

@@ -2,10 +2,10 @@
 
 use crate::fault_line::{Sought, line_of};
 use crate::faulty_write::{put_value, put_write};
-use crate::import_text::put_text;
 use crate::list_faults::{FaultPlace, Spot, fault_place, slave_at};
 use crate::list_keys::{IntegerKey, slave_integers, top_integers};
 use crate::list_values::{elements_at, number_at, value_at};
+use crate::shown::put_text;
 use crate::toml_text::line_at;
 use cm_netlist::NetFault;
 use std::alloc::Global;

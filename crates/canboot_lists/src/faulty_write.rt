@@ -1,7 +1,7 @@
 //! A value of a network list, and what is wrong with a write of one, in words.
 
-use crate::import_text::put_text;
 use crate::list_values::{is_no_integer, is_outside, number};
+use crate::shown::put_text;
 use cm_netlist::NetFault;
 use std::io::{self, Write};
 use toml::Value;

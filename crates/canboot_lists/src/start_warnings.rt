@@ -1,21 +1,39 @@
-//! What is told of a network list before its network is booted.
+//! What slaves are warned of, in words, and what is told of a network list before its network is booted.
 
-ghost use Rattle.std.specs.Prelude.{◌++◌, OnOk, flat_map};
+ghost use Rattle.std.specs.Prelude.{◌≡◌, ◌++◌, OnOk, flat_map};
 ghost use Rattle.std.specs.Io.KnownBytes.{Appends};
 ghost use Rattle.cm_netlist.specs.Network.{listed_ids};
-ghost use Rattle.canboot_lists.specs.Explained.{warning_text};
 ghost use Rattle.canboot_lists.specs.StartWarnings.{
   start_warnings,
   told_warning,
   told_warnings,
   told_warnings_of,
+  warning_text,
+  warning_words,
 };
 
-use crate::explaining::warning_words;
 use crate::warning::{SlaveWarning, slave_is_warned};
 use cm_netlist::{Network, SlaveEntry};
 use cm_nmt::NodeId;
 use std::io::{self, Write};
+
+/// What is said with a warning of a slave.
+fn warning_words(warning: SlaveWarning) -> &'static str
+    ensures { result.now ≡ warning_words warning }
+{
+    match warning {
+        SlaveWarning::Unchecked => {
+            "bit 2 of its assignment is clear: any device is taken for it, as nothing is compared or written"
+        }
+        SlaveWarning::Unwatched => {
+            "no heartbeat time, and no guard time with a retry factor: nobody notices that it is gone"
+        }
+        SlaveWarning::Silent => {
+            "no write of 1017h sets a time shorter than its heartbeat time, and most devices send none by themselves"
+        }
+        SlaveWarning::UnusedBits => "its assignment has bit 1, 6 or 7, which mean nothing",
+    }
+}
 
 /// Writes a warning of a slave behind these words.
 fn put_behind<W: Write>(front: &str, number: u8, words: &str, out: &mut W) -> io::Result<()>
@@ -24,8 +42,9 @@ fn put_behind<W: Write>(front: &str, number: u8, words: &str, out: &mut W) -> io
     writeln!(out, "{front}warning: slave {number}: {words}")
 }
 
-/// Writes the warning behind these words, where the slave is warned of for this.
-fn put_told_warning<W: Write>(
+/// Writes the warning of this slave in a line that begins with these words, where it is warned of for this, and nothing else. It fails
+/// only where the writer does, and then says nothing of how much was written.
+pub fn put_warning<W: Write>(
     front: &str,
     id: NodeId,
     entry: &SlaveEntry,
@@ -51,9 +70,9 @@ fn put_told_warnings<W: Write>(
 ) -> io::Result<()>
     ensures { OnOk result (Appends (W.contents out.old) (W.contents out.new) (told_warnings front.now id entry.now)) }
 {
-    put_told_warning(front, id, entry, SlaveWarning::Unchecked, out)?;
-    put_told_warning(front, id, entry, SlaveWarning::Unwatched, out)?;
-    put_told_warning(front, id, entry, SlaveWarning::Silent, out)
+    put_warning(front, id, entry, SlaveWarning::Unchecked, out)?;
+    put_warning(front, id, entry, SlaveWarning::Unwatched, out)?;
+    put_warning(front, id, entry, SlaveWarning::Silent, out)
 }
 
 /// Writes what is told of a node that is listed.

@@ -1,4 +1,4 @@
-//! What a network list is warned of that has no fault.
+//! What a slave of a network list without a fault is warned of.
 
 ghost use Rattle.std.specs.Prelude.{◌≡◌};
 ghost use Rattle.std.specs.List.{list_any};
@@ -6,18 +6,17 @@ ghost use Rattle.canboot_lists.specs.Warnings.{
   has_beats,
   has_unused_bits,
   is_described,
-  is_list_warned,
   is_silent,
   is_unchecked,
   is_unwatched,
   is_warned,
 };
 
-use cm_netlist::{Network, SlaveEntry, Write};
+use cm_netlist::{SlaveEntry, Write};
 
-/// What a slave is warned of. None is a fault: the list is accepted.
+/// What a slave of a network list is warned of (own). None is a fault: the list is accepted.
 #[derive(Clone, Copy)]
-pub(crate) enum SlaveWarning {
+pub enum SlaveWarning {
     /// A device type, an identity or a write is given, but 1F81h bit 2 is clear: a boot neither compares nor writes, and any
     /// device is taken for this slave.
     Unchecked,
@@ -27,15 +26,6 @@ pub(crate) enum SlaveWarning {
     Silent,
     /// 1F81h has one of the bits 1, 6, 7, which mean nothing here.
     UnusedBits,
-}
-
-/// What a list is warned of. None is a fault: the list is accepted.
-#[derive(Clone, Copy)]
-pub(crate) enum ListWarning {
-    /// No slave is listed.
-    NoSlave,
-    /// 1F80h bit 0 is clear: this device isn't the NMT master, and every call is refused.
-    NotMaster,
 }
 
 /// Whether a device type, an identity or a write is given.
@@ -58,7 +48,7 @@ fn is_unchecked(entry: &SlaveEntry) -> bool
 }
 
 /// Whether the slave has neither a heartbeat time nor is guarded.
-pub(crate) fn is_unwatched(entry: &SlaveEntry) -> bool
+fn is_unwatched(entry: &SlaveEntry) -> bool
     ensures { result ≡ is_unwatched entry.now }
 {
     entry.heartbeat_ms == 0
@@ -94,8 +84,8 @@ fn has_unused_bits(entry: &SlaveEntry) -> bool
     bits & 0x02 == 0x02 || bits & 0x40 == 0x40 || bits & 0x80 == 0x80
 }
 
-/// Whether a slave of this entry is warned of.
-pub(crate) fn slave_is_warned(entry: &SlaveEntry, warning: SlaveWarning) -> bool
+/// Whether a slave of this entry is warned of for this.
+pub fn slave_is_warned(entry: &SlaveEntry, warning: SlaveWarning) -> bool
     ensures { result ≡ is_warned entry.now warning }
 {
     match warning {
@@ -103,15 +93,5 @@ pub(crate) fn slave_is_warned(entry: &SlaveEntry, warning: SlaveWarning) -> bool
         SlaveWarning::Unwatched => is_unwatched(entry),
         SlaveWarning::Silent => is_silent(entry),
         SlaveWarning::UnusedBits => has_unused_bits(entry),
-    }
-}
-
-/// Whether the list is warned of.
-pub(crate) fn list_is_warned(network: &Network, warning: ListWarning) -> bool
-    ensures { result ≡ is_list_warned network.now warning }
-{
-    match warning {
-        ListWarning::NoSlave => network.listed_ids().is_empty(),
-        ListWarning::NotMaster => !network.startup().is_master(),
     }
 }

@@ -3,7 +3,7 @@
 ghost use Rattle.std.specs.Prelude.{◌≡◌, IfSome};
 ghost use Rattle.canboot.specs.Scanning.{IsHeardDevice, found_of};
 
-use canboot_lists::Found;
+use canboot_tools::Found;
 use cm_live::{BusName, DeviceName, Identity, LiveBus, Port, identify};
 use cm_nmt::NodeId;
 use std::marker::{Model, PhantomData};
@@ -20,7 +20,7 @@ pub(crate) struct HeardDevice<B: BusName> {
 
 impl<B: BusName> Model for HeardDevice<B> {
     ghost use Rattle.canboot.specs.Scanning.{IsHeardDevice};
-    ghost use Rattle.canboot_lists.specs.declared.scanned.Found.{Found as FoundDevice};
+    ghost use Rattle.canboot_tools.specs.declared.scanned.Found.{Found as FoundDevice};
 
     ghost Value = { FoundDevice };
 

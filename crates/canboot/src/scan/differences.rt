@@ -1,6 +1,6 @@
 //! How the devices on a bus differ from a network list, as lines and as a JSON object.
 
-use canboot_lists::{Difference, ExpectedValue, Found};
+use canboot_tools::{Difference, ExpectedValue, Found};
 use std::io::{self, Write};
 
 /// Writes a line for each difference, or one that says how many slaves are listed, where there is none.

@@ -1,7 +1,7 @@
 use Rattle.std.proofs.Common.{List, subst}
 use Rattle.canboot_check.proofs.OutputStatus.{done_written}
 use Rattle.cm_history.specs.declared.call.Entry.{Entry}
-use Rattle.canboot_picture.specs.Pictures.{WritesPicture}
+use Rattle.canboot_tools.specs.Pictures.{WritesPicture}
 use Rattle.canboot.proofs.picture.draw.Goals as goal
 
 pub returns-in-Ok-clause-done : goal.returns-in-Ok-clause-done

@@ -3,5 +3,5 @@ use Rattle.canboot_lists.proofs.start_warnings.put_told_warnings.Goals as goal
 
 pub returns : goal.returns
 returns g c =
-    then_last _ _ _ _ _ _ c.in_ok-put_told_warning.ensures
-    (then_last _ _ _ _ _ _ c.in_ok-put_told_warning-2.ensures c.put_told_warning-3.ensures)
+    then_last _ _ _ _ _ _ c.in_ok-put_warning.ensures
+    (then_last _ _ _ _ _ _ c.in_ok-put_warning-2.ensures c.put_warning-3.ensures)

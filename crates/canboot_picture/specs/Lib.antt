@@ -1,6 +1,0 @@
-pub mod Xml
-pub mod Columns
-pub mod Spans
-pub mod Marks
-pub mod Pictures
-pub mod Drawn

@@ -1,0 +1,11 @@
+mod Ends
+mod Runs
+mod Rows
+mod Elements
+mod Written
+mod Whole
+mod Puts
+mod Words
+mod DeviceFiles
+mod Added
+mod Given

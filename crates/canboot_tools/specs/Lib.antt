@@ -1,0 +1,13 @@
+pub mod Xml
+pub mod Columns
+pub mod Spans
+pub mod Marks
+pub mod Pictures
+pub mod Drawn
+pub mod Explained
+pub mod DeviceFiles
+pub mod LinesRead
+pub mod Imports
+pub mod SettingsMade
+pub mod Scans
+pub mod Compared
