@@ -6,9 +6,9 @@ ghost use Rattle.canboot_check.specs.Check.{FailsToCheck, RefusesList, check_lin
 ghost use Rattle.canboot_tools.specs.Explained.{explained};
 ghost use Rattle.canboot.specs.Explain.{ExplainsList};
 
+use crate::refusing::{read_fault_of, refuse_explained};
 use canboot_check::{LONGEST_LIST, input_fault_line, list_of, output_status, put_check};
 use canboot_tools::explain;
-use canboot_run::{read_fault_of, refuse_explained};
 use cm_netlist::Network;
 use cm_text::read_input;
 use std::alloc::Global;

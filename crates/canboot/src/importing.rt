@@ -4,9 +4,9 @@ ghost use Rattle.std.specs.Prelude.{◌≡◌, ◌⊎◌, OnOk};
 ghost use Rattle.std.specs.Io.KnownBytes.{Appends};
 ghost use Rattle.canboot.specs.Importing.{FailsToImport, ImportsSlave};
 
+use crate::refusing::read_fault_of;
 use canboot_check::{FAILED, REFUSED, fault_line, input_fault_line, output_status};
 use canboot_tools::{FileFault, ImportFault, ImportWords, ImportedText, import};
-use canboot_run::read_fault_of;
 use cm_text::{InputFault, read_input};
 use std::alloc::Global;
 use std::fs;

@@ -9,6 +9,7 @@ mod json;
 mod live;
 mod picture;
 mod program;
+mod refusing;
 mod replaying;
 mod report;
 mod scan;
@@ -18,11 +19,11 @@ mod tell;
 pub use canboot_check::{
     DONE, FAILED, LONGEST_JOURNAL, LONGEST_LIST, MISUSED, REFUSED, check_text, replay_text,
 };
-pub use canboot_tools::ImportWords;
 pub use canboot_run::{
     JournalOutput, LONGEST_RUN, Options, ReportLines, SlaveFaults, WriteReport, run_text,
     run_text_as,
 };
+pub use canboot_tools::ImportWords;
 pub use canboot_words::{
     Action, CheckOutput, NoAction, ReplayOutput, ReportForm, RunWords, SlaveWords, read_words,
 };

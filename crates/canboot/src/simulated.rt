@@ -2,6 +2,7 @@
 
 ghost use Rattle.std.specs.Prelude.{◌≡◌, ◌≤◌, IfErr};
 
+use crate::refusing::RunFaults;
 use crate::report::ReportObject;
 use canboot_run::{Options, ReportLines, SlaveFaults, SlaveOption, run_file, set_fault};
 use canboot_words::{FaultObjects, ReportForm, RunWords, SlaveWords};
@@ -64,7 +65,10 @@ fn run_in_form<R: Files + AllocGlobal + Wait + Threads + Send + Sync, W: Write, 
     requires attempts { (1 ≤ options.now.attempts) × (options.now.attempts ≤ 10) }
     ensures statuses { result ≤ 3 }
 {
-    let (network, journal, is_explained) = (words.network, words.journal, words.is_explained);
+    let (network, journal) = (words.network, words.journal);
+    let refusing = RunFaults {
+        is_explained: words.is_explained,
+    };
     match words.report {
         ReportForm::Text => run_file(
             rt,
@@ -72,7 +76,7 @@ fn run_in_form<R: Files + AllocGlobal + Wait + Threads + Send + Sync, W: Write, 
             options,
             &ReportLines,
             journal,
-            is_explained,
+            &refusing,
             out,
             err,
         ),
@@ -82,7 +86,7 @@ fn run_in_form<R: Files + AllocGlobal + Wait + Threads + Send + Sync, W: Write, 
             options,
             &ReportObject,
             journal,
-            is_explained,
+            &refusing,
             out,
             err,
         ),

@@ -3,13 +3,12 @@
 ghost use Rattle.std.specs.Prelude.{◌≡◌, ◌≤◌, IfErr, IfOk, None, false, is_some, true};
 ghost use Rattle.canboot_run.specs.Files.{is_same_file};
 
-use crate::refusing::{read_fault_of, refuse_explained};
+use crate::refusing::RefuseList;
 use crate::running::{run_listed, unlisted_line};
 use crate::simulation::Options;
 use crate::write_report::WriteReport;
 use canboot_check::{
-    CheckFault, FAILED, LONGEST_LIST, MISUSED, fault_line, input_fault_line, list_of, read_fault,
-    refuse,
+    CheckFault, FAILED, LONGEST_LIST, MISUSED, fault_line, input_fault_line, list_of,
 };
 use cm_netlist::Network;
 use cm_text::read_input;
@@ -22,11 +21,12 @@ use std::thread::Threads;
 
 /// `canboot run`, over the file of this path, as [`run_text_as`](crate::run_text_as) does: 2 also where the journal's file would be the
 /// list itself, and nothing is done then, 3 for a file that can't be opened or made. The journal's file, if there is one, is made
-/// once the list is read, behind the look whether the slaves with faults are listed, and also where the list has a fault. Where it is
-/// to be explained, `err` has behind the line of a fault where the list has it, or which file can't be opened and why.
+/// once the list is read, behind the look whether the slaves with faults are listed, and also where the list has a fault. A list with a
+/// fault, and one whose file can't be opened, is refused in the form of `refusing`.
 pub fn run_file<
     R: Files + AllocGlobal + Wait + Threads + Send + Sync,
     P: WriteReport,
+    F: RefuseList,
     W: Write,
     E: Write,
 >(
@@ -35,7 +35,7 @@ pub fn run_file<
     options: &Options,
     report: &P,
     journal: Option<&str>,
-    is_explained: bool,
+    refusing: &F,
     out: &mut W,
     err: &mut E,
 ) -> u8
@@ -43,31 +43,30 @@ pub fn run_file<
     requires attempts { (1 ≤ options.now.attempts) × (options.now.attempts ≤ 10) }
     ensures statuses { result ≤ 3 }
 {
-    let text = match list_text(rt, path, journal, is_explained, err) {
+    let text = match list_text(rt, path, journal, refusing, err) {
         Ok(text) => text,
         Err(status) => return status,
     };
     match list_of(rt.alloc(), text.as_slice()) {
         Ok(network) => run_network(rt, &network, options, report, journal, out, err),
-        Err(fault) => refuse_list(rt, text.as_slice(), fault, journal, is_explained, err),
+        Err(fault) => refuse_list(rt, text.as_slice(), fault, journal, refusing, err),
     }
 }
 
 /// The bytes of the file of this path, unless the journal's file would be the list itself. What can't be read is written, and
 /// is the exit status.
-fn list_text<R: Files + AllocGlobal, E: Write>(
+fn list_text<R: Files + AllocGlobal, F: RefuseList, E: Write>(
     rt: &R,
     path: &str,
     journal: Option<&str>,
-    is_explained: bool,
+    refusing: &F,
     err: &mut E,
 ) -> Result<Vec<u8>, u8>
     ensures { IfErr result (λ status. status ≤ 3) }
 {
     let mut list = match fs::open(rt, path) {
         Ok(file) => file,
-        Err(error) if is_explained => return Err(read_fault_of(err, path, error.kind())),
-        Err(error) => return Err(read_fault(err, error.kind())),
+        Err(error) => return Err(refusing.refuse_file(path, error.kind(), err)),
     };
     if is_list(rt, path, journal) {
         let said = "the file of the journal is the network list";
@@ -117,19 +116,18 @@ fn run_network<
 }
 
 /// Refuses a list that was read, once the journal's file is made, if there is one.
-fn refuse_list<R: Files + AllocGlobal, E: Write>(
+fn refuse_list<R: Files + AllocGlobal, F: RefuseList, E: Write>(
     rt: &R,
     text: &[u8],
     fault: CheckFault,
     journal: Option<&str>,
-    is_explained: bool,
+    refusing: &F,
     err: &mut E,
 ) -> u8
     ensures { result ≤ 3 }
 {
     match make(rt, journal) {
-        Ok(_) if is_explained => refuse_explained(rt.alloc(), text, fault, err),
-        Ok(_) => refuse(err, fault),
+        Ok(_) => refusing.refuse(rt.alloc(), text, fault, err),
         Err(error) => write_fault(err, error.kind()),
     }
 }

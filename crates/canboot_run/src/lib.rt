@@ -24,7 +24,7 @@ pub use journal_output::JournalOutput;
 pub use journal_recorder::{JournalName, JournalRecorder};
 pub use program::run;
 pub use recording::{NoHistory, Recorded, not_called, not_opened, started};
-pub use refusing::{read_fault_of, refuse_explained, tell_warnings};
+pub use refusing::{FaultLines, RefuseList, tell_warnings};
 pub use running::{no_history_line, run_text, run_text_as};
 pub use simulation::{LONGEST_RUN, Options};
 pub use slave_faults::{AbortedObject, SlaveFaults, SlaveValue, WrongValue};

@@ -4,6 +4,7 @@ ghost use Rattle.std.specs.Prelude.{◌≡◌, ◌≤◌, IfErr, IfSome};
 ghost use Rattle.canboot_run.specs.Words.{AreInRange};
 
 use crate::files::run_file;
+use crate::refusing::FaultLines;
 use crate::simulation::Options;
 use crate::slave_faults::SlaveFaults;
 use crate::slave_options::{SlaveOption, set_fault};
@@ -146,7 +147,7 @@ fn run_words<R: Files + AllocGlobal + Wait + Threads + Send + Sync, W: Write, E:
                     &options,
                     &ReportLines,
                     journal,
-                    false,
+                    &FaultLines,
                     out,
                     err,
                 ),

@@ -9,3 +9,5 @@ mod Words
 mod DeviceFiles
 mod Added
 mod Given
+mod Places
+mod Values

@@ -7,9 +7,9 @@ use Rattle.cm_nmt.specs.Guarding.{guard_time, retry_factor}
 use Rattle.cm_nmt.specs.declared.write.Write.{Write}
 use Rattle.cm_netlist.specs.Network.{Network, entry, listed_ids}
 use Rattle.cm_netlist.specs.declared.entry.SlaveEntry.{SlaveEntry}
-use Rattle.canboot_lists.specs.StartWarnings.{ended, given, told_warning}
-use Rattle.canboot_lists.specs.Warnings.{is_unwatched}
-use Rattle.canboot_lists.specs.declared.warning.SlaveWarning.TheVariants as slave
+use Rattle.canboot_warnings.specs.StartWarnings.{ended, given, told_warning}
+use Rattle.canboot_warnings.specs.Warnings.{is_unwatched}
+use Rattle.canboot_warnings.specs.declared.warning.SlaveWarning.TheVariants as slave
 use Rattle.canboot_tools.specs.declared.explaining.ListWarning.{ListWarning}
 use Rattle.canboot_tools.specs.declared.explaining.ListWarning.TheVariants as list
 

@@ -11,3 +11,5 @@ pub mod Imports
 pub mod SettingsMade
 pub mod Scans
 pub mod Compared
+pub mod ListKeys
+pub mod FaultPlaces

@@ -4,7 +4,7 @@ ghost use Rattle.std.specs.Prelude.{◌≡◌, OnOk, flat_map};
 ghost use Rattle.std.specs.Io.KnownBytes.{Appends};
 ghost use Rattle.cm_netlist.specs.Network.{listed_ids};
 ghost use Rattle.cm_nmt.specs.Bits.{has_bit};
-ghost use Rattle.canboot_lists.specs.StartWarnings.{ended};
+ghost use Rattle.canboot_warnings.specs.StartWarnings.{ended};
 ghost use Rattle.canboot_tools.specs.Explained.{
   bits_text,
   explained,
@@ -23,7 +23,7 @@ ghost use Rattle.canboot_tools.specs.Explained.{
 };
 
 use crate::slave_lines::put_slave;
-use canboot_lists::{SlaveWarning, put_warning};
+use canboot_warnings::{SlaveWarning, put_warning};
 use cm_netlist::{Network, SlaveEntry, Startup};
 use cm_nmt::NodeId;
 use cm_text::hex8;

@@ -2,7 +2,7 @@
 
 use crate::imported::Imported;
 use crate::settings::{Reason, Setting, Unwritten};
-use canboot_lists::{LONGEST_TEXT, put_letter, put_text};
+use crate::shown::{LONGEST_TEXT, put_letter, put_text};
 use cm_netlist::SlaveEntry;
 use cm_text::hex8;
 use std::io::{self, Write};

@@ -24,7 +24,7 @@ ghost use Rattle.canboot_tools.specs.Explained.{
   write_text,
 };
 
-use canboot_lists::{SlaveWarning, slave_is_warned};
+use canboot_warnings::{SlaveWarning, slave_is_warned};
 use cm_netlist::{Assignment, SlaveEntry, Write as Configuring};
 use cm_nmt::NodeId;
 use cm_text::{hex4, hex8};

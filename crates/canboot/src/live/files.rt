@@ -7,10 +7,11 @@ use crate::live::journal_file::make_journal;
 use crate::live::operator_input::{OperatorInput, open_operator};
 use crate::live::paths::wrong_path;
 use crate::live::{Followed, LiveEnds, LiveOptions, ReplaceFile, StatusFile, live_text};
+use crate::refusing::{read_fault_of, refuse_explained};
 use canboot_check::{
     FAILED, LONGEST_LIST, MISUSED, REFUSED, fault_line, input_fault_line, list_of, read_fault,
 };
-use canboot_run::{read_fault_of, refuse_explained, write_fault};
+use canboot_run::write_fault;
 use canboot_words::{
     BusPaths, JournalPath, LivePaths, LiveWords, Names, NamesFault, ShownLines, read_names,
 };

@@ -5,9 +5,10 @@ ghost use Rattle.std.specs.Prelude.{◌≡◌, ◌≤◌, ◌⊎◌, IfErr};
 use crate::live::files::{
     channel_closing, channel_opening, format_of, open_bus, read_file, writers_to,
 };
+use crate::refusing::refuse_explained;
 use crate::scan::{ListForm, ScanEnds, ScanOptions, scan_check, scan_text};
 use canboot_check::{FAILED, MISUSED, fault_line, list_of};
-use canboot_run::{node_list, refuse_explained, write_fault};
+use canboot_run::{node_list, write_fault};
 use canboot_words::{ReportForm, ScanOutput, ScanWords};
 use cm_history::NodeSet;
 use cm_netlist::Network;

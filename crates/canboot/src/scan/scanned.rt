@@ -4,8 +4,8 @@ ghost use Rattle.std.specs.Prelude.{All, IfOk};
 ghost use Rattle.canboot.specs.Scanning.{IsHeardDevice};
 
 use crate::scan::device::HeardDevice;
-use canboot_tools::Found;
 use canboot_run::NoHistory;
+use canboot_tools::Found;
 use cm_live::BusName;
 use std::alloc::{AllocError, Global};
 

@@ -2,7 +2,7 @@ use Rattle.std.proofs.Common.{ℕ, List, subst}
 use Rattle.std.specs.Prelude.{OnOk}
 use Rattle.std.specs.Io.KnownBytes.{Appends}
 use Rattle.cm_text.proofs.Writes.{then_last}
-use Rattle.canboot_lists.specs.StartWarnings.{ended}
+use Rattle.canboot_warnings.specs.StartWarnings.{ended}
 use Rattle.canboot_tools.proofs.explaining.put_bits.Goals as goal
 
 pub returns : goal.returns

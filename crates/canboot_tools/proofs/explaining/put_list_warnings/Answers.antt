@@ -1,7 +1,7 @@
 use Rattle.std.specs.Prelude.{codes}
 use Rattle.std.specs.Io.KnownBytes.{Appends}
 use Rattle.std.proofs.KnownBytes.{Appends-nil, Appends-trans}
-use Rattle.canboot_lists.specs.StartWarnings.{ended}
+use Rattle.canboot_warnings.specs.StartWarnings.{ended}
 use Rattle.canboot_tools.proofs.explaining.put_list_warnings.Goals.{then-list_is_warned+in_ok-writeln, else-list_is_warned}
 use Rattle.canboot_tools.proofs.explaining.put_list_warnings.Goals as goal
 

@@ -3,7 +3,7 @@ use Rattle.std.specs.Prelude.{flat_map}
 use Rattle.std.specs.Io.KnownBytes.{Appends}
 use Rattle.std.proofs.KnownBytes.{Appends-nil}
 use Rattle.canboot_tools.specs.Explained.{slave_text_of}
-use Rattle.canboot_lists.proofs.Lines.{of_all, one_more}
+use Rattle.canboot_warnings.proofs.Lines.{of_all, one_more}
 use Rattle.canboot_tools.proofs.explaining.put_slaves.Goals as goal
 
 pub loop-id-init : goal.loop-id-init

@@ -3,7 +3,7 @@ use Rattle.std.specs.Prelude.{OnOk, codes, decimal}
 use Rattle.std.specs.Io.KnownBytes.{Appends}
 use Rattle.cm_nmt.specs.Bits.{has_bit}
 use Rattle.cm_text.proofs.Writes.{then_last}
-use Rattle.canboot_lists.specs.StartWarnings.{ended}
+use Rattle.canboot_warnings.specs.StartWarnings.{ended}
 use Rattle.canboot_tools.specs.Explained.{mandatory_words}
 use Rattle.canboot_tools.proofs.Words.{then_words}
 use Rattle.canboot_tools.proofs.slave_lines.put_heading.Goals as goal

@@ -1,6 +1,6 @@
 use Rattle.std.proofs.KnownBytes.{Appends-nil}
 use Rattle.canboot_tools.specs.Explained.{write_text}
-use Rattle.canboot_lists.proofs.Lines.{of_all, one_more}
+use Rattle.canboot_warnings.proofs.Lines.{of_all, one_more}
 use Rattle.canboot_tools.proofs.slave_lines.put_writes.Goals as goal
 
 pub loop-write-init : goal.loop-write-init

@@ -1,4 +1,0 @@
-pub mod Warnings
-pub mod ListKeys
-pub mod FaultPlaces
-pub mod StartWarnings

@@ -1,0 +1,2 @@
+pub mod Warnings
+pub mod StartWarnings
