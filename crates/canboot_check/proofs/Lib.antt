@@ -5,4 +5,3 @@ pub mod MendLaws
 pub mod TornTexts
 pub mod Reread
 pub mod ListsRead
-pub mod ExpectedAnswers

@@ -1,5 +1,4 @@
 pub mod Check
 pub mod Ended
-pub mod Expected
 pub mod Mend
 pub mod Replay

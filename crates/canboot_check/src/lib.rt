@@ -4,7 +4,6 @@
 #![tactic(auto)]
 
 mod check;
-mod expected;
 mod mend;
 mod program;
 mod replay;
@@ -14,7 +13,6 @@ pub use check::{
     CheckFault, LONGEST_LIST, check_text, count_kept, count_mandatory, list_of, put_check,
     read_list, refuse,
 };
-pub use expected::{expected_answer, explain_journal};
 pub use mend::{mend_text, mends_one, mends_torn};
 pub use program::{check_file, read_fault, run, run_words};
 pub use replay::{LONGEST_JOURNAL, refuse_journal, replay_text};

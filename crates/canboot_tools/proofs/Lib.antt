@@ -11,3 +11,4 @@ mod Added
 mod Given
 mod Places
 mod Values
+mod ExpectedAnswers

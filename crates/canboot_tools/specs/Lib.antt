@@ -13,3 +13,4 @@ pub mod Scans
 pub mod Compared
 pub mod ListKeys
 pub mod FaultPlaces
+pub mod Expected

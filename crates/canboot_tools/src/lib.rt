@@ -1,5 +1,5 @@
-//! What the commands for people tell and make: where a fault of a network list applies, and what a list without one comes to, in words; the
-//! list of the devices that were found on a bus, and how they differ from what is listed; a slave of a list from its device file; a
+//! What the commands for people tell and make: where a fault of a network list applies, and what a list without one comes to, in words;
+//! what was expected where a journal has its fault; the list of the devices that were found on a bus, and how they differ from what is listed; a slave of a list from its device file; a
 //! picture of a history.
 //!
 //! A picture is an SVG document in which each node has a lane, and a lane has a span for each run of columns in which the node is shown
@@ -14,6 +14,7 @@ mod device_number;
 mod difference;
 mod drawing;
 mod drawn;
+mod expected;
 mod explaining;
 mod fault_line;
 mod fault_words;
@@ -42,6 +43,7 @@ pub use comparing::compare;
 pub use device_file::{FileFault, LineFault};
 pub use difference::{Difference, ExpectedValue};
 pub use drawn::Picture;
+pub use expected::{expected_answer, explain_journal};
 pub use explaining::explain;
 pub use fault_words::explain_fault;
 pub use imported::{ImportFault, ImportWords};
