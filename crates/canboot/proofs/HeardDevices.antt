@@ -15,8 +15,8 @@ use Rattle.cm_live.specs.Receiving.{BusView, HasHeardIdentity, IsGiven, IsHeard,
 use Rattle.cm_live.specs.Talk.{IsAsked}
 use Rattle.cm_live.specs.declared.outlet.Format.{Format}
 use Rattle.canboot_tools.specs.Compared.{HasExpected, IsAsListed, IsFoundAsListed}
-use Rattle.canboot_tools.specs.Scans.{listed_as}
-use Rattle.canboot_tools.specs.declared.scanned.Found.{Found}
+use Rattle.canboot.specs.Scans.{listed_as}
+use Rattle.canboot_tools.specs.declared.found.Found.{Found}
 use Rattle.canboot.specs.Scanning.{AreHeardAsListed, IsHeardAsListed, IsHeardDevice, found_of}
 
 module _ (format : Format) (text : Option (List ℕ)) (node : ℕ) where

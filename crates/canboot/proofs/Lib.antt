@@ -16,3 +16,6 @@ pub mod JournalNames
 pub mod Drawable
 pub mod Inputs
 pub mod HeardDevices
+pub mod DeviceFiles
+pub mod Added
+pub mod Given

@@ -2,8 +2,8 @@
 use Rattle.std.specs.Prelude.{◌≡◌, ◌⊎◌, List, Option, ℕ}
 use Rattle.std.specs.Io.KnownBytes.{Appends}
 use Rattle.cm_text.specs.Input.{ReadsAll}
-use Rattle.canboot_tools.specs.Imports.{IsImported}
-use Rattle.canboot_tools.specs.declared.imported.ImportWords.{ImportWords}
+use Rattle.canboot.specs.Imports.{IsImported}
+use Rattle.canboot.specs.declared.importing.imported.ImportWords.{ImportWords}
 
 -- the input was read to its end, at most 4,194,304 bytes, and this text is the slave that they and the words give
 pub record IsSlaveOf (words : ImportWords) (input input' : Option (List ℕ)) (text : List ℕ) : Type 0 where

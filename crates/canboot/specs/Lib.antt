@@ -11,7 +11,12 @@ pub mod Tell
 pub mod Picture
 pub mod Explain
 pub mod Json
+pub mod DeviceFiles
+pub mod LinesRead
+pub mod Imports
+pub mod SettingsMade
 pub mod Importing
+pub mod Scans
 pub mod Scanning
 pub mod Typing
 pub mod Workers

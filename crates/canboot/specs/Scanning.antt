@@ -6,8 +6,8 @@ use Rattle.cm_netlist.specs.Network.{Network, listed_ids, terms}
 use Rattle.cm_live.specs.declared.identifying.Identity.{Identity}
 use Rattle.cm_live.specs.Receiving.{HasHeardIdentity}
 use Rattle.cm_live.specs.declared.outlet.Format.{Format}
-use Rattle.canboot_tools.specs.Scans.{IsListOfFound, listed_as}
-use Rattle.canboot_tools.specs.declared.scanned.Found.{Found}
+use Rattle.canboot.specs.Scans.{IsListOfFound, listed_as}
+use Rattle.canboot_tools.specs.declared.found.Found.{Found}
 
 -- a device of this node-ID that says that of itself
 abbrev pub found_of : ℕ → Identity → Found

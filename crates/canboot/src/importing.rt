@@ -4,9 +4,21 @@ ghost use Rattle.std.specs.Prelude.{◌≡◌, ◌⊎◌, OnOk};
 ghost use Rattle.std.specs.Io.KnownBytes.{Appends};
 ghost use Rattle.canboot.specs.Importing.{FailsToImport, ImportsSlave};
 
+mod device_file;
+mod device_number;
+mod imported;
+mod made;
+mod object;
+mod settings;
+mod slave_text;
+
+use crate::importing::device_file::FileFault;
+use crate::importing::imported::ImportFault;
+pub use crate::importing::imported::ImportWords;
+use crate::importing::made::{ImportedText, import};
+pub(crate) use crate::importing::slave_text::{put_comment, put_identity, put_key};
 use crate::refusing::read_fault_of;
 use canboot_check::{FAILED, REFUSED, fault_line, input_fault_line, output_status};
-use canboot_tools::{FileFault, ImportFault, ImportWords, ImportedText, import};
 use cm_text::{InputFault, read_input};
 use std::alloc::Global;
 use std::fs;

@@ -13,6 +13,7 @@ mod refusing;
 mod replaying;
 mod report;
 mod scan;
+mod shown;
 mod simulated;
 mod tell;
 
@@ -23,13 +24,12 @@ pub use canboot_run::{
     JournalOutput, LONGEST_RUN, Options, ReportLines, SlaveFaults, WriteReport, run_text,
     run_text_as,
 };
-pub use canboot_tools::ImportWords;
 pub use canboot_words::{
     Action, CheckOutput, NoAction, ReplayOutput, ReportForm, RunWords, SlaveWords, read_words,
 };
 pub use cm_live::Outlet;
 pub use explain::explain_text;
-pub use importing::{LONGEST_DEVICE_FILE, import_text};
+pub use importing::{ImportWords, LONGEST_DEVICE_FILE, import_text};
 pub use json::{check_as_json, replay_as_json};
 pub use live::{
     Followed, HostFiles, LONGEST_LIVE, LiveEnds, LiveOptions, NoFiles, ReplaceFile, StatusFile,

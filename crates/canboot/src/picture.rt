@@ -9,6 +9,10 @@ ghost use Rattle.canboot_tools.specs.Drawn.{IsPictureOf};
 ghost use Rattle.canboot_tools.specs.Pictures.{WritesPicture};
 ghost use Rattle.canboot.specs.Picture.{PicturesJournal};
 
+mod drawing;
+mod marks;
+
+use crate::picture::marks::Marks;
 use canboot_check::{
     FAILED, LONGEST_JOURNAL, fault_line, input_fault_line, output_status, refuse_journal,
 };
@@ -36,7 +40,7 @@ fn draw<W: Write, E: Write>(alloc: Global, journal: &Journal, out: &mut W, err: 
         (W.contents out.old) (W.contents out.new) }
     ensures statuses { (result ≡ 0) ⊎ (result ≡ 3) }
 {
-    match picture_of(alloc, &journal.network, journal.entries.as_slice()) {
+    match picture_of(alloc, &journal.network, journal.entries.as_slice(), &Marks) {
         Ok(picture) => {
             let written = put_drawn(&picture, &journal.network, out);
             output_status(err, written)

@@ -15,7 +15,6 @@ use crate::tell::tell_text;
 use canboot_check::{
     FAILED, MISUSED, check_file, fault_line, mend_text, output_status, read_fault, replay_text,
 };
-use canboot_tools::ImportWords;
 use canboot_words::{Action, CheckOutput, FaultObjects, NoAction, ReplayOutput, read_words};
 use std::alloc::Global;
 use std::env;

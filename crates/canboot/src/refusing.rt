@@ -3,9 +3,14 @@
 ghost use Rattle.std.specs.Prelude.{◌≡◌, ◌↔◌, ◌⊎◌};
 ghost use Rattle.canboot_check.specs.Check.{IsFaultOfList};
 
+mod fault_line;
+mod fault_words;
+mod faulty_write;
+mod toml_text;
+
+use crate::refusing::fault_words::explain_fault;
 use canboot_check::{CheckFault, read_fault, refuse};
 use canboot_run::RefuseList;
-use canboot_tools::explain_fault;
 use std::alloc::Global;
 use std::io::{ErrorKind, Write};
 

@@ -7,8 +7,10 @@ ghost use Rattle.cm_netlist.specs.Network.{listing};
 ghost use Rattle.cm_format.specs.Report.{report_text};
 ghost use Rattle.canboot_check.specs.Replay.{FailsToReplay, Refuses, Replays};
 
+mod expected_words;
+
+use crate::replaying::expected_words::explain_journal;
 use canboot_check::{LONGEST_JOURNAL, input_fault_line, output_status, refuse_journal};
-use canboot_tools::explain_journal;
 use cm_format::{FaultKind, JournalFault};
 use cm_journal::{Journal, journal_read, report};
 use cm_text::read_input;

@@ -10,13 +10,17 @@ mod device;
 mod differences;
 pub(crate) mod files;
 mod finding;
+mod list_text;
+mod listing;
+mod profile;
 mod scanned;
 
 use crate::scan::differences::{put_lines, put_object};
 use crate::scan::finding::find_devices;
+use crate::scan::listing::{ScanFault, list_found};
 use crate::scan::scanned::{NoScan, Scanned};
 use canboot_check::{DONE, FAILED, REFUSED, fault_line, output_status};
-use canboot_tools::{Difference, ScanFault, compare, list_found};
+use canboot_tools::{Difference, compare};
 use canboot_words::{NoFrames, ReportForm};
 use cm_live::Format;
 use cm_netlist::{Network, Startup};

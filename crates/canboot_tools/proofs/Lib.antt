@@ -6,9 +6,6 @@ mod Written
 mod Whole
 mod Puts
 mod Words
-mod DeviceFiles
-mod Added
-mod Given
 mod Places
 mod Values
 mod ExpectedAnswers

@@ -2,7 +2,7 @@
 use Rattle.std.specs.Prelude.{◌≡◌, ◌≢◌, ℕ, List, All, Contains, IsTrue, Some}
 use Rattle.cm_nmt.specs.declared.terms.Terms.{Terms}
 use Rattle.cm_netlist.specs.Network.{Network, is_listed, listed_ids, terms}
-use Rattle.canboot_tools.specs.declared.scanned.Found.{Found}
+use Rattle.canboot_tools.specs.declared.found.Found.{Found}
 
 -- the device has each value that is expected; 0 stands for any
 pub record HasExpected (t : Terms) (f : Found) : Type 0 where

@@ -5,11 +5,7 @@ pub mod Marks
 pub mod Pictures
 pub mod Drawn
 pub mod Explained
-pub mod DeviceFiles
-pub mod LinesRead
-pub mod Imports
-pub mod SettingsMade
-pub mod Scans
+pub mod ReadBack
 pub mod Compared
 pub mod ListKeys
 pub mod FaultPlaces

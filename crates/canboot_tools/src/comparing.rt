@@ -5,7 +5,7 @@ ghost use Rattle.cm_netlist.specs.Network.{is_listed, listed_ids, terms};
 ghost use Rattle.canboot_tools.specs.Compared.{HasExpected, IsAsListed, IsFoundAsListed};
 
 use crate::difference::{Difference, ExpectedValue};
-use crate::scanned::Found;
+use crate::found::Found;
 use cm_netlist::Network;
 use cm_nmt::{NodeId, Terms};
 use std::alloc::{AllocError, Global};

@@ -1,6 +1,6 @@
 //! How the devices on a bus differ from those that a network list has.
 
-use crate::scanned::Found;
+use crate::found::Found;
 use cm_nmt::NodeId;
 use std::fmt;
 

@@ -1,6 +1,6 @@
-//! What the commands for people tell and make: where a fault of a network list applies, and what a list without one comes to, in words;
-//! what was expected where a journal has its fault; the list of the devices that were found on a bus, and how they differ from what is listed; a slave of a list from its device file; a
-//! picture of a history.
+//! What the commands for people tell and make, as far as something is proved of it: where a fault of a network list applies, and what
+//! a list without one comes to, in words; what was expected where a journal has a wrong reply; whether a slave's text is read back as
+//! that slave; how the devices that were found on a bus differ from what is listed; a picture of a history.
 //!
 //! A picture is an SVG document in which each node has a lane, and a lane has a span for each run of columns in which the node is shown
 //! in one state. Beside the spans stand marks: boots, holds, losses, frames, and where the network is ready or halted. Proved of it is
@@ -9,48 +9,31 @@
 
 mod columns;
 mod comparing;
-mod device_file;
-mod device_number;
 mod difference;
-mod drawing;
 mod drawn;
 mod expected;
 mod explaining;
-mod fault_line;
-mod fault_words;
-mod faulty_write;
-mod import_text;
-mod imported;
-mod importing;
+mod found;
 mod list_faults;
 mod list_keys;
 mod list_values;
 mod mark;
-mod object;
 mod picture;
-mod profile;
+mod read_back;
 mod scale;
-mod scan_text;
-mod scanned;
-mod settings;
-mod shown;
 mod slave_lines;
 mod spans;
-mod toml_text;
 mod xml;
 
 pub use comparing::compare;
-pub use device_file::{FileFault, LineFault};
 pub use difference::{Difference, ExpectedValue};
 pub use drawn::Picture;
-pub use expected::{expected_answer, explain_journal};
+pub use expected::{expected_answer, journal_of_lines};
 pub use explaining::explain;
-pub use fault_words::explain_fault;
-pub use imported::{ImportFault, ImportWords};
-pub use importing::{ImportedText, import};
+pub use found::Found;
 pub use list_faults::{FaultPlace, Spot, fault_place};
-pub use list_keys::IntegerKey;
-pub use mark::{Label, Mark, MarkKind};
+pub use list_keys::{IntegerKey, slave_integers, top_integers};
+pub use mark::{Label, Mark, MarkKind, PlaceMarks};
 pub use picture::{picture_of, put_picture};
+pub use read_back::is_read_back;
 pub use scale::{Scale, Span};
-pub use scanned::{Found, ScanFault, list_found};

@@ -150,7 +150,7 @@ fn top_spot(fault: NetFault, table: &Table) -> Option<Spot<'_>>
 }
 
 /// Whether the value is a write: an array of four integers.
-pub(crate) fn is_write(value: &Value) -> bool
+fn is_write(value: &Value) -> bool
     ensures { result ≡ is_write (view value.now) }
 {
     match value {
@@ -220,7 +220,7 @@ fn itself_has(fault: NetFault, own: u64, slave: &Table) -> bool
 }
 
 /// The slave that is the element of this number, if that is a table.
-pub(crate) fn slave_at(table: &Table, place: usize) -> Option<&Table>
+fn slave_at(table: &Table, place: usize) -> Option<&Table>
     ensures { IfSome result (λ s. SlaveIs (table_view table.now) place (λ t. table_view s.now ≡ t)) }
 {
     elements_at(table, "slave").get(place)?.as_table()

@@ -27,7 +27,7 @@ fn key(name: &'static str, least: u64, greatest: u64, needed: bool) -> IntegerKe
 
 /// The integers of the list itself.
 #[tactic(auto, unfolding(cm_netlist::specs::Keys::top_integers))]
-pub(crate) fn top_integers() -> [IntegerKey; 3]
+pub fn top_integers() -> [IntegerKey; 3]
     ensures { map key_of result ≡ top_integers }
 {
     [
@@ -39,7 +39,7 @@ pub(crate) fn top_integers() -> [IntegerKey; 3]
 
 /// The integers of a slave.
 #[tactic(auto, unfolding(cm_netlist::specs::Keys::slave_integers))]
-pub(crate) fn slave_integers() -> [IntegerKey; 10]
+pub fn slave_integers() -> [IntegerKey; 10]
     ensures { map key_of result ≡ slave_integers }
 {
     [

@@ -10,9 +10,8 @@ ghost use Rattle.canboot_tools.specs.Drawn.{IsPictureOf};
 ghost use Rattle.canboot_tools.specs.Pictures.{WritesPicture, head_text, heading_text, style_text, tail_text};
 
 use crate::columns::columns_of;
-use crate::drawing::Drawing;
 use crate::drawn::Picture;
-use crate::mark::{Mark, put_marks};
+use crate::mark::{PlaceMarks, put_marks};
 use crate::scale::Scale;
 use crate::spans::put_lanes;
 use cm_history::Entry;
@@ -51,24 +50,6 @@ fn fits(picture: &Picture, network: &Network) -> bool {
     length <= LONGEST
 }
 
-/// The marks of a picture.
-fn marks_of(
-    alloc: Global,
-    network: &Network,
-    entries: &[Entry],
-    scale: Scale,
-    managers: &[Manager],
-) -> Result<Vec<Mark>, AllocError>
-    requires { length managers.now < 2 ^ 32 }
-{
-    let mut drawing = Drawing::new(alloc, network, scale);
-    drawing.put_places(managers.len() as u32)?;
-    drawing.put_entries(network, entries)?;
-    drawing.put_phases(managers)?;
-    drawing.put_legend()?;
-    Ok(drawing.finish())
-}
-
 /// How wide a column is, in pixels, where there are so many at most.
 fn pitch_of(columns: u32) -> u32 {
     match 1000u32.checked_div(columns) {
@@ -78,11 +59,12 @@ fn pitch_of(columns: u32) -> u32 {
 }
 
 /// The picture with so many columns at most.
-fn picture_with(
+fn picture_with<M: PlaceMarks>(
     alloc: Global,
     network: &Network,
     entries: &[Entry],
     most: u32,
+    places: &M,
 ) -> Result<Picture, AllocError>
     requires some { 0 < most }
     requires few { length entries.now ≤ most_entries }
@@ -97,7 +79,7 @@ fn picture_with(
         pitch: pitch_of(managers.len() as u32),
         entries: count,
     };
-    let marks = marks_of(alloc, network, entries, scale, managers.as_slice())?;
+    let marks = places.marks_of(alloc, network, entries, scale, managers.as_slice())?;
     Ok(Picture {
         scale,
         managers,
@@ -105,23 +87,25 @@ fn picture_with(
     })
 }
 
-/// The picture of a legal history, whose entries are given with the oldest first. It fails only where memory is refused.
-pub fn picture_of(
+/// The picture of a legal history, whose entries are given with the oldest first, and the marks that it gets. It fails only where memory
+/// is refused.
+pub fn picture_of<M: PlaceMarks>(
     alloc: Global,
     network: &Network,
     entries: &[Entry],
+    places: &M,
 ) -> Result<Picture, AllocError>
     requires few { length entries.now ≤ most_entries }
     requires legal { IsLegal (listing network.now) (reverse entries.now) }
     ensures { IfOk result (λ p. IsPictureOf p network.now entries.now) }
 {
     for most in [1000u32, 500, 250, 120, 60, 30] {
-        let picture = picture_with(alloc, network, entries, most)?;
+        let picture = picture_with(alloc, network, entries, most, places)?;
         if fits(&picture, network) {
             return Ok(picture);
         }
     }
-    picture_with(alloc, network, entries, 10)
+    picture_with(alloc, network, entries, 10, places)
 }
 
 /// Writes what stands before the content of the document.

@@ -20,7 +20,7 @@ pub(crate) struct HeardDevice<B: BusName> {
 
 impl<B: BusName> Model for HeardDevice<B> {
     ghost use Rattle.canboot.specs.Scanning.{IsHeardDevice};
-    ghost use Rattle.canboot_tools.specs.declared.scanned.Found.{Found as FoundDevice};
+    ghost use Rattle.canboot_tools.specs.declared.found.Found.{Found as FoundDevice};
 
     ghost Value = { FoundDevice };
 

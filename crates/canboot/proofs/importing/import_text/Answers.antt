@@ -2,8 +2,8 @@ use Rattle.std.proofs.Common.{◌≡◌, ◌⊎◌, ℕ, Result, Ok, Err, Option
 use Rattle.std.specs.Prelude.{if◌then◌else◌, is_ok}
 use Rattle.canboot_check.proofs.OutputStatus.{done_written}
 use Rattle.cm_text.specs.Input.{ReadsAll}
-use Rattle.canboot_tools.specs.Imports.{IsImported}
-use Rattle.canboot_tools.specs.declared.imported.ImportWords.{ImportWords}
+use Rattle.canboot.specs.Imports.{IsImported}
+use Rattle.canboot.specs.declared.importing.imported.ImportWords.{ImportWords}
 use Rattle.canboot.specs.Importing.{IsSlaveOf}
 use Rattle.canboot.proofs.importing.import_text.Goals as goal
 

@@ -2,8 +2,8 @@ use Rattle.std.proofs.Common.{◌≡◌, ℕ, List, inr, subst, sym}
 use Rattle.std.specs.Prelude.{All, Option}
 use Rattle.canboot_check.proofs.OutputStatus.{done_written}
 use Rattle.cm_live.specs.declared.outlet.Format.{Format}
-use Rattle.canboot_tools.specs.Scans.{IsListOfFound}
-use Rattle.canboot_tools.specs.declared.scanned.Found.{Found}
+use Rattle.canboot.specs.Scans.{IsListOfFound}
+use Rattle.canboot_tools.specs.declared.found.Found.{Found}
 use Rattle.canboot.specs.Scanning.{IsHeardDevice, IsListHeard}
 use Rattle.canboot.proofs.scan.put_list.Goals as goal
 

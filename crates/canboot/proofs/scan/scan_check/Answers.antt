@@ -1,6 +1,6 @@
 use Rattle.std.proofs.Common.{◌∙◌, List, subst, sym}
 use Rattle.std.specs.Prelude.{All}
-use Rattle.canboot_tools.specs.declared.scanned.Found.{Found}
+use Rattle.canboot_tools.specs.declared.found.Found.{Found}
 use Rattle.canboot.specs.Scanning.{IsHeardDevice}
 use Rattle.canboot.proofs.HeardDevices.{all_heard_as_listed}
 use Rattle.canboot.proofs.scan.scan_check.Goals as goal

@@ -3,7 +3,7 @@ use Rattle.std.specs.List.{All}
 use Rattle.std.proofs.lemmas.List.{take_all}
 use Rattle.std.proofs.lemmas.List.Elements.{All-more}
 use Rattle.cm_netlist.specs.Network.{is_listed}
-use Rattle.canboot_tools.specs.declared.scanned.Found.{Found}
+use Rattle.canboot_tools.specs.declared.found.Found.{Found}
 use Rattle.canboot_tools.proofs.comparing.compare_unlisted.Goals as goal
 
 pub loop-one-preserved : goal.loop-one-preserved

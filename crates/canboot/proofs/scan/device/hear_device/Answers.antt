@@ -1,6 +1,6 @@
 use Rattle.std.proofs.Common.{ap, sym, subst, ◌∙◌}
 use Rattle.canboot.specs.Scanning.{IsHeardDevice}
-use Rattle.canboot_tools.specs.declared.scanned.Found.{Found}
+use Rattle.canboot_tools.specs.declared.found.Found.{Found}
 use Rattle.canboot.proofs.HeardDevices.{heard_device}
 use Rattle.canboot.proofs.scan.device.hear_device.Goals as goal
 

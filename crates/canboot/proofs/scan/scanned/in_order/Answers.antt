@@ -1,6 +1,6 @@
 use Rattle.std.proofs.lemmas.List.Elements.{All-push, All-same}
 use Rattle.canboot.specs.Scanning.{IsHeardDevice}
-use Rattle.canboot_tools.specs.declared.scanned.Found.{Found}
+use Rattle.canboot_tools.specs.declared.found.Found.{Found}
 use Rattle.canboot.proofs.scan.scanned.in_order.Goals as goal
 
 pub loop-device-preserved : goal.loop-device-preserved

@@ -1,0 +1,139 @@
+//! An imported slave as a table of a network list in TOML.
+
+use crate::importing::imported::Imported;
+use crate::importing::settings::{Reason, Setting, Unwritten};
+use crate::shown::{LONGEST_TEXT, put_letter, put_text};
+use cm_netlist::SlaveEntry;
+use cm_text::hex8;
+use std::io::{self, Write};
+use std::str;
+
+/// Writes a hexadecimal number as TOML has it.
+fn put_hex<W: Write>(digits: &[u8], out: &mut W) -> io::Result<()> {
+    out.write_all(b"0x")?;
+    out.write_all(digits)
+}
+
+/// Writes a name, which is text in UTF-8, else in Latin-1.
+fn put_name<W: Write>(name: &[u8], out: &mut W) -> io::Result<()> {
+    if let Ok(text) = str::from_utf8(name) {
+        return put_text(text, out);
+    }
+    for byte in name.get(..LONGEST_TEXT).unwrap_or(name) {
+        put_letter(char::from(*byte), out)?;
+    }
+    Ok(())
+}
+
+/// Writes a comment behind a line, if there is a name, and ends the line.
+pub(crate) fn put_comment<W: Write>(name: &[u8], out: &mut W) -> io::Result<()> {
+    if !name.is_empty() {
+        out.write_all(b"  # ")?;
+        put_name(name, out)?;
+    }
+    out.write_all(b"\n")
+}
+
+/// Writes a key with a number in hexadecimal digits, where it isn't 0.
+pub(crate) fn put_key<W: Write>(key: &str, value: u32, out: &mut W) -> io::Result<()> {
+    if value == 0 {
+        return Ok(());
+    }
+    writeln!(out, "{key} = 0x{value:08X}")
+}
+
+/// Writes the identity of a device, as far as an electronic data sheet gives it.
+pub(crate) fn put_identity<W: Write>(
+    vendor: u32,
+    product: u32,
+    revision: u32,
+    out: &mut W,
+) -> io::Result<()> {
+    put_key("vendor", vendor, out)?;
+    put_key("product", product, out)?;
+    put_key("revision", revision, out)
+}
+
+/// Writes a value in the digits of its size.
+fn put_value<W: Write>(size: u8, value: u32, out: &mut W) -> io::Result<()> {
+    let digits = hex8(value);
+    match size {
+        1 => put_hex(&digits[6..], out),
+        2 => put_hex(&digits[4..], out),
+        _ => put_hex(&digits, out),
+    }
+}
+
+/// Writes the line of a write.
+fn put_write<W: Write>(setting: &Setting<'_>, out: &mut W) -> io::Result<()> {
+    let write = setting.write;
+    let (index, sub, size) = (write.index, write.sub, write.size);
+    write!(out, "  [0x{index:04X}, {sub}, {size}, ")?;
+    put_value(size, write.value, out)?;
+    out.write_all(b"],")?;
+    put_comment(setting.name, out)
+}
+
+/// Writes the writes, if there are any.
+fn put_writes<W: Write>(settings: &[Setting<'_>], out: &mut W) -> io::Result<()> {
+    if settings.is_empty() {
+        return Ok(());
+    }
+    out.write_all(b"writes = [\n")?;
+    for setting in settings {
+        put_write(setting, out)?;
+    }
+    out.write_all(b"]\n")
+}
+
+/// Why a value is no write.
+fn reason_words(reason: Reason) -> &'static str {
+    match reason {
+        Reason::Size => "its data type has no size of 1, 2 or 4 bytes",
+        Reason::Number => "its value is no number",
+        Reason::Wide => "its value is too wide for its data type",
+        Reason::CobId => "its PDO's COB-ID isn't given, or can't be written",
+        Reason::Many => "32 writes stand before it",
+    }
+}
+
+/// Writes what isn't written to the device, and why.
+pub(crate) fn put_unwritten<W: Write>(unwritten: &Unwritten<'_>, out: &mut W) -> io::Result<()> {
+    let (index, sub) = unwritten.object;
+    write!(out, "not written: {index:04X}h sub {sub}")?;
+    if !unwritten.name.is_empty() {
+        out.write_all(b", ")?;
+        put_name(unwritten.name, out)?;
+    }
+    writeln!(out, ": {}", reason_words(unwritten.reason))
+}
+
+/// Writes a comment for each value that isn't written.
+fn put_all_unwritten<W: Write>(all: &[Unwritten<'_>], out: &mut W) -> io::Result<()> {
+    for unwritten in all {
+        out.write_all(b"# ")?;
+        put_unwritten(unwritten, out)?;
+    }
+    Ok(())
+}
+
+/// Writes what the list says of the slave beside its writes.
+fn put_terms<W: Write>(entry: &SlaveEntry, out: &mut W) -> io::Result<()> {
+    writeln!(out, "assignment = 0x{:08X}", entry.assignment.0)?;
+    put_key("device_type", entry.device_type, out)?;
+    put_identity(entry.vendor, entry.product, entry.revision, out)?;
+    if entry.heartbeat_ms == 0 {
+        return Ok(());
+    }
+    writeln!(out, "heartbeat = {}", entry.heartbeat_ms)
+}
+
+/// Writes the slave as a table of a network list.
+pub(crate) fn put_imported<W: Write>(slave: &Imported<'_>, out: &mut W) -> io::Result<()> {
+    out.write_all(b"[[slave]]")?;
+    put_comment(slave.product, out)?;
+    writeln!(out, "id = {}", slave.id.get())?;
+    put_terms(&slave.entry, out)?;
+    put_writes(slave.settings.settings.as_slice(), out)?;
+    put_all_unwritten(slave.settings.unwritten.as_slice(), out)
+}

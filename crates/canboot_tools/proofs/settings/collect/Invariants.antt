@@ -1,9 +1,0 @@
-use Rattle.std.proofs.Common.{ℕ, List}
-use Rattle.canboot_tools.specs.Imports.{IsSetting}
-use Rattle.canboot_tools.specs.LinesRead.{AreOf}
-use Rattle.canboot_tools.specs.SettingsMade.{AllWrites}
-use Rattle.canboot_tools.proofs.settings.collect.Given as goal
-
--- what the items so far set
-abbrev pub invariant-loop-item : goal.invariant-loop-item
-invariant-loop-item l = (file : List ℕ) → AreOf file l.items → AllWrites (IsSetting file l.node) l.all
