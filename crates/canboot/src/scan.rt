@@ -7,6 +7,7 @@ ghost use Rattle.canboot.specs.Scanning.{AreHeardAsListed, FailsToScan, IsHeardD
 
 mod asking;
 mod device;
+mod device_name;
 mod differences;
 pub(crate) mod files;
 mod finding;

@@ -6,9 +6,9 @@ ghost use Rattle.cm_live.specs.Receiving.{IsGiven};
 ghost use Rattle.cm_live.specs.Waits.{beat_ms, behind, wait_ms};
 
 use crate::bus_name::BusName;
-use crate::device_name::{DeviceName, read_name};
 use crate::event::Event;
 use crate::port::Port;
+use crate::talk::Talk;
 use cm_boot::{Answer, Bus, Question};
 use cm_can::{
     CanFrame, NO_SEGMENTS, TIMED_OUT, abort_frame, answered_by, is_segmented, request_of,
@@ -269,12 +269,11 @@ impl<'n, B: BusName, P: Port<B>> LiveBus<'n, B, P> {
         self.log.clear();
     }
 
-    /// The device's name (CiA 301, 1008h), the first 64 bytes of it, by a segmented upload where it has more than 4. `None` where none
-    /// is answered. Nothing of it stands in the log.
-    pub fn device_name(&mut self, id: NodeId) -> Option<DeviceName>
+    /// Talks with a device beside the questions, where an answer is waited for as long as theirs. Nothing of it stands in the log.
+    pub fn talk<T: Talk<B>>(&mut self, talk: &mut T)
         ensures { self.new ≡ self.old }
     {
-        read_name(&mut self.port, id, self.answer_ms)
+        talk.over(&mut self.port, self.answer_ms);
     }
 
     /// What went over the port, the first event first.

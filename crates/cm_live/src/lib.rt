@@ -6,7 +6,7 @@
 //! lines of can-utils or of a serial adapter, each by one write; how frames come in, what was read by now, and what
 //! time is, a [`Port`] knows.
 //!
-//! Beside a boot, a device says what it is ([`identify`]), and its name ([`LiveBus::device_name`]).
+//! Beside a boot, a device says what it is ([`identify`]), and whatever a [`Talk`] asks it.
 //!
 //! In a live run threads share the bus: one reads frames and gives each to whom it is for ([`Routes`]); one reads what
 //! the operator types, and sends it line by line ([`TypedSource`]); each worker has a [`LivePort`]; and what happens is
@@ -16,7 +16,6 @@
 mod bus;
 mod bus_name;
 mod console;
-mod device_name;
 mod event;
 mod happening;
 mod heartbeats;
@@ -32,6 +31,7 @@ mod received;
 mod receiving;
 mod routes;
 mod strangers;
+mod talk;
 mod telling;
 mod typed_line;
 mod typing;
@@ -41,7 +41,6 @@ mod wire;
 pub use bus::LiveBus;
 pub use bus_name::BusName;
 pub use console::{BadLine, Command, read_command};
-pub use device_name::DeviceName;
 pub use event::Event;
 pub use happening::Happening;
 pub use heartbeats::Heartbeats;
@@ -54,6 +53,7 @@ pub use port::Port;
 pub use received::Received;
 pub use receiving::{FrameCutter, Heard, Source};
 pub use routes::Routes;
+pub use talk::Talk;
 pub use telling::Telling;
 pub use typed_line::TypedLine;
 pub use typing::{TypedCutter, TypedRoute, TypedSource};

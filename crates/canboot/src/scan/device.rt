@@ -3,8 +3,9 @@
 ghost use Rattle.std.specs.Prelude.{◌≡◌, IfSome};
 ghost use Rattle.canboot.specs.Scanning.{IsHeardDevice, found_of};
 
+use crate::scan::device_name::{DeviceName, NameTalk};
 use canboot_tools::Found;
-use cm_live::{BusName, DeviceName, Identity, LiveBus, Port, identify};
+use cm_live::{BusName, Identity, LiveBus, Port, identify};
 use cm_nmt::NodeId;
 use std::marker::{Model, PhantomData};
 
@@ -87,6 +88,10 @@ pub(crate) fn hear_device<'n, B: BusName, P: Port<B>>(
     ensures { IfSome result (λ d. d.id ≡ id) }
 {
     let identity = identify(bus, id)?;
-    let name = bus.device_name(id).unwrap_or(DeviceName::new());
-    Some(HeardDevice::of(found_as(id, &identity), name))
+    let mut talk = NameTalk {
+        node: id,
+        name: DeviceName::new(),
+    };
+    bus.talk(&mut talk);
+    Some(HeardDevice::of(found_as(id, &identity), talk.name))
 }

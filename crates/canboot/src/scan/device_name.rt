@@ -1,14 +1,13 @@
 //! A device's name, which is longer than one frame: an SDO upload in segments (CiA 301).
 
-use crate::bus_name::BusName;
-use crate::port::Port;
 use arrayvec::ArrayVec;
 use cm_boot::Question;
 use cm_can::{CanFrame, Kind, TIMED_OUT, abort_frame, sdo_request};
+use cm_live::{BusName, Port, Talk};
 use cm_nmt::NodeId;
 
 /// A device's name, as many of its bytes as are kept.
-pub type DeviceName = ArrayVec<u8, 64>;
+pub(crate) type DeviceName = ArrayVec<u8, 64>;
 
 /// The object of the manufacturer's device name.
 const NAME: u16 = 0x1008;
@@ -182,7 +181,7 @@ fn read_segments<B: BusName, P: Port<B>>(
 }
 
 /// Reads the name of a device; each answer is waited for so many ms.
-pub(crate) fn read_name<B: BusName, P: Port<B>>(
+fn read_name<B: BusName, P: Port<B>>(
     port: &mut P,
     node: NodeId,
     wait_ms: u32,
@@ -198,6 +197,22 @@ pub(crate) fn read_name<B: BusName, P: Port<B>>(
         None => {
             abort(port, node, TIMED_OUT);
             None
+        }
+    }
+}
+
+/// The talk by which a device says its name (CiA 301, 1008h): the first 64 bytes of it, by a segmented upload where it has more than 4.
+#[derive(Drop)]
+pub(crate) struct NameTalk {
+    pub(crate) node: NodeId,
+    /// What it said, no bytes where it said none.
+    pub(crate) name: DeviceName,
+}
+
+impl<B: BusName> Talk<B> for NameTalk {
+    fn over<P: Port<B>>(&mut self, port: &mut P, wait_ms: u32) {
+        if let Some(name) = read_name(port, self.node, wait_ms) {
+            self.name = name;
         }
     }
 }
