@@ -3,7 +3,7 @@ ghost use Rattle.std.specs.Io.KnownBytes.{Appends};
 ghost use Rattle.canboot.specs.Program.{EndsWithout};
 
 use crate::explain::explain_file;
-use crate::importing::import_file;
+use crate::importing::{ImportWords, import_file};
 use crate::json::{check_file_as_json, replay_as_json};
 use crate::live::ReplaceFile;
 use crate::live::files::live_file;
