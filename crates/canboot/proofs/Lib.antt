@@ -19,3 +19,4 @@ pub mod HeardDevices
 pub mod DeviceFiles
 pub mod Added
 pub mod Given
+pub mod ExpectedLines

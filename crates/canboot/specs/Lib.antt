@@ -8,6 +8,7 @@ pub mod Asking
 pub mod Run
 pub mod Program
 pub mod Tell
+pub mod Expected
 pub mod Picture
 pub mod Explain
 pub mod Json

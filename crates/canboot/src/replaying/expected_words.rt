@@ -1,8 +1,13 @@
 //! What was expected where a journal has its fault, in words.
 
+ghost use Rattle.std.specs.Prelude.{◌≡◌, ◌++◌, IfSome};
+ghost use Rattle.canboot.specs.Expected.{IsExpectedIn, IsFirstLine};
+
 use canboot_tools::{expected_answer, journal_of_lines};
 use cm_format::{FaultKind, JournalFault};
+use cm_history::{Orders, Reply};
 use cm_journal::{line_entry, put_answer};
+use cm_text::Fields;
 use std::alloc::Global;
 use std::io::{self, Write};
 
@@ -23,24 +28,38 @@ fn line_start(bytes: &[u8], number: u32) -> usize {
 }
 
 /// What stands before the line of this number, and the bytes from there on.
-fn parted(bytes: &[u8], number: u32) -> (&[u8], &[u8]) {
+fn parted(bytes: &[u8], number: u32) -> (&[u8], &[u8])
+    ensures { result.0.now ++ result.1.now ≡ bytes.now }
+{
     bytes.split_at(line_start(bytes, number).min(bytes.len()))
 }
 
 /// The first line, without its line feed.
-fn first_line(bytes: &[u8]) -> Option<&[u8]> {
-    let end = bytes.iter().position(|byte| *byte == b'\n')?;
-    bytes.get(..end)
+fn first_line(bytes: &[u8]) -> Option<&[u8]>
+    ensures { IfSome result (λ l. IsFirstLine l.now bytes.now) }
+{
+    let mut lines = Fields::new(bytes, b'\n');
+    let line = lines.next_field()?;
+    if lines.is_done() { None } else { Some(line) }
+}
+
+/// The manager's answer to the call of the line of this number, as [`expected_answer`] gives it behind the lines before it.
+fn expected_in(alloc: Global, bytes: &[u8], number: u32) -> Option<(Reply, Orders)>
+    ensures { IfSome result (λ a. IsExpectedIn bytes.now a.0 a.1) }
+{
+    let (before, rest) = parted(bytes, number);
+    let line = first_line(rest)?;
+    expected_answer(alloc, before, line)
 }
 
 /// Writes the answer that was expected.
 fn put_expected_answer<E: Write>(
     alloc: Global,
-    before: &[u8],
-    line: &[u8],
+    bytes: &[u8],
+    number: u32,
     err: &mut E,
 ) -> io::Result<()> {
-    let Some((reply, orders)) = expected_answer(alloc, before, line) else {
+    let Some((reply, orders)) = expected_in(alloc, bytes, number) else {
         return Ok(());
     };
     err.write_all(b"  expected:")?;
@@ -133,9 +152,10 @@ fn put_expected_number<E: Write>(
 /// Writes what was expected at a whole line with this fault, behind the lines before it.
 fn put_expected<E: Write>(
     alloc: Global,
+    bytes: &[u8],
     before: &[u8],
     line: &[u8],
-    kind: FaultKind,
+    fault: JournalFault,
     err: &mut E,
 ) -> io::Result<()> {
     if line.ends_with(b"\r") {
@@ -144,7 +164,7 @@ fn put_expected<E: Write>(
             "  the line ends in CR LF: lines of a journal end in LF alone"
         );
     }
-    match kind {
+    match fault.kind {
         FaultKind::BadHeader => {
             writeln!(err, "  expected: canboot journal 2, or canboot journal 1")
         }
@@ -153,9 +173,9 @@ fn put_expected<E: Write>(
             err,
             "  a number of the network list, of the seats or of the limit is out of its range, or a node-ID doesn't rise"
         ),
-        FaultKind::WrongReply => put_expected_answer(alloc, before, line, err),
+        FaultKind::WrongReply => put_expected_answer(alloc, bytes, fault.line, err),
         FaultKind::UnknownSeat | FaultKind::OverLimit => {
-            put_expected_number(alloc, before, kind, err)
+            put_expected_number(alloc, before, fault.kind, err)
         }
         FaultKind::OutOfMemory => Ok(()),
     }
@@ -172,7 +192,7 @@ pub(crate) fn explain_journal<E: Write>(
 ) {
     let (before, rest) = parted(bytes, fault.line);
     let _ = match first_line(rest) {
-        Some(line) => put_expected(alloc, before, line, fault.kind, err),
+        Some(line) => put_expected(alloc, bytes, before, line, fault, err),
         None => put_missing(alloc, before, rest, err),
     };
 }
