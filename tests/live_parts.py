@@ -11,6 +11,7 @@ import signal
 import socket
 import struct
 import subprocess
+import sys
 import tempfile
 import threading
 import time
@@ -196,6 +197,41 @@ def members(group):
                 yield int(it.parent.name), name
 
 
+# a terminal with a shell: what is typed there comes from standard input, and what it shows goes to standard error, but what the program
+# prints goes to standard output; it closes where standard input ends, and else ends with the program, and with its exit status
+TERMINAL = '''
+import os, pty, select, sys, termios
+printed = os.dup(1)
+child, line = pty.fork()
+if not child:
+    mode = termios.tcgetattr(0)
+    mode[1] &= ~termios.OPOST
+    mode[3] &= ~termios.ECHO
+    termios.tcsetattr(0, termios.TCSANOW, mode)
+    os.environ['NO_COLOR'] = '1'
+    os.dup2(printed, 1)
+    os.execvp('bash', ['bash', '--norc', '-ic', '"$0" "$@"; (exit $?)', *sys.argv[1:]])
+os.close(printed)
+os.close(1)
+while line is not None:
+    try:
+        for it in select.select([line, 0], [], [])[0]:
+            data = os.read(it, 65536)
+            if it == line:
+                os.write(2, data)
+            elif data:
+                os.write(line, data)
+            else:
+                os.close(line)
+                line = None
+                break
+    except OSError:
+        break
+ended = os.waitpid(child, 0)[1]
+sys.exit(os.waitstatus_to_exitcode(ended) if line is not None else 0)
+'''
+
+
 class Group:
     """A program in a group of processes of its own, which all end with the scene."""
 
@@ -246,7 +282,7 @@ def read_report(lines):
 class Live(Group):
     """canboot on the bus of a scene, over can-utils, or over an SLCAN adapter."""
 
-    def __init__(self, scene, slaves, *words, startup=1, own=1, adapter=None, journal=None):
+    def __init__(self, scene, slaves, *words, startup=1, own=1, adapter=None, journal=None, terminal=False):
         self.scene, self.start, self.asked = scene, len(scene.bus.lines), []
         # the NMT messages that another has sent, none of which is sent by canboot too
         self.others = set()
@@ -261,6 +297,8 @@ class Live(Group):
             command = [CANBOOT, 'live', network, '--slcan', adapter.path]
         else:
             command = [TOP / 'canboot-on-can', INTERFACE, network]
+        if terminal:
+            command = [sys.executable, '-ISc', TERMINAL, *command]
         for word, value in (('--settle', '5000'), ('--answer', '1000')):
             words += () if word in words else (word, value)
         super().__init__(scene, [*command, *words, '--journal', self.journal])
@@ -310,7 +348,7 @@ class Live(Group):
     def ended(self, status=0):
         """Waits for its end, and makes sure of what holds of any run; its report."""
         self.gone(status)
-        end = time.monotonic() + 10
+        end = time.monotonic() + PATIENCE
         while not self.out.ended and time.monotonic() < end:
             time.sleep(0.05)
         return self.journalled()

@@ -112,6 +112,15 @@ class Dying(Counted):
             super().nmt(command)
 
 
+class Mute(Counted):
+    """A device that hears and obeys, and says nothing while it is mute."""
+
+    is_mute = False
+
+    def later(self, seconds, action):
+        super().later(seconds, lambda: None if self.is_mute else action())
+
+
 class Forgetting(Counted):
     """A device that doesn't turn its toggle bit from a moment on."""
 
@@ -130,6 +139,31 @@ class Slow(Counted):
         super().later(max(seconds, 0.02), action)
 
 
+class Exchanged(Counted):
+    """A device that is exchanged behind its answer to the question of a boot that `left` counts down to, where that is set: another one
+    of another product, which has none of its writes but sends a heartbeat, boots up at once, and answers from then on."""
+
+    left, is_other = None, False
+
+    def restore(self):
+        super().restore()
+        if self.is_other:
+            self.objects |= {(0x1018, 2): ANOTHER, (0x1017, 0): BEAT}
+
+    def exchange(self):
+        self.is_other = True
+        self.restore()
+        self.later(BEAT / 1000, self.beat)
+        return self.boot_up()
+
+    def sdo(self, data):
+        super().sdo(data)
+        if self.left and data[0] != 0x80:
+            self.left -= 1
+            if not self.left:
+                self.later(ANSWER, self.exchange)
+
+
 def logged(frame):
     """The line of a frame, as `candump -L` writes it."""
     return f'(0000000000.000000) can0 {frame}\n'.encode()
@@ -138,7 +172,7 @@ def logged(frame):
 class Run:
     """A run of `canboot live`: what its operator waits for and types, what went to the bus, and what it said."""
 
-    def __init__(self, folder, slaves, steps, others=(), own=1, more=(), comes_back=False):
+    def __init__(self, folder, slaves, steps, others=(), own=1, more=(), comes_back=False, network='startup = 1', **how):
         self.folder, self.steps = pathlib.Path(folder), collections.deque(steps)
         self.devices = Devices(slaves)
         kinds = dict(others)
@@ -149,17 +183,23 @@ class Run:
         self.times, self.told_at, self.held = [], [], 0
         # what is said beside the devices; whether each frame that was sent comes back, as candump has it
         self.babble, self.comes_back = b'', comes_back
+        # of what the program writes, what isn't read
+        self.unheard = set()
         lists = ''.join('\n[[slave]]\n' + ''.join(f'{key} = {value}\n' for key, value in it.items()) for it in slaves)
-        (self.folder / 'network.toml').write_text(f'own = {own}\nstartup = 1\n' + lists)
+        (self.folder / 'network.toml').write_text(f'own = {own}\n{network}\n' + lists)
         for name in ('receive', 'send'):
             os.mkfifo(self.folder / name)
         self.receive = os.open(self.folder / 'receive', os.O_RDWR | os.O_NONBLOCK)
         self.bus = os.open(self.folder / 'send', os.O_RDONLY | os.O_NONBLOCK)
         words = [CANBOOT, 'live', 'network.toml', '--receive', 'receive', '--send', 'send', '--journal', 'journal',
                  '--workers', str(WORKERS), '--attempts', '2', '--settle', str(SETTLE), '--answer', str(ANSWERED), *more]
-        pipes = {name: subprocess.PIPE for name in ('stdin', 'stdout', 'stderr')}
-        self.process = subprocess.Popen(words, bufsize=0, cwd=folder, **pipes)
+        self.process = self.begin(words, **how)
         self.started = self.asked = time.monotonic()
+
+    def begin(self, words, **how):
+        """The process of a program that is run by these words."""
+        pipes = {name: subprocess.PIPE for name in ('stdin', 'stdout', 'stderr')}
+        return subprocess.Popen(words, bufsize=0, cwd=self.folder, **pipes, **how)
 
     def play(self):
         """Plays it until the program ends."""
@@ -172,7 +212,8 @@ class Run:
                 turn, before = time.monotonic(), turn
                 self.held = max(self.held, turn - before)
                 want(turn - self.started < LONGEST, 'it does not end')
-                for it in select.select(list(takers), [], [], min(self.devices.wait(), 0.01))[0]:
+                heard = [it for it in takers if it not in self.unheard]
+                for it in select.select(heard, [], [], min(self.devices.wait(), 0.01))[0]:
                     data = os.read(it, 65536)
                     *lines, texts[it] = (texts[it] + data).split(b'\n')
                     for line in lines:
@@ -189,8 +230,8 @@ class Run:
 
     def take_told(self, line):
         at = TOLD_AT.match(line)
-        want(at, f"'{line}' has no time before it")
-        late = time.time() - datetime.datetime.fromisoformat(at[0].strip()).timestamp()
+        want(at or line.startswith('canboot: '), f"'{line}' has no time before it")
+        late = time.time() - datetime.datetime.fromisoformat(at[0].strip()).timestamp() if at else 0
         want(abs(late) < 60, f"'{line}' was told {late} seconds before")
         self.err.append(told(line))
         self.told_at.append(time.monotonic())

@@ -1,6 +1,6 @@
 -- Writes that are added one after another.
-use Rattle.std.proofs.Common.{◌≡◌, ◌⊎◌, ◌-◌, ◌/◌, ℕ, refl, true, false, eqb, List, [], ◌∷◌, ◌++◌, Option, Some, None, IfSome, Result, Ok, Err, OnOk, OnErr, inl, inr, sym, subst, arith}
-use Rattle.std.specs.Prelude.{◌==◌, ◌&&◌, ◌||◌, codes}
+use Rattle.std.proofs.Common.{◌≡◌, ◌⊎◌, ℕ, true, eqb, List, [], ◌∷◌, ◌++◌, Option, Some, None, IfSome, Result, Ok, Err, OnOk, OnErr, inl, inr, sym, subst, arith}
+use Rattle.std.specs.Prelude.{codes}
 use Rattle.std.proofs.lemmas.Bool.{cases_Bool, eqb-true}
 use Rattle.cm_nmt.specs.Size.{is_size}
 use Rattle.cm_nmt.specs.Write.{write_with}
@@ -8,10 +8,10 @@ use Rattle.std.specs.List.{All}
 use Rattle.std.proofs.lemmas.List.Elements.{All-append, All-cons}
 use Rattle.arrayvec.specs.ArrayVec.{ArrayVec}
 use Rattle.cm_nmt.specs.declared.write.Write.{Write}
-use Rattle.canboot.specs.DeviceFiles.{Has, IsNumber, IsObject, IsPlain, behind_mark, size_of}
-use Rattle.canboot.specs.Imports.{IsKeyOf, IsSetting, IsSized, IsValueOf, is_cob_id, is_count}
+use Rattle.canboot.specs.DeviceFiles.{Has, IsPlain, IsTypedNumber, behind_mark, size_of}
+use Rattle.canboot.specs.Imports.{IsSetting, IsTyped, IsValueKey, IsValueOf}
 use Rattle.canboot.specs.LinesRead.{HasKey}
-use Rattle.canboot.specs.SettingsMade.{AllWrites, HasAdded}
+use Rattle.canboot.specs.SettingsMade.{AllWrites, HasAdded, IsTypeOf}
 use Rattle.canboot.specs.declared.importing.settings.Setting.{Setting}
 use Rattle.canboot.specs.declared.importing.settings.Settings.{Settings}
 
@@ -26,10 +26,16 @@ pub added_if : {T E : Type 0} (r : Result T E) (P : Write → Type 0) (old new :
 added_if (Ok x) P old new w all holds added = one_added P old new w all holds added
 added_if (Err e) P old new w all holds added = tt
 
--- the size of a data type that a section has
-pub sized : (file section text : List ℕ) (d : ℕ) (r : Option ℕ) → HasKey file section (codes "DataType") text → IsPlain text d → r ≡ size_of d → IfSome r (λ s. IsSized file section s)
-sized file section text d None has plain is = tt
-sized file section text d (Some s) (key, has, same) plain is = record { key = key; text = text; data_type = d; has = has; key_is = same; plain = plain; is = sym is }
+-- the data type that a section has
+pub type_of : (file section text : List ℕ) (r : Option ℕ) → HasKey file section (codes "DataType") text → IfSome r (IsPlain text) → IfSome r (IsTypeOf file section)
+type_of file section text None has plain = tt
+type_of file section text (Some d) (key, has, same) plain = record { key = key; written = text; has = has; key_is = same; plain = plain }
+
+-- a number of that data type
+pub typed : (file section text : List ℕ) (node data_type size n : ℕ) → IsTypeOf file section data_type → size_of data_type ≡ Some size
+    → IsTypedNumber data_type size node text n → IsTyped file section node text size n
+typed file section text node data_type size n is size_is number =
+    record { key = is.key; written = is.written; data_type = data_type; has = is.has; key_is = is.key_is; plain = is.plain; is = size_is; number = number }
 
 -- the same writes, where it may fail
 pub kept_if : {T E : Type 0} (r : Result T E) (P : Write → Type 0) (old new : Settings) → AllWrites P old → OnOk r (new.settings.items ≡ old.settings.items) → OnOk r (AllWrites P new)
@@ -46,33 +52,17 @@ size_is n e =
       ]
     ]
 
-module _ (file section key text : List ℕ) (node index sub n v : ℕ) (has : Has (behind_mark file) section key text) (key_is : IsKeyOf index sub key)
-    (object : IsObject section (index, sub)) (number : IsNumber node text n) (value : IsValueOf index sub n v) where
+module _ (file section key text described : List ℕ) (node index sub n v : ℕ) (has : Has (behind_mark file) section key text)
+    (key_is : IsValueKey file index sub section key described) (value : IsValueOf index sub n v) where
   -- the write of a value of the file is what the file sets
-  pub setting : (size : ℕ) → is_size size ≡ true → IsSized file section size → IsSetting file node (write_with index sub size v)
-  setting size is sized =
-      let P : ℕ → Type 0 = λ z. IsSized file section z → IsSetting file node (write_with index sub z v) in
+  pub setting : (size : ℕ) → is_size size ≡ true → IsTyped file described node text size n → IsSetting file node (write_with index sub size v)
+  setting size is typed =
+      let P : ℕ → Type 0 = λ z. IsTyped file described node text z n → IsSetting file node (write_with index sub z v) in
       elim (size_is size is) [
-        | inl one ↦ subst P (sym one) (λ it. record { section = section; key = key; text = text; n = n; has = has; key_is = key_is; object = object; sized = it; number = number; value = value }) sized
-        | inr (inl two) ↦ subst P (sym two) (λ it. record { section = section; key = key; text = text; n = n; has = has; key_is = key_is; object = object; sized = it; number = number; value = value }) sized
-        | inr (inr four) ↦ subst P (sym four) (λ it. record { section = section; key = key; text = text; n = n; has = has; key_is = key_is; object = object; sized = it; number = number; value = value }) sized
+        | inl one ↦ subst P (sym one) (λ it. record { section = section; key = key; text = text; described = described; n = n; has = has; key_is = key_is; typed = it; value = value }) typed
+        | inr (inl two) ↦ subst P (sym two) (λ it. record { section = section; key = key; text = text; described = described; n = n; has = has; key_is = key_is; typed = it; value = value }) typed
+        | inr (inr four) ↦ subst P (sym four) (λ it. record { section = section; key = key; text = text; described = described; n = n; has = has; key_is = key_is; typed = it; value = value }) typed
       ]
-
--- the COB-ID of a PDO stands 200h below the number of objects that are mapped to it
-pub cob_id_below : (index sub : ℕ) → is_count index sub ≡ true → is_cob_id (index - 512) 1 ≡ true
-cob_id_below index sub e =
-    let P : ℕ → Type 0 = λ x. ((x == 10 || x == 12) && 1 == 1) ≡ true in
-    elim (cases_Bool (eqb (index / 512) 11)) [
-      | inl a ↦ let e11 : index / 512 ≡ 11 = eqb-true _ _ a in
-          let e10 : (index - 512) / 512 ≡ 10 = omega arith in
-          subst P (sym e10) refl
-      | inr a ↦ elim (cases_Bool (eqb (index / 512) 13)) [
-        | inl b ↦ let e13 : index / 512 ≡ 13 = eqb-true _ _ b in
-            let e12 : (index - 512) / 512 ≡ 12 = omega arith in
-            subst P (sym e12) refl
-        | inr b ↦ let no : false ≡ true = rw (a, b) at e in absurd cc
-      ]
-    ]
 
 -- one item more, where there is room
 pub pushed : {T E X : Type 0} (r : Result T E) (P : X → Type 0) (old new : ArrayVec X) (x : X) → All P old.items → P x

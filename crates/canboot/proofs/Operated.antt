@@ -1,5 +1,5 @@
 -- What the operator and the other seats do in a live run, call by call and in the history.
-use Rattle.std.proofs.Common.{◌≡◌, ◌≢◌, ◌≤◌, ℕ, List, [], ◌∷◌, ◌++◌, length, sym, ap, subst, ◌∙◌, arith}
+use Rattle.std.proofs.Common.{◌≡◌, ◌≢◌, ◌≤◌, inl, inr, ℕ, List, [], ◌∷◌, ◌++◌, length, sym, ap, subst, ◌∙◌, arith}
 use Rattle.std.specs.Prelude.{All, Option, Result, Ok, Err, IfOk, OnErr}
 use Rattle.std.proofs.lemmas.List.Elements.{All-head, All-nil, All-tail}
 use Rattle.cm_history.specs.declared.call.Call.{Call}
@@ -14,7 +14,7 @@ use Rattle.cm_seat.specs.declared.made.Made.{Made}
 use Rattle.cm_seat.specs.declared.made.Receipt.{Receipt}
 use Rattle.canboot.specs.Operated.{EndsWithOperator, IsOperatedLive, IsOperators, RequestsIfOperator}
 use Rattle.cm_live.specs.Console.{IsOfWatch}
-use Rattle.canboot.specs.Typing.{AreTyped, BeginsWithStart, IsTypedCall, MakesNoRequest, NoRequests}
+use Rattle.canboot.specs.Typing.{AreTyped, BeginsWithStart, IsTypedCall, IsUntyped, MakesNoRequest, NoRequests}
 use Rattle.canboot.proofs.Lists.{each_list}
 
 abbrev pub IsQuiet : SeatView → Type 0
@@ -23,7 +23,8 @@ IsQuiet s = NoRequests s.list
 -- ---- the operator's list grows
 
 sooner_typed : (typed : Option (List ℕ)) (c : Call) (before from upto : ℕ) → before ≤ from → IsTypedCall typed c from upto → IsTypedCall typed c before upto
-sooner_typed typed (call.Request t v) before from upto le h = (omega (arith, le, h.0), h.1, h.2, h.3)
+sooner_typed typed (call.Request t v) before from upto le (inl h) = inl (omega (arith, le, h.0), h.1, h.2, h.3)
+sooner_typed typed (call.Request t v) before from upto le (inr h) = inr (h.0, omega (arith, le, h.1))
 sooner_typed typed _ before from upto le h = omega (arith, le, h)
 
 add_typed : (typed : Option (List ℕ)) (ms : List Made) (m : Made) (from mid upto : ℕ) → AreTyped typed ms from mid → IsTypedCall typed m.call mid upto → AreTyped typed (ms ++ m ∷ []) from upto
@@ -52,17 +53,23 @@ first_call typed old new m fresh is start =
       requests = subst (λ (l : List Made). AreTyped typed l 0 0) (sym list) (0, subst (λ (c : Call). IsTypedCall typed c 0 0) (sym start) (let z : 0 ≤ 0 = omega arith in z), omega arith);
     }
 
--- ---- a call of the watch
+-- ---- a call that no line spells
 
-quiet_typed : (typed : Option (List ℕ)) (c : Call) → IsOfWatch c → (from : ℕ) → IsTypedCall typed c from from
-quiet_typed typed (call.Request t v) w from = absurd w
+quiet_typed : (typed : Option (List ℕ)) (c : Call) → IsUntyped c → (from : ℕ) → IsTypedCall typed c from from
+quiet_typed typed (call.Request t v) w from = inr (w, omega arith)
 quiet_typed typed _ w from = omega arith
 
-pub no_report : (c : Call) → IsOfWatch c → IsNoReport c
+-- what is typed plainly is such a call
+pub plainly_untyped : (c : Call) → IsOfWatch c → IsUntyped c
+plainly_untyped (call.Report i n a) w = absurd w
+plainly_untyped (call.Request t v) w = absurd w
+plainly_untyped _ w = tt
+
+pub no_report : (c : Call) → IsUntyped c → IsNoReport c
 no_report (call.Report i n a) w = absurd w
 no_report _ w = tt
 
-pub watched : (typed : Option (List ℕ)) (r : Result Receipt CallFault) (old new : SeatView) (c : Call) (upto : ℕ) → IsOfWatch c
+pub watched : (typed : Option (List ℕ)) (r : Result Receipt CallFault) (old new : SeatView) (c : Call) (upto : ℕ) → IsUntyped c
     → IfOk r (λ k. (new.number ≡ old.number) × (new.list ≡ old.list ++ made k.position c k.reply ∷ [])) → OnErr r (new ≡ old) → IsOperators typed old upto → IsOperators typed new upto
 watched typed (Ok k) old new c upto w ok err o = operated_on typed old new upto upto (made k.position c k.reply) ok (quiet_typed typed c w upto) o
 watched typed (Err f) old new c upto w ok err o = subst (λ (s : SeatView). IsOperators typed s upto) (sym err) o

@@ -11,13 +11,13 @@ use Rattle.cm_watch.specs.declared.happening.Moment.TheVariants as moment
 use Rattle.cm_watch.specs.declared.settings.Settings.{Settings}
 use Rattle.cm_watch.specs.declared.watch.Watch.{Watch}
 
--- the state of a node that is to be noted again: of the message that came last, at its time with its byte, where one was noted before, no
--- later, with the same state; a boot-up message is never noted again, nor a message of a guarded node, which is asked each g ms: of these
--- each that counts comes by itself, with its toggle bit turned
+-- the state of a node that is to be noted again: of the message that came last, at its time with its byte, where one was noted before it
+-- with the same state, so that none is noted twice; a boot-up message is never noted again, nor a message of a guarded node, which is asked
+-- each g ms: of these each that counts comes by itself, with its toggle bit turned
 abbrev pub state_again : ℕ → Option (ℕ × ℕ) → Option ℕ → Option ℕ → Option ℕ
 state_again g (Some last) (Some noted) (Some state) =
     let now = last.1 % 128 in
-    if (g == 0) && not (now == 0) && (state == now) && not (nat_lt last.0 noted) then Some now else None
+    if (g == 0) && not (now == 0) && (state == now) && nat_lt noted last.0 then Some now else None
 state_again g _ _ _ = None
 
 -- a moment repeats what was heard last of a node that isn't guarded: its state again

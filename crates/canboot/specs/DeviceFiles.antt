@@ -1,5 +1,7 @@
 -- What a device file says, an electronic data sheet or a device configuration file (CiA 306).
-use Rattle.std.specs.Prelude.{◌≡◌, ◌⊎◌, ◌+◌, ◌<◌, ◌^◌, ◌==◌, ◌||◌, ℕ, if◌then◌else◌, List, [], ◌∷◌, ◌++◌, Option, Some, None, bytes_eq, codes, drop, get_or, length, map, take}
+use Rattle.std.specs.Prelude.{◌≡◌, ◌⊎◌, ◌+◌, ◌*◌, ◌<◌, ◌≤◌, ◌^◌, ◌==◌, ◌||◌, ℕ, if◌then◌else◌, List, [], ◌∷◌, ◌++◌, Option, Some, None, bytes_eq, codes, drop, get_or, length, map, take, to_bits}
+use Rattle.std.specs.Float.{Float, binary32}
+use Rattle.std.specs.Float.Parse.{parse_float}
 use Rattle.std.specs.Str.{IsTrimAscii}
 use Rattle.std.specs.Str.Parse.{IsNumeral, digits_value}
 use Rattle.std.specs.Char.{to_ascii_lowercase}
@@ -15,10 +17,10 @@ behind_mark file = if bytes_eq (take 3 file) (239 ∷ 187 ∷ 191 ∷ []) then d
 
 -- ---- lines
 
--- the line at this place, from 0 on, without white space at its ends
+-- the line at this place, from 0 on, as far as its first semicolon, behind which a comment stands, and without white space at its ends
 pub record IsLine (file : List ℕ) (place : ℕ) (text : List ℕ) : Type 0 where
   pub raw : List ℕ
-  pub there : raw ≡ get_or (split 10 file) place []
+  pub there : raw ≡ get_or (split 59 (get_or (split 10 file) place [])) 0 []
   pub trimmed : IsTrimAscii raw text
 
 -- the text begins a section of this name
@@ -58,6 +60,7 @@ pub record Has (file section key value : List ℕ) : Type 0 where
   pub text : List ℕ
   pub there : IsLine file place text
   pub entry : IsEntry text key value
+  pub no_head : (name : List ℕ) → BeginsSection text name → ⊥
 
 -- ---- numbers
 
@@ -127,3 +130,30 @@ abbrev pub size_of : ℕ → Option ℕ
 size_of t =
     if t == 1 || (t == 2 || t == 5) then Some 1
     else (if t == 3 || t == 6 then Some 2 else (if t == 4 || (t == 7 || t == 8) then Some 4 else None))
+
+-- half of the numbers of a data type of this size: so many of a signed one are below 0
+abbrev pub half_of : ℕ → ℕ
+half_of size = if size == 1 then 128 else (if size == 2 then 32768 else 2147483648)
+
+-- the text is a number below 0, and this is its two's complement in so many bytes
+pub record IsNegative (size : ℕ) (text : List ℕ) (n : ℕ) : Type 0 where
+  pub digits : List ℕ
+  pub below : ℕ
+  pub parts : text ≡ 45 ∷ digits
+  pub plain : IsPlain digits below
+  pub some : 0 < below
+  pub small : below ≤ half_of size
+  pub complement : n + below ≡ 2 * half_of size
+
+-- the text is a real number in base 10, and these are the bits of the nearest one of 32 bits (IEEE 754)
+pub record IsReal (text : List ℕ) (n : ℕ) : Type 0 where
+  pub x : Float
+  pub parsed : parse_float binary32 text ≡ Some x
+  pub bits : n ≡ to_bits binary32 x
+
+-- the text is a number of this data type and size, in these bits (CiA 301: INTEGER8, INTEGER16 and INTEGER32 are signed, REAL32 is a real
+-- number, whose bits may also be given, in base 16)
+abbrev pub IsTypedNumber : ℕ → ℕ → ℕ → List ℕ → ℕ → Type 0
+IsTypedNumber data_type size node text n =
+    ((data_type ≡ 8) × (IsReal text n ⊎ (((base_and_digits text).0 ≡ 16) × IsPlain text n)))
+    ⊎ (((data_type ≡ 8 → ⊥) × IsNumber node text n) ⊎ (((2 ≤ data_type) × (data_type ≤ 4)) × IsNegative size text n))

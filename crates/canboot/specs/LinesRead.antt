@@ -1,11 +1,13 @@
 -- Working definitions, behind the contracts of private functions: what a line was read as (own).
-use Rattle.std.specs.Prelude.{◌≡◌, ◌⊎◌, ℕ, List, [], ◌∷◌, ◌++◌, Option, Some, None, All}
+use Rattle.std.specs.Prelude.{◌≡◌, ◌⊎◌, ◌<◌, ℕ, List, [], ◌∷◌, ◌++◌, Option, Some, None, All, Contains, IfOk, MatchOption, Result, Ok, Err, true, codes, is_ok}
 use Rattle.canboot.specs.DeviceFiles.{AreSame, BeginsSection, Has, IsEntry, IsIn, behind_mark}
+use Rattle.canboot.specs.Imports.{GivesNone, IsDeviceType, IsGiven, IsIdentity, IsObjectValue, IsSerial, Stands, StandsNone}
 use Rattle.canboot.specs.declared.importing.device_file.Begun.{Begun}
 use Rattle.canboot.specs.declared.importing.device_file.Entry.{Entry}
 use Rattle.canboot.specs.declared.importing.device_file.Item.{Item}
 use Rattle.canboot.specs.declared.importing.device_file.Line.{Line}
 use Rattle.canboot.specs.declared.importing.device_file.Line.TheVariants as line
+use Rattle.canboot.specs.declared.importing.imported.Identity.{Identity}
 
 -- the text begins no section
 abbrev pub BeginsNone : List ℕ → Type 0
@@ -13,25 +15,39 @@ BeginsNone text = (name : List ℕ) → BeginsSection text name → ⊥
 
 -- the line is what it was read as
 abbrev pub IsRead : List ℕ → Line → Type 0
-IsRead text line.Nothing = BeginsNone text
+IsRead text line.Nothing = text ≡ []
 IsRead text (line.Section name) = BeginsSection text name.now
 IsRead text (line.Entry entry) = IsEntry text entry.key.now entry.value.now × BeginsNone text
 IsRead text line.Unknown = Unit {0}
 
 -- a key with its value in the section that is begun
-abbrev pub item_of : Begun → Entry → Item
-item_of begun entry = record { section = begun.name; key = entry.key; value = entry.value; first = begun.first }
+abbrev pub item_of : Begun → Entry → ℕ → Item
+item_of begun entry line = record { section = begun.name; key = entry.key; value = entry.value; first = begun.first; line = line }
 
--- the line begins a section, or none and is no key, or is a key of the section that is begun
+-- the line begins a section, or is empty, or is a key of the section that is begun
 abbrev pub IsTaken : List ℕ → List Item → List Item → Option Begun → Option Begun → Type 0
 IsTaken text old new begun now =
     ((b : Begun) × BeginsSection text b.name.now × (now ≡ Some b) × (new ≡ old))
-    ⊎ (BeginsNone text × (now ≡ begun)
-    × ((new ≡ old) ⊎ ((b : Begun) × (e : Entry) × IsEntry text e.key.now e.value.now × (begun ≡ Some b) × (new ≡ old ++ item_of b e ∷ []))))
+    ⊎ (((text ≡ []) × (now ≡ begun) × (new ≡ old))
+    ⊎ ((b : Begun) × (e : Entry) × (line : ℕ) × BeginsNone text × IsEntry text e.key.now e.value.now × (begun ≡ Some b) × (now ≡ Some b)
+    × (new ≡ old ++ item_of b e line ∷ [])))
 
 -- each item is a key of the file with its value, in its section
 abbrev pub AreOf : List ℕ → List Item → Type 0
 AreOf file items = All (λ i. Has (behind_mark file) i.section.now i.key.now i.value.now) items
+
+-- an item is this key with this value, in this section
+abbrev pub IsAmong : List ℕ → List ℕ → List ℕ → List Item → Type 0
+IsAmong section key value items =
+    (i : Item) × Contains items i × (i.section.now ≡ section) × (i.key.now ≡ key) × (i.value.now ≡ value)
+
+-- each key of the file with its value is an item
+abbrev pub AreAllOf : List ℕ → List Item → Type 0
+AreAllOf file items = (section key value : List ℕ) → Has (behind_mark file) section key value → IsAmong section key value items
+
+-- each key on a line before this place is an item
+abbrev pub AreAllBefore : List ℕ → ℕ → List Item → Type 0
+AreAllBefore file to items = (section key value : List ℕ) → (has : Has file section key value) → has.place < to → IsAmong section key value items
 
 -- the section that is begun is the one that the lines up to this place are in
 abbrev pub IsBegun : List ℕ → ℕ → Option Begun → Type 0
@@ -45,3 +61,46 @@ HasKey file section name value = (key : List ℕ) × Has (behind_mark file) sect
 -- a section of this name, in any letters, has such a key
 abbrev pub IsValueIn : List ℕ → List ℕ → List ℕ → List ℕ → Type 0
 IsValueIn file name key value = (section : List ℕ) × AreSame section name × HasKey file section key value
+
+-- an item isn't this key in a section of this name, or its value is empty
+abbrev pub IsOther : List ℕ → List ℕ → Item → Type 0
+IsOther name key item = AreSame item.section.now name → AreSame item.key.now key → item.value.now ≡ []
+
+-- ---- what a device is compared with
+
+-- the number, or 0
+abbrev pub number_or_0 : Result ℕ Item → ℕ
+number_or_0 (Ok n) = n
+number_or_0 (Err item) = 0
+
+abbrev pub or_0 : Option ℕ → ℕ
+or_0 None = 0
+or_0 (Some n) = n
+
+-- what stands in the file under this key: a number, or nothing
+abbrev pub IsNumberRead : List ℕ → ℕ → List ℕ → List ℕ → Option ℕ → Type 0
+IsNumberRead file node name key found = MatchOption found (StandsNone file name key) (IsGiven file node name key)
+
+-- the value of an object, or none
+abbrev pub IsObjectRead : List ℕ → ℕ → List ℕ → Option ℕ → Type 0
+IsObjectRead file node name found = MatchOption found (GivesNone file name) (IsObjectValue file node name)
+
+-- each of them is a number
+pub record AreRead (found : Identity) : Type 0 where
+  pub device_type : is_ok found.device_type ≡ true
+  pub vendor : is_ok found.vendor ≡ true
+  pub product : is_ok found.product ≡ true
+  pub revision : is_ok found.revision ≡ true
+  pub serial : is_ok found.serial ≡ true
+
+-- each number is the file's
+pub record AreIdentitiesOf (file : List ℕ) (node : ℕ) (found : Identity) : Type 0 where
+  pub device_type : IfOk found.device_type (IsDeviceType file node)
+  pub vendor : IfOk found.vendor (IsIdentity file node (codes "1018sub1") (codes "VendorNumber"))
+  pub product : IfOk found.product (IsIdentity file node (codes "1018sub2") (codes "ProductNumber"))
+  pub revision : IfOk found.revision (IsIdentity file node (codes "1018sub3") (codes "RevisionNumber"))
+  pub serial : IfOk found.serial (IsSerial file node)
+
+-- the text stands in the file as the node-ID of its device
+abbrev pub StandsAsNode : List ℕ → List ℕ → Type 0
+StandsAsNode file text = Stands file (codes "DeviceComissioning") (codes "NodeID") text ⊎ Stands file (codes "DeviceCommissioning") (codes "NodeID") text

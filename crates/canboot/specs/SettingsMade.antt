@@ -1,13 +1,14 @@
 -- Working definitions, behind the contracts of private functions: the writes that are made of a device file (own).
-use Rattle.std.specs.Prelude.{◌≡◌, ℕ, List, [], ◌∷◌, ◌++◌}
+use Rattle.std.specs.Prelude.{◌≡◌, ℕ, List, [], ◌∷◌, ◌++◌, codes, drop, length, take}
 use Rattle.std.specs.List.{All}
 use Rattle.cm_nmt.specs.Write.{write_with}
 use Rattle.cm_nmt.specs.declared.write.Write.{Write}
-use Rattle.canboot.specs.DeviceFiles.{Has, IsObject, behind_mark}
-use Rattle.canboot.specs.Imports.{IsKeyOf, IsSetting, IsValueOf}
+use Rattle.canboot.specs.DeviceFiles.{AreSame, Has, IsPlain, IsWritten, behind_mark}
+use Rattle.canboot.specs.Imports.{IsSetting, IsValueKey, IsValueOf}
 use Rattle.canboot.specs.declared.importing.device_file.Item.{Item}
 use Rattle.canboot.specs.declared.importing.settings.Setting.{Setting}
 use Rattle.canboot.specs.declared.importing.settings.Settings.{Settings}
+use Rattle.canboot.specs.declared.importing.settings.Value.{Value}
 
 -- this holds of each write
 abbrev pub AllWrites : (Write → Type 0) → Settings → Type 0
@@ -17,11 +18,10 @@ AllWrites P settings = All (λ s. P s.write) settings.settings.items
 abbrev pub IsOf : List ℕ → Item → Type 0
 IsOf file item = Has (behind_mark file) item.section.now item.key.now item.value.now
 
--- the item gives the value of the object
-pub record Gives (file : List ℕ) (item : Item) (object : ℕ × ℕ) : Type 0 where
-  pub has : IsOf file item
-  pub object_is : IsObject item.section.now object
-  pub key_is : IsKeyOf object.0 object.1 item.key.now
+-- the item is a value of the object that the described section describes
+pub record Gives (file : List ℕ) (value : Value) : Type 0 where
+  pub has : IsOf file value.item
+  pub key_is : IsValueKey file value.object.0 value.object.1 value.item.section.now value.item.key.now value.described.section.now
 
 -- just this write was added behind the others
 abbrev pub HasAdded : Settings → Settings → Write → Type 0
@@ -31,3 +31,18 @@ HasAdded old new w = (s : Setting) × (s.write ≡ w) × (new.settings.items ≡
 abbrev pub MaySet : List ℕ → ℕ → ℕ × ℕ → ℕ × ℕ → Type 0
 MaySet file node object value =
     (v : ℕ) → IsValueOf object.0 object.1 value.1 v → IsSetting file node (write_with object.0 object.1 value.0 v)
+
+-- the section gives this data type
+pub record IsTypeOf (file section : List ℕ) (data_type : ℕ) : Type 0 where
+  pub key : List ℕ
+  pub written : List ℕ
+  pub has : Has (behind_mark file) section key written
+  pub key_is : AreSame key (codes "DataType")
+  pub plain : IsPlain written data_type
+
+-- the section is that of an object's values, in any letters
+pub record IsValueSection (section : List ℕ) (index : ℕ) : Type 0 where
+  pub parts : section ≡ take 4 section ++ drop 4 section
+  pub four : length (take 4 section) ≡ 4
+  pub word_is : AreSame (drop 4 section) (codes "Value")
+  pub index_is : IsWritten 16 (take 4 section) index

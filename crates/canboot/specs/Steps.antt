@@ -13,11 +13,12 @@ use Rattle.cm_watch.specs.declared.happening.Step.TheVariants as step
 abbrev pub calls_made : SeatView → List Call
 calls_made s = map (λ (m : Made). m.call) s.list
 
--- the call that a step is, if it is one: a boot is handed to a worker, what was left out is told, what is sent for error control is a
--- frame, and the run ends
+-- the call that a step is, if it is one: a slave that is woken is asked to enter pre-operational, by the value 127 (CiA 302-2, request
+-- NMT); a boot is handed to a worker, what was left out is told, what is sent for error control is a frame, and the run ends
 abbrev pub call_for : Step → Option Call
 call_for (step.Lost i) = Some (call.Lost i)
 call_for (step.Boot i) = None
+call_for (step.Wake i) = Some (call.Request i 127)
 call_for (step.Signal i byte) = Some (call.Signal i byte)
 call_for (step.LeftOut i n) = None
 call_for (step.TimeOver ms) = Some (call.Elapsed ms)

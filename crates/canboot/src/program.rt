@@ -137,12 +137,16 @@ pub fn run_words<
                 id,
                 mandatory,
                 heartbeat_ms,
+                first,
+                is_partly,
             },
         ) => {
             let words = ImportWords {
                 id,
                 mandatory,
                 heartbeat_ms,
+                first,
+                is_partly,
             };
             import_file(rt, file, words, out, err)
         }

@@ -6,13 +6,17 @@ ghost use Rattle.canboot_check.specs.Check.{IsFaultOfList};
 mod fault_line;
 mod fault_words;
 mod faulty_write;
+pub(crate) mod names_fault;
 mod toml_text;
 
 use crate::refusing::fault_words::explain_fault;
-use canboot_check::{CheckFault, read_fault, refuse};
-use canboot_run::RefuseList;
+use canboot_check::{CheckFault, LONGEST_LIST, input_fault_line, read_fault, refuse};
+use canboot_run::{RefuseList, write_fault};
+use cm_text::InputFault;
 use std::alloc::Global;
+use std::fs;
 use std::io::{ErrorKind, Write};
+use std::rt::Files;
 
 /// Writes the line of fault of a network list of these bytes, as [`refuse`] does, and behind it where the list has the fault, as far
 /// as that is known. The answer is the exit status.
@@ -42,6 +46,54 @@ pub(crate) fn read_fault_of<E: Write>(err: &mut E, path: &str, kind: ErrorKind) 
         ErrorKind::OutOfMemory => Ok(()),
         ErrorKind::NotFound => writeln!(err, "  {path}: no such file or directory"),
         _ => writeln!(err, "  {path}: {kind}"),
+    };
+    status
+}
+
+/// What an operator can do about a file that can't be written, as far as the system's reason says it.
+fn unwritten_words(kind: ErrorKind) -> Option<&'static str> {
+    match kind {
+        ErrorKind::NotFound => Some("no such directory: make it first, or name a file in another"),
+        ErrorKind::IsADirectory => Some("is a directory: name a file in it"),
+        ErrorKind::PermissionDenied => Some("permission denied: name a file that you may write"),
+        _ => None,
+    }
+}
+
+/// Writes the line of fault of a file that can't be opened for writing, or made, as [`write_fault`] does, and behind it its path and the
+/// system's reason. The answer is the exit status.
+pub(crate) fn write_fault_of<E: Write>(err: &mut E, path: &str, kind: ErrorKind) -> u8
+    ensures { result ≡ 3 }
+{
+    let status = write_fault(err, kind);
+    let _ = match (kind, unwritten_words(kind)) {
+        (ErrorKind::OutOfMemory, _) => Ok(()),
+        (_, Some(words)) => writeln!(err, "  {path}: {words}"),
+        (_, None) => writeln!(err, "  {path}: {kind}"),
+    };
+    status
+}
+
+/// Writes the line of fault of a file that was opened and can't be read, as [`input_fault_line`] does, and behind it its path and why that
+/// is, where it is known. The answer is the exit status.
+pub(crate) fn unread_fault_of<R: Files, E: Write>(
+    rt: &R,
+    err: &mut E,
+    path: &str,
+    fault: InputFault,
+) -> u8
+    ensures { result ≡ 3 }
+{
+    let status = input_fault_line(err, fault);
+    let InputFault::Read = fault else {
+        return status;
+    };
+    let _ = match fs::metadata(rt, path) {
+        Ok(found) if found.is_dir() => writeln!(err, "  {path}: is a directory: name a file in it"),
+        Ok(found) if found.len() > LONGEST_LIST as u64 => {
+            writeln!(err, "  {path}: has more than {LONGEST_LIST} bytes")
+        }
+        _ => writeln!(err, "  {path}: can't be read to its end"),
     };
     status
 }

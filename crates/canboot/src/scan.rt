@@ -9,6 +9,7 @@ mod asking;
 mod device;
 mod device_name;
 mod differences;
+mod doubles;
 pub(crate) mod files;
 mod finding;
 mod list_text;
@@ -19,13 +20,14 @@ mod scanned;
 use crate::scan::differences::{put_lines, put_object};
 use crate::scan::finding::find_devices;
 use crate::scan::listing::{ScanFault, list_found};
-use crate::scan::scanned::{NoScan, Scanned};
+use crate::scan::scanned::{BusSaid, NoScan, Scanned};
 use canboot_check::{DONE, FAILED, REFUSED, fault_line, output_status};
 use canboot_tools::{Difference, compare};
-use canboot_words::{NoFrames, ReportForm};
+use canboot_words::{NoFrames, ReportForm, say_notice};
 use cm_live::Format;
 use cm_netlist::{Network, Startup};
 use cm_nmt::NodeId;
+use cm_watch::{ErrorNotice, Notice};
 use std::alloc::Global;
 use std::io::{self, Read, Write};
 use std::sync::Wait;
@@ -70,16 +72,44 @@ fn no_scan_line<E: Write>(err: &mut E, none: NoScan) -> u8
         NoScan::NoWorker => "no worker",
         NoScan::NotHeard => "read failed",
         NoScan::NotWritten => "write failed",
+        NoScan::BusOff => "bus: off",
     };
     fault_line(err, FAILED, words)
 }
 
-/// Says that nothing that was received is a frame, where it is so.
-fn tell_strange<E: Write>(err: &mut E, format: Format, are_strange: bool) {
-    if are_strange {
-        let words = NoFrames(format);
-        let _ = writeln!(err, "canboot: {words}");
+/// Says what the bus said of itself.
+fn tell_bus<E: Write>(err: &mut E, network: &Network, said: BusSaid) -> io::Result<()> {
+    if said.is_unacknowledged {
+        err.write_all(b"canboot: ")?;
+        say_notice(err, network, Some(Notice::Bus(ErrorNotice::Unacknowledged)))?;
     }
+    if let Some(state) = said.trouble() {
+        err.write_all(b"canboot: ")?;
+        say_notice(err, network, Some(Notice::Bus(ErrorNotice::State(state))))?;
+    }
+    Ok(())
+}
+
+/// Says beside the list that nothing that was received is a frame, that no device was heard, what the bus said of itself, and at which
+/// nodes two devices answer, each where it is so.
+fn tell_beside<E: Write>(
+    err: &mut E,
+    network: &Network,
+    format: Format,
+    scanned: &Scanned,
+) -> io::Result<()> {
+    if scanned.said.are_strange {
+        let words = NoFrames(format);
+        writeln!(err, "canboot: {words}")?;
+    }
+    if scanned.found.is_empty() {
+        err.write_all(b"canboot: no device was heard\n")?;
+    }
+    tell_bus(err, network, scanned.said)?;
+    for double in scanned.doubles.as_slice() {
+        writeln!(err, "canboot: {double}")?;
+    }
+    Ok(())
 }
 
 /// Writes a text, and all of it.
@@ -118,8 +148,9 @@ fn put_list<O: Write, E: Write>(
 /// (1F81h bits 0 and 2), and the values that it gave are the expected ones; a value that it didn't give is left out. No NMT message is
 /// sent. `ends` has a writer for each worker. The answer is the exit status:
 ///
-/// - 0: the list is written, of whatever was found;
-/// - 3: frames could no longer be received or sent, the list couldn't be written, memory or a thread was refused; `err` has one line
+/// - 0: the list is written, of whatever was found; `err` has a line where no device was heard, where the bus says that it isn't well, and
+///   for each node at which two devices answer;
+/// - 3: frames could no longer be received or sent, the bus is off, the list couldn't be written, memory or a thread was refused; `err` has one line
 ///   that says which.
 pub fn scan_text<
     R: Wait + Threads + Clock + Clone + Send + Sync + Drop + 'static,
@@ -146,7 +177,7 @@ pub fn scan_text<
     let network = Network::new(alloc, form.own, Startup(1), 0);
     match find_devices(rt, alloc, &network, nodes, options, ends) {
         Ok(scanned) => {
-            tell_strange(err, options.format, scanned.are_strange);
+            let _ = tell_beside(err, &network, options.format, &scanned);
             put_list(alloc, &scanned, form, out, err)
         }
         Err(none) => no_scan_line(err, none),
@@ -207,7 +238,7 @@ pub fn scan_check<
         Ok(scanned) => scanned,
         Err(none) => return no_scan_line(err, none),
     };
-    tell_strange(err, options.format, scanned.are_strange);
+    let _ = tell_beside(err, network, options.format, &scanned);
     match compare(alloc, network, scanned.found.as_slice()) {
         Ok(differences) => {
             let slaves = network.listed_ids().len();

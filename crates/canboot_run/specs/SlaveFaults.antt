@@ -1,6 +1,7 @@
 -- What simulated slaves do that slaves which agree with a network list don't (own).
 use Rattle.std.specs.Prelude.{◌≡◌, ◌<◌, ◌==◌, ◌||◌, ◌&&◌, ℕ, Bool, true, false, not, List, [], ◌∷◌, if◌then◌else◌, min, position, replicate, slice_set, Option, Some, None, option_map}
 use Rattle.std.specs.List.{list_any}
+use Rattle.cm_nmt.specs.Bits.{has_bit}
 use Rattle.cm_nmt.specs.declared.got.Got.{Got}
 use Rattle.cm_nmt.specs.declared.got.Got.TheVariants as got
 use Rattle.cm_nmt.specs.declared.write.Write.{Write}
@@ -32,6 +33,21 @@ with_value value.Revision v s = with_identity 2 (got.Value v) s
 with_value value.Serial v s = with_identity 3 (got.Value v) s
 with_value value.Date v s = record s { date = got.Value v }
 with_value value.Time v s = record s { time = got.Value v }
+
+-- what the list expects of a slave there, 0 for nothing; the configuration date and time are compared where both are given (CiA 302-2, 1F84h
+-- to 1F88h; CiA 302-3, 1F26h, 1F27h)
+abbrev pub expected_value : SlaveEntry → SlaveValue → ℕ
+expected_value e value.DeviceType = e.device_type
+expected_value e value.Vendor = e.vendor
+expected_value e value.Product = e.product
+expected_value e value.Revision = e.revision
+expected_value e value.Serial = e.serial
+expected_value e value.Date = if e.time == 0 then 0 else e.date
+expected_value e value.Time = if e.time == 0 then 0 else e.date
+
+-- a boot of the slave compares this value: 1F81h has bit 2, so that it is asked what it is, and the list expects something there
+abbrev pub is_compared : SlaveEntry → SlaveValue → Bool
+is_compared e v = has_bit e.assignment.0 2 && not (expected_value e v == 0)
 
 -- the slave of node i after one wrong value was set, which is that of a node
 abbrev pub wrong_by : WrongValue → ℕ → SimSlave → SimSlave

@@ -6,6 +6,7 @@
 
 mod files;
 mod fronts;
+mod halting;
 mod journal_output;
 mod journal_recorder;
 mod losing;
@@ -17,6 +18,7 @@ mod simulation;
 mod slave_faults;
 mod slave_options;
 mod slave_words;
+mod uncompared;
 mod write_report;
 
 pub use files::{is_list, run_file, write_fault};

@@ -1,5 +1,5 @@
 -- What a network list comes to, in words (own).
-use Rattle.std.specs.Prelude.{ℕ, Bool, true, false, ◌==◌, ◌&&◌, not, if◌then◌else◌, List, [], ◌++◌, codes, decimal, flat_map, length}
+use Rattle.std.specs.Prelude.{ℕ, Bool, true, false, ◌==◌, ◌&&◌, ◌||◌, nat_le, not, if◌then◌else◌, List, [], ◌++◌, codes, decimal, flat_map, length}
 use Rattle.std.specs.Option.{option_map_or}
 use Rattle.cm_text.specs.Hex.{hex_eight, hex_four}
 use Rattle.cm_nmt.specs.Bits.{has_bit}
@@ -7,7 +7,7 @@ use Rattle.cm_nmt.specs.Guarding.{guard_time, retry_factor}
 use Rattle.cm_nmt.specs.declared.write.Write.{Write}
 use Rattle.cm_netlist.specs.Network.{Network, entry, listed_ids}
 use Rattle.cm_netlist.specs.declared.entry.SlaveEntry.{SlaveEntry}
-use Rattle.canboot_warnings.specs.StartWarnings.{ended, given, told_warning}
+use Rattle.canboot_warnings.specs.StartWarnings.{ended, given, started_warning, told_warning}
 use Rattle.canboot_warnings.specs.Warnings.{is_unwatched}
 use Rattle.canboot_warnings.specs.declared.warning.SlaveWarning.TheVariants as slave
 use Rattle.canboot_tools.specs.declared.explaining.ListWarning.{ListWarning}
@@ -106,15 +106,39 @@ date_text e =
     (codes "  asks 1020h, configuration date and time: with "
     ++ (decimal e.date ++ (codes " and " ++ (decimal e.time ++ ended (codes " it is configured and nothing is written")))))
 
+-- from the first index to the last
+abbrev pub is_between : ℕ → ℕ → ℕ → Bool
+is_between first last index = nat_le first index && nat_le index last
+
+-- the object is a COB-ID: of SYNC, TIME and EMCY, of an SDO, of a PDO (CiA 301, 1005h, 1012h, 1014h, 1200h to 12FFh sub 1 and 2, 1400h to
+-- 15FFh and 1800h to 19FFh sub 1)
+abbrev pub is_cob_id : ℕ → ℕ → Bool
+is_cob_id index sub =
+    (sub == 0 && (index == 0x1005 || (index == 0x1012 || index == 0x1014)))
+    || ((is_between 0x1200 0x12FF index && (sub == 1 || sub == 2))
+    || (sub == 1 && (is_between 0x1400 0x15FF index || is_between 0x1800 0x19FF index)))
+
+-- the object is what a PDO carries (CiA 301, 1600h to 17FFh and 1A00h to 1BFFh from sub 1 on)
+abbrev pub is_mapping : ℕ → ℕ → Bool
+is_mapping index sub = not (sub == 0) && (is_between 0x1600 0x17FF index || is_between 0x1A00 0x1BFF index)
+
+-- the value of a write: a COB-ID, and what a PDO carries, in hexadecimal
+abbrev pub value_text : Write → List ℕ
+value_text w =
+    if is_cob_id w.index w.sub || is_mapping w.index w.sub then hex_eight w.value ++ codes "h"
+    else decimal w.value
+
+-- the sub-index behind an index
+abbrev pub sub_text : ℕ → List ℕ
+sub_text sub = codes "h sub " ++ (decimal sub ++ codes ": ")
+
 -- a write
 abbrev pub write_text : Write → List ℕ
 write_text w =
     codes "  writes "
     ++ (hex_four w.index
-    ++ (codes "h sub "
-    ++ (decimal w.sub
-    ++ (codes ": "
-    ++ (decimal w.value ++ (codes ", bytes " ++ (decimal w.size ++ ended (codes ", else status J"))))))))
+    ++ (sub_text w.sub
+    ++ (value_text w ++ (codes ", bytes " ++ (decimal w.size ++ ended (codes ", else status J"))))))
 
 -- the first heartbeat, where one has to come, and what the boot ends with else
 abbrev pub end_text : SlaveEntry → List ℕ
@@ -177,10 +201,11 @@ slave_text i e = heading_text i e.assignment.0 ++ (boot_text e ++ (end_text e ++
 -- ---- warnings
 
 -- each warning of a slave
-abbrev pub slave_warnings : ℕ → SlaveEntry → List ℕ
-slave_warnings i e =
+abbrev pub slave_warnings : ℕ → ℕ → SlaveEntry → List ℕ
+slave_warnings startup i e =
     told_warning [] i e slave.Unchecked
-    ++ (told_warning [] i e slave.Unwatched ++ (told_warning [] i e slave.Silent ++ told_warning [] i e slave.UnusedBits))
+    ++ (told_warning [] i e slave.Unwatched
+    ++ (told_warning [] i e slave.Silent ++ (told_warning [] i e slave.UnusedBits ++ started_warning [] startup i e)))
 
 -- the list is warned of for this: it has no slave, or 1F80h bit 0 is clear, so that every call is refused (CiA 302-2, NMT startup)
 abbrev pub is_list_warned : Network → ListWarning → Bool
@@ -202,7 +227,7 @@ slave_text_of net i = option_map_or (slave_text i) (entry net i) []
 
 -- what a node that is listed is warned of
 abbrev pub slave_warnings_of : Network → ℕ → List ℕ
-slave_warnings_of net i = option_map_or (slave_warnings i) (entry net i) []
+slave_warnings_of net i = option_map_or (slave_warnings net.startup i) (entry net i) []
 
 -- the manager, each slave in rising node-ID, and what the list and each slave are warned of
 abbrev pub explained : Network → List ℕ

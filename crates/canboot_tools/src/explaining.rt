@@ -23,7 +23,7 @@ ghost use Rattle.canboot_tools.specs.Explained.{
 };
 
 use crate::slave_lines::put_slave;
-use canboot_warnings::{SlaveWarning, put_warning};
+use canboot_warnings::{SlaveWarning, put_started_warning, put_warning};
 use cm_netlist::{Network, SlaveEntry, Startup};
 use cm_nmt::NodeId;
 use cm_text::hex8;
@@ -168,13 +168,19 @@ fn put_slaves<W: Write>(network: &Network, out: &mut W) -> io::Result<()>
 }
 
 /// Writes each warning of a slave.
-fn put_slave_warnings<W: Write>(id: NodeId, entry: &SlaveEntry, out: &mut W) -> io::Result<()>
-    ensures { OnOk result (Appends (W.contents out.old) (W.contents out.new) (slave_warnings id entry.now)) }
+fn put_slave_warnings<W: Write>(
+    startup: Startup,
+    id: NodeId,
+    entry: &SlaveEntry,
+    out: &mut W,
+) -> io::Result<()>
+    ensures { OnOk result (Appends (W.contents out.old) (W.contents out.new) (slave_warnings startup.0 id entry.now)) }
 {
     put_warning("", id, entry, SlaveWarning::Unchecked, out)?;
     put_warning("", id, entry, SlaveWarning::Unwatched, out)?;
     put_warning("", id, entry, SlaveWarning::Silent, out)?;
-    put_warning("", id, entry, SlaveWarning::UnusedBits, out)
+    put_warning("", id, entry, SlaveWarning::UnusedBits, out)?;
+    put_started_warning("", startup, id, entry, out)
 }
 
 /// Writes each warning of the list.
@@ -198,7 +204,7 @@ fn put_warnings_of<W: Write>(network: &Network, id: NodeId, out: &mut W) -> io::
     ensures { OnOk result (Appends (W.contents out.old) (W.contents out.new) (slave_warnings_of network.now id)) }
 {
     match network.entry(id) {
-        Some(entry) => put_slave_warnings(id, entry, out),
+        Some(entry) => put_slave_warnings(network.startup(), id, entry, out),
         None => Ok(()),
     }
 }

@@ -15,11 +15,14 @@ ghost use Rattle.canboot_tools.specs.Explained.{
   heartbeat_text,
   identities_text,
   identity_text,
+  is_cob_id,
+  is_mapping,
   kept_words,
   mandatory_words,
   slave_text,
   software_text,
   state_text,
+  value_text,
   watch_text,
   write_text,
 };
@@ -137,16 +140,45 @@ fn put_date<W: Write>(entry: &SlaveEntry, out: &mut W) -> io::Result<()>
     )
 }
 
+/// Whether the object is a COB-ID: of SYNC, TIME or EMCY, of an SDO, or of a PDO (CiA 301).
+fn is_cob_id(index: u16, sub: u8) -> bool
+    ensures { result ≡ is_cob_id index sub }
+{
+    (sub == 0 && (index == 0x1005 || (index == 0x1012 || index == 0x1014)))
+        || ((0x1200 <= index && index <= 0x12FF && (sub == 1 || sub == 2))
+            || (sub == 1
+                && ((0x1400 <= index && index <= 0x15FF) || (0x1800 <= index && index <= 0x19FF))))
+}
+
+/// Whether the object is what a PDO carries (CiA 301).
+fn is_mapping(index: u16, sub: u8) -> bool
+    ensures { result ≡ is_mapping index sub }
+{
+    !(sub == 0) && ((0x1600 <= index && index <= 0x17FF) || (0x1A00 <= index && index <= 0x1BFF))
+}
+
+/// Writes the value of a write: a COB-ID, and what a PDO carries, in hexadecimal.
+fn put_value<W: Write>(write: &Configuring, out: &mut W) -> io::Result<()>
+    ensures { OnOk result (Appends (W.contents out.old) (W.contents out.new) (value_text write.now)) }
+{
+    let value = write.value;
+    if is_cob_id(write.index, write.sub) || is_mapping(write.index, write.sub) {
+        out.write_all(&hex8(value))?;
+        return write!(out, "h");
+    }
+    write!(out, "{value}")
+}
+
 /// Writes a write.
 fn put_write<W: Write>(write: &Configuring, out: &mut W) -> io::Result<()>
     ensures { OnOk result (Appends (W.contents out.old) (W.contents out.new) (write_text write.now)) }
 {
     write!(out, "  writes ")?;
     out.write_all(&hex4(write.index))?;
-    let sub = write.sub;
-    let value = write.value;
-    let size = write.size;
-    writeln!(out, "h sub {sub}: {value}, bytes {size}, else status J")
+    let (sub, size) = (write.sub, write.size);
+    write!(out, "h sub {sub}: ")?;
+    put_value(write, out)?;
+    writeln!(out, ", bytes {size}, else status J")
 }
 
 /// Writes each write.

@@ -3,7 +3,7 @@ use Rattle.std.specs.Prelude.{ℕ, Bool, true, false, List, [], ◌∷◌, ◌++
 use Rattle.std.specs.Option.{option_map_or}
 use Rattle.cm_netlist.specs.Network.{Network, entry, listed_ids}
 use Rattle.cm_netlist.specs.declared.entry.SlaveEntry.{SlaveEntry}
-use Rattle.canboot_warnings.specs.Warnings.{is_warned}
+use Rattle.canboot_warnings.specs.Warnings.{is_started_anyway, is_warned}
 use Rattle.canboot_warnings.specs.declared.warning.SlaveWarning.{SlaveWarning}
 use Rattle.canboot_warnings.specs.declared.warning.SlaveWarning.TheVariants as slave
 
@@ -31,14 +31,22 @@ warning_text i words = codes "warning: slave " ++ (decimal i ++ (codes ": " ++ e
 abbrev pub told_warning : List ℕ → ℕ → SlaveEntry → SlaveWarning → List ℕ
 told_warning front i e w = given (is_warned e w) (front ++ warning_text i (warning_words w))
 
--- what is told of a slave: that any device is taken for it, that nobody watches it, that no write makes it send its heartbeat in time
-abbrev pub told_warnings : List ℕ → ℕ → SlaveEntry → List ℕ
-told_warnings front i e =
-    told_warning front i e slave.Unchecked ++ (told_warning front i e slave.Unwatched ++ told_warning front i e slave.Silent)
+-- the same, where a start of all nodes reaches the slave though its boot failed
+abbrev pub started_warning : List ℕ → ℕ → ℕ → SlaveEntry → List ℕ
+started_warning front startup i e =
+    given (is_started_anyway startup e)
+    (front ++ warning_text i (codes "all nodes are started at once, and it isn't mandatory: it is started too where its boot fails"))
+
+-- what is told of a slave: that any device is taken for it, that nobody watches it, that no write makes it send its heartbeat in time,
+-- that it is started though its boot failed
+abbrev pub told_warnings : List ℕ → ℕ → ℕ → SlaveEntry → List ℕ
+told_warnings front startup i e =
+    told_warning front i e slave.Unchecked
+    ++ (told_warning front i e slave.Unwatched ++ (told_warning front i e slave.Silent ++ started_warning front startup i e))
 
 -- what is told of a node that is listed
 abbrev pub told_warnings_of : List ℕ → Network → ℕ → List ℕ
-told_warnings_of front net i = option_map_or (told_warnings front i) (entry net i) []
+told_warnings_of front net i = option_map_or (told_warnings front net.startup i) (entry net i) []
 
 -- what is told of each slave, in rising node-ID
 abbrev pub start_warnings : List ℕ → Network → List ℕ

@@ -34,6 +34,13 @@ is_silent e = nat_lt 0 e.heartbeat_ms && not (list_any (has_beats e.heartbeat_ms
 abbrev pub has_unused_bits : SlaveEntry → Bool
 has_unused_bits e = has_bit e.assignment.0 1 || (has_bit e.assignment.0 6 || has_bit e.assignment.0 7)
 
+-- a start of all nodes reaches it though its boot failed: 1F80h has bit 1, and neither bit 2 nor bit 3, so that the manager starts all at
+-- once; a boot compares what it is (1F81h bit 2), but it isn't mandatory, so that this start doesn't wait for it (CiA 302-2, NMT startup)
+abbrev pub is_started_anyway : ℕ → SlaveEntry → Bool
+is_started_anyway startup e =
+    (has_bit startup 1 && (not (has_bit startup 2) && not (has_bit startup 3)))
+    && (has_bit e.assignment.0 2 && not (has_bit e.assignment.0 3))
+
 -- the slave is warned of for this
 abbrev pub is_warned : SlaveEntry → SlaveWarning → Bool
 is_warned e slave.Unchecked = is_unchecked e

@@ -4,5 +4,5 @@
 mod start_warnings;
 mod warning;
 
-pub use start_warnings::{put_warning, warn};
+pub use start_warnings::{put_started_warning, put_warning, warn};
 pub use warning::{SlaveWarning, slave_is_warned};

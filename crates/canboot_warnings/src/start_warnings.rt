@@ -5,6 +5,7 @@ ghost use Rattle.std.specs.Io.KnownBytes.{Appends};
 ghost use Rattle.cm_netlist.specs.Network.{listed_ids};
 ghost use Rattle.canboot_warnings.specs.StartWarnings.{
   start_warnings,
+  started_warning,
   told_warning,
   told_warnings,
   told_warnings_of,
@@ -12,8 +13,8 @@ ghost use Rattle.canboot_warnings.specs.StartWarnings.{
   warning_words,
 };
 
-use crate::warning::{SlaveWarning, slave_is_warned};
-use cm_netlist::{Network, SlaveEntry};
+use crate::warning::{SlaveWarning, is_started_anyway, slave_is_warned};
+use cm_netlist::{Network, SlaveEntry, Startup};
 use cm_nmt::NodeId;
 use std::io::{self, Write};
 
@@ -61,18 +62,42 @@ pub fn put_warning<W: Write>(
     }
 }
 
-/// Writes what is told of a slave.
-fn put_told_warnings<W: Write>(
+/// Writes the warning of this slave in a line that begins with these words, where 1F80h has a start of all nodes reach it though its
+/// boot failed, and nothing else. It fails only where the writer does, and then says nothing of how much was written.
+pub fn put_started_warning<W: Write>(
     front: &str,
+    startup: Startup,
     id: NodeId,
     entry: &SlaveEntry,
     out: &mut W,
 ) -> io::Result<()>
-    ensures { OnOk result (Appends (W.contents out.old) (W.contents out.new) (told_warnings front.now id entry.now)) }
+    ensures { OnOk result (Appends (W.contents out.old) (W.contents out.new)
+        (started_warning front.now startup.0 id entry.now)) }
+{
+    if is_started_anyway(startup, entry) {
+        let words =
+            "all nodes are started at once, and it isn't mandatory: it is started too where its boot fails";
+        put_behind(front, id.get(), words, out)
+    } else {
+        Ok(())
+    }
+}
+
+/// Writes what is told of a slave.
+fn put_told_warnings<W: Write>(
+    front: &str,
+    startup: Startup,
+    id: NodeId,
+    entry: &SlaveEntry,
+    out: &mut W,
+) -> io::Result<()>
+    ensures { OnOk result (Appends (W.contents out.old) (W.contents out.new)
+        (told_warnings front.now startup.0 id entry.now)) }
 {
     put_warning(front, id, entry, SlaveWarning::Unchecked, out)?;
     put_warning(front, id, entry, SlaveWarning::Unwatched, out)?;
-    put_warning(front, id, entry, SlaveWarning::Silent, out)
+    put_warning(front, id, entry, SlaveWarning::Silent, out)?;
+    put_started_warning(front, startup, id, entry, out)
 }
 
 /// Writes what is told of a node that is listed.
@@ -86,14 +111,15 @@ fn put_told_warnings_of<W: Write>(
         (told_warnings_of front.now network.now id)) }
 {
     match network.entry(id) {
-        Some(entry) => put_told_warnings(front, id, entry, out),
+        Some(entry) => put_told_warnings(front, network.startup(), id, entry, out),
         None => Ok(()),
     }
 }
 
 /// Writes what is to be told before the network of this list is booted, each warning in a line that begins with these words: that any
 /// device is taken for a slave, since nothing that its list gives is compared or written; that nobody watches a slave; that no write
-/// makes a slave send its heartbeat in time. It fails only where the writer does, and then says nothing of how much was written.
+/// makes a slave send its heartbeat in time; that a slave is started though its boot failed. It fails only where the writer does, and
+/// then says nothing of how much was written.
 pub fn warn<W: Write>(front: &str, network: &Network, out: &mut W) -> io::Result<()>
     ensures { OnOk result (Appends (W.contents out.old) (W.contents out.new) (start_warnings front.now network.now)) }
 {

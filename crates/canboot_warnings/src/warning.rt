@@ -7,12 +7,13 @@ ghost use Rattle.canboot_warnings.specs.Warnings.{
   has_unused_bits,
   is_described,
   is_silent,
+  is_started_anyway,
   is_unchecked,
   is_unwatched,
   is_warned,
 };
 
-use cm_netlist::{SlaveEntry, Write};
+use cm_netlist::{SlaveEntry, Startup, Write};
 
 /// What a slave of a network list is warned of (own). None is a fault: the list is accepted.
 #[derive(Clone, Copy)]
@@ -82,6 +83,18 @@ fn has_unused_bits(entry: &SlaveEntry) -> bool
 {
     let bits = entry.assignment.0;
     bits & 0x02 == 0x02 || bits & 0x40 == 0x40 || bits & 0x80 == 0x80
+}
+
+/// Whether a start of all nodes reaches a slave of this entry though its boot failed, since it isn't mandatory and the manager starts
+/// all at once.
+pub(crate) fn is_started_anyway(startup: Startup, entry: &SlaveEntry) -> bool
+    ensures { result ≡ is_started_anyway startup.0 entry.now }
+{
+    startup.starts_all_at_once()
+        && !startup.leaves_operational_to_application()
+        && !startup.starts_no_slave()
+        && entry.assignment.is_to_be_booted()
+        && !entry.assignment.is_mandatory()
 }
 
 /// Whether a slave of this entry is warned of for this.

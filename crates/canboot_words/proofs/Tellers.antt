@@ -11,7 +11,7 @@ use Rattle.canboot_words.specs.declared.told.history.Said.{Said}
 
 pub said_words : (s : Said) (before : List Entry) → SaysBehind s before
     → line_if (is_told s.words.entry.now.call) (entry_told s.words.network.now s.words.entry.now s.words.is_handed s.words.is_halted s.words.place s.words.unbooted)
-    ++ told_lines s.told s.words.entry.now (option_map (λ n. n.0.items) s.running)
+    ++ told_lines s.told s.words.entry.now s.too.0.items (option_map (λ n. n.0.items) s.running)
     ≡ words_behind s.words.network.now before s.words.entry.now
 said_words s before says =
     let handed = says.handed in
@@ -19,6 +19,7 @@ said_words s before says =
     let place = says.place in
     let unbooted = says.unbooted in
     let told = says.told in
+    let too = says.too in
     let running = says.running in
     cc
 

@@ -8,7 +8,7 @@ use Rattle.canboot_words.specs.declared.command_line.Action.TheVariants as actio
 abbrev pub IsInRange : Action → Type 0
 IsInRange (action.Check n output) = Unit {0}
 IsInRange (action.Scan s) = (1 ≤ s.workers) × (s.workers ≤ 16) × (1 ≤ s.answer_ms) × (s.answer_ms ≤ 60000)
-IsInRange (action.Import file id mandatory heartbeat) = Unit {0}
+IsInRange (action.Import file id mandatory heartbeat first partly) = Unit {0}
 IsInRange (action.Run r) = (1 ≤ r.workers) × (r.workers ≤ 16) × (1 ≤ r.attempts) × (r.attempts ≤ 10)
 IsInRange (action.Live l) =
     (1 ≤ l.workers) × (l.workers ≤ 16) × (1 ≤ l.attempts) × (l.attempts ≤ 10) × (1 ≤ l.answer_ms) × (l.answer_ms ≤ 60000)

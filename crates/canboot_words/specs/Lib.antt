@@ -1,6 +1,7 @@
 pub mod CommandLine
 pub mod Names
 pub mod Shown
+pub mod AbortCodes
 pub mod Words
 pub mod ToldLines
 pub mod NoticeWords

@@ -76,6 +76,8 @@ notice_words net (notice.EmergenciesLeftOut i count) = node_words i (decimal cou
 notice_words net (notice.Master m) = codes "another NMT master: " ++ message_words m
 notice_words net (notice.MastersLeftOut count) = codes "another NMT master: " ++ (decimal count ++ codes " messages, left out")
 notice_words net (notice.Unlisted i) = codes "node " ++ (decimal i ++ codes " isn't listed, and has booted up")
+notice_words net (notice.OwnNodeId i) =
+    codes "another device has the manager's own node-ID " ++ (decimal i ++ codes ", and has booted up")
 notice_words net (notice.Bus error.Unacknowledged) = codes "bus: no other node acknowledges"
 notice_words net (notice.Bus (error.State s)) = codes "bus: " ++ state_words s
 

@@ -10,6 +10,7 @@ use Rattle.cm_watch.specs.Tried.{Tries, unbooted_by}
 use Rattle.cm_watch.specs.Watches.{Watches}
 use Rattle.cm_watch.specs.declared.happening.Happening.TheVariants.{Called}
 use Rattle.canboot_words.specs.ToldHistory.{no_settings, past_of, running_if}
+use Rattle.canboot_words.specs.ToldLines.{started_too}
 use Rattle.canboot_words.specs.declared.told.history.Said.{Said}
 use Rattle.canboot_words.specs.declared.told.history.Teller.{Teller}
 
@@ -28,4 +29,5 @@ pub record SaysBehind (s : Said) (before : List Entry) : Type 0 where
   pub place : s.words.place ≡ length before + 1
   pub unbooted : s.words.unbooted ≡ unbooted_by (past_of before) s.words.entry.now
   pub told : s.told ≡ told_of s.words.network.now no_settings (past_of before) (Called s.words.entry.now)
+  pub too : s.too.0.items ≡ started_too true s.words.network.now (past_of (s.words.entry.now ∷ before)) s.words.entry.now.orders
   pub running : option_map (λ n. n.0.items) s.running ≡ running_if s.words.network.now (s.words.entry.now ∷ before) s.told

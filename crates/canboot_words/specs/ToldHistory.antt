@@ -13,7 +13,7 @@ use Rattle.cm_watch.specs.declared.happening.Happening.TheVariants as happening
 use Rattle.cm_watch.specs.declared.happening.Moment.TheVariants as moment
 use Rattle.cm_watch.specs.declared.settings.Settings.{Settings}
 use Rattle.cm_watch.specs.declared.telling.Told.{Told}
-use Rattle.canboot_words.specs.ToldLines.{line_if, running_in, told_lines}
+use Rattle.canboot_words.specs.ToldLines.{line_if, running_in, started_too, told_lines}
 use Rattle.canboot_words.specs.Words.{entry_told, is_told}
 
 -- the past of a watch that was told these entries, and nothing else (own)
@@ -52,7 +52,7 @@ words_behind net before e =
     let past = past_of before in
     let told = told_of net no_settings past (happening.Called e) in
     line_if (is_told e.call) (entry_told net e true (is_halted (phase_in net past)) (length before + 1) (unbooted_by past e))
-    ++ told_lines told e (running_if net (e ∷ before) told)
+    ++ told_lines told e (started_too true net (past_of (e ∷ before)) e.orders) (running_if net (e ∷ before) told)
 
 -- the same, if its call is one of these (own)
 abbrev pub lines_behind : Network → Option ℕ → List Entry → Entry → List ℕ

@@ -7,9 +7,11 @@ use Rattle.cm_nmt.specs.declared.status.Status.{Status}
 use Rattle.cm_nmt.specs.declared.status.Status.TheVariants as status
 use Rattle.cm_history.specs.History.{state_of}
 use Rattle.cm_history.specs.Legal.{most_entries}
+use Rattle.cm_history.specs.Orders.{is_start_all}
 use Rattle.cm_history.specs.declared.call.Call.{Call}
 use Rattle.cm_history.specs.declared.call.Call.TheVariants as call
 use Rattle.cm_history.specs.declared.call.Entry.{Entry}
+use Rattle.cm_history.specs.declared.call.Orders.{Orders}
 use Rattle.cm_history.specs.declared.call.Reply.{Reply}
 use Rattle.cm_history.specs.declared.call.Reply.TheVariants as reply
 use Rattle.cm_netlist.specs.Network.{Network, is_mandatory, listed_ids, listing}
@@ -19,6 +21,7 @@ use Rattle.cm_live.specs.declared.outlet.Format.{Format}
 use Rattle.cm_live.specs.declared.outlet.Format.TheVariants as format
 use Rattle.cm_watch.specs.Pasts.{Past}
 use Rattle.cm_watch.specs.Slaves.{booted_since}
+use Rattle.cm_watch.specs.Tried.{status_in}
 use Rattle.cm_watch.specs.declared.telling.Told.{Told}
 use Rattle.canboot_words.specs.Words.{entry_told, is_told, node_words}
 use Rattle.canboot_words.specs.declared.event.NoBoot.{NoBoot}
@@ -72,7 +75,7 @@ given_up_words net i attempts last =
 -- a slave is back, while all nodes are stopped (own)
 abbrev pub back_words : ℕ → List ℕ
 back_words i =
-    codes "node " ++ (decimal i ++ (codes " is back; the network is stopped: boot " ++ (decimal i ++ codes ", or start")))
+    codes "node " ++ (decimal i ++ (codes " is back; the network is stopped: boot " ++ (decimal i ++ codes ", then start")))
 
 -- a slave is booted that isn't watched (own)
 abbrev pub unwatched_words : ℕ → List ℕ
@@ -102,9 +105,10 @@ abbrev pub lost_by : Call → List ℕ
 lost_by (call.Lost i) = codes ": node " ++ (decimal i ++ codes " was lost")
 lost_by c = []
 
--- all nodes were stopped with this entry (own)
+-- all nodes were stopped with this entry, and what leads back: a start of all is refused while a mandatory slave isn't booted (own)
 abbrev pub stopped_words : Entry → List ℕ
-stopped_words e = codes "all nodes are stopped" ++ lost_by e.call
+stopped_words e =
+    codes "all nodes are stopped" ++ (lost_by e.call ++ codes "; boot each mandatory slave that isn't booted, then start")
 
 -- behind a halt: the slave whose boot came to this status (own)
 abbrev pub halted_by : Call → Reply → List ℕ
@@ -143,6 +147,14 @@ no_frames_words format.Adapter = codes "nothing that was read is a frame of a se
 abbrev pub nearly_full_words : ℕ → List ℕ
 nearly_full_words left = codes "the journal is nearly full: " ++ (decimal left ++ codes " entries are left")
 
+-- behind nodes, so many, that they aren't booted (own)
+abbrev pub too_behind : ℕ → List ℕ
+too_behind count = if count == 1 then codes "isn't booted, and was started too" else codes "aren't booted, and were started too"
+
+-- these nodes were started with all nodes, though they aren't booted (own)
+abbrev pub too_words : List ℕ → List ℕ
+too_words nodes = nodes_word (length nodes) ++ (codes " " ++ (nodes_words nodes ++ (codes " " ++ too_behind (length nodes))))
+
 -- ---- which nodes are told
 
 -- a slave is operational behind these entries, as object 1F82h reads its state (CiA 302-2)
@@ -161,6 +173,21 @@ is_open_in net past i = is_mandatory net i && not (is_some (booted_since past i)
 abbrev pub open_in : Network → Past → List ℕ
 open_in net past = filter (is_open_in net past) (listed_ids net)
 
+-- a device may be where the last boot of a slave came to this status, if there was one: any but B, which it comes to without an answer
+-- (CiA 302-2, boot NMT slave)
+abbrev pub may_be_there : Option Status → Bool
+may_be_there (Some status.B) = false
+may_be_there _ = true
+
+-- a slave isn't booted by this past of a watch, though a device may be there (own)
+abbrev pub is_unbooted_in : Past → ℕ → Bool
+is_unbooted_in past i = not (is_some (booted_since past i)) && may_be_there (status_in past i)
+
+-- the listed slaves that these orders start with all nodes, once they were handed to the wire, though they aren't booted (own)
+abbrev pub started_too : Bool → Network → Past → Orders → List ℕ
+started_too handed net past orders =
+    if handed && is_start_all orders then filter (is_unbooted_in past) (listed_ids net) else []
+
 -- ---- the lines behind an entry, with their line feeds
 
 -- the text and a line feed, or nothing (own)
@@ -172,6 +199,10 @@ abbrev pub line_of : (ℕ → List ℕ) → Option ℕ → List ℕ
 line_of words (Some i) = words i ++ 10 ∷ []
 line_of words None = []
 
+-- the line of the nodes that were started with all nodes though they aren't booted, if there are any (own)
+abbrev pub too_line : List ℕ → List ℕ
+too_line nodes = line_if (not (length nodes == 0)) (too_words nodes)
+
 -- the place of the entry behind which it is told that the journal is nearly full: nine tenths of the most that there may be (own)
 abbrev pub nearly_full : ℕ
 nearly_full = most_entries / 10 * 9
@@ -182,10 +213,11 @@ entry_lines w =
     line_if (is_told w.entry.now.call) (entry_told w.network.now w.entry.now w.is_handed w.is_halted w.place w.unbooted)
     ++ line_if (w.place == nearly_full) (nearly_full_words (most_entries - nearly_full))
 
--- behind an entry, in this order: all nodes are stopped; the network is halted, while these nodes are operational, if they are known; it
--- is ready; a slave is back; a slave isn't watched (own)
-abbrev pub told_lines : Told → Entry → Option (List ℕ) → List ℕ
-told_lines told e running =
-    line_if told.is_stopped (stopped_words e)
+-- behind an entry, in this order: these nodes were started too though they aren't booted; all nodes are stopped; the network is halted,
+-- while these nodes are operational, if they are known; it is ready; a slave is back; a slave isn't watched (own)
+abbrev pub told_lines : Told → Entry → List ℕ → Option (List ℕ) → List ℕ
+told_lines told e too running =
+    too_line too
+    ++ (line_if told.is_stopped (stopped_words e)
     ++ (line_if told.is_halted (halted_words e running)
-    ++ (line_if told.is_ready (codes "network ready") ++ (line_of back_words told.back ++ line_of unwatched_words told.unwatched)))
+    ++ (line_if told.is_ready (codes "network ready") ++ (line_of back_words told.back ++ line_of unwatched_words told.unwatched))))

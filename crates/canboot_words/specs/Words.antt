@@ -1,5 +1,5 @@
 -- What a live run tells in words (own).
-use Rattle.std.specs.Prelude.{ℕ, Bool, true, false, ◌==◌, List, [], ◌∷◌, ◌++◌, codes, decimal}
+use Rattle.std.specs.Prelude.{ℕ, Bool, true, false, ◌==◌, if◌then◌else◌, List, [], ◌∷◌, ◌++◌, codes, decimal}
 use Rattle.std.specs.Prelude.{Option, Some, None}
 use Rattle.std.specs.List.{find}
 use Rattle.cm_text.specs.Hex.{hex_four, hex_eight}
@@ -14,10 +14,12 @@ use Rattle.cm_nmt.specs.declared.state.NmtState.TheVariants as state
 use Rattle.cm_nmt.specs.declared.status.Status.{Status}
 use Rattle.cm_nmt.specs.declared.status.Status.TheVariants as status
 use Rattle.cm_history.specs.Answering.{refusal_number}
+use Rattle.cm_history.specs.Orders.{is_reset_all, is_stop_all}
 use Rattle.cm_history.specs.declared.call.Call.{Call}
 use Rattle.cm_history.specs.declared.call.Call.TheVariants as call
 use Rattle.cm_history.specs.declared.call.Entry.{Entry}
 use Rattle.cm_history.specs.declared.call.Orders.{Orders}
+use Rattle.cm_history.specs.declared.call.Orders.TheVariants as orders
 use Rattle.cm_history.specs.declared.call.Reply.{Reply}
 use Rattle.cm_history.specs.declared.call.Reply.TheVariants as reply
 use Rattle.cm_history.specs.declared.refusal.Refusal.{Refusal}
@@ -25,6 +27,7 @@ use Rattle.cm_history.specs.declared.refusal.Refusal.TheVariants as refusal
 use Rattle.cm_netlist.specs.Network.{Network, entry}
 use Rattle.cm_netlist.specs.declared.entry.SlaveEntry.{SlaveEntry}
 use Rattle.cm_watch.specs.BootFaults.{boot_fault, object_name}
+use Rattle.canboot_words.specs.AbortCodes.{abort_words}
 use Rattle.canboot_words.specs.Spellings.{spelled_call, spelled_reply}
 use Rattle.cm_watch.specs.Starts.{starts_handed}
 use Rattle.cm_watch.specs.declared.boot_fault.BootFault.{BootFault}
@@ -37,7 +40,7 @@ use Rattle.cm_watch.specs.declared.starts.Starts.TheVariants as starts
 -- what was answered to a question whose answer isn't the expected one (own)
 abbrev pub gave_words : Got → List ℕ
 gave_words (got.Value value) = hex_eight value
-gave_words (got.Abort code) = codes "abort " ++ hex_eight code
+gave_words (got.Abort code) = codes "abort " ++ (hex_eight code ++ abort_words code)
 gave_words got.Silent = codes "no answer"
 gave_words got.NotAsked = codes "no answer"
 
@@ -174,17 +177,32 @@ abbrev pub called_words : ℕ → Call → Bool → Reply → Option (Option Sta
 called_words place c halted r unbooted =
     decimal place ++ (codes " " ++ (spelled_call c ++ (codes ": " ++ (replied_words halted r ++ unbooted_words unbooted))))
 
+-- the orders are one message
+abbrev pub is_one : Orders → Bool
+is_one (orders.One f) = true
+is_one _ = false
+
+-- a slave is lost, and what was sent for it, once that was handed to the wire: a stop or a reset of all nodes, or a reset of the slave
+-- (CiA 302-2, error control event)
+abbrev pub lost_words : Bool → Orders → List ℕ
+lost_words false o = codes "lost"
+lost_words true o =
+    if is_stop_all o then codes "lost, all stopped"
+    else if is_reset_all o then codes "lost, all reset"
+    else if is_one o then codes "lost, reset"
+    else codes "lost"
+
 -- a call with this reply and these orders, at this place in the history: the report of a boot by what it came to,
 -- what else is of a node by the node, the rest as a journal spells it (own)
 abbrev pub told_words : Network → Bool → Bool → ℕ → Option (Option Status) → Orders → Call → Reply → List ℕ
-told_words net handed halted place unbooted orders (call.Report i n a) (reply.Reported s) =
-    judged_words net i s a (starts_handed handed orders i)
-told_words net handed halted place unbooted orders call.StartNetwork reply.Started = codes "network started"
-told_words net handed halted place unbooted orders (call.Begin i) r = node_words i (replied_words halted r)
-told_words net handed halted place unbooted orders (call.Signal i b) reply.BootAgain = node_words i (signal_words_of b)
-told_words net handed halted place unbooted orders (call.Signal i b) reply.Noted = node_words i (signal_words_of b)
-told_words net handed halted place unbooted orders (call.Lost i) reply.Handled = node_words i (codes "lost")
-told_words net handed halted place unbooted orders c r = called_words place c halted r unbooted
+told_words net handed halted place unbooted o (call.Report i n a) (reply.Reported s) =
+    judged_words net i s a (starts_handed handed o i)
+told_words net handed halted place unbooted o call.StartNetwork reply.Started = codes "network started"
+told_words net handed halted place unbooted o (call.Begin i) r = node_words i (replied_words halted r)
+told_words net handed halted place unbooted o (call.Signal i b) reply.BootAgain = node_words i (signal_words_of b)
+told_words net handed halted place unbooted o (call.Signal i b) reply.Noted = node_words i (signal_words_of b)
+told_words net handed halted place unbooted o (call.Lost i) reply.Handled = node_words i (lost_words handed o)
+told_words net handed halted place unbooted o c r = called_words place c halted r unbooted
 
 -- an entry: all frames of its orders were handed to the wire or not; the network was halted before it or not (own)
 abbrev pub entry_told : Network → Entry → Bool → Bool → ℕ → Option (Option Status) → List ℕ

@@ -119,6 +119,10 @@ pub enum Action<'a> {
         mandatory: bool,
         /// The time in ms in which its heartbeat has to come, 0 for none.
         heartbeat_ms: u16,
+        /// How many of its first writes are printed at most, where there may be more.
+        first: Option<u8>,
+        /// Whether it is printed where a value of the file is no write.
+        is_partly: bool,
     },
     /// Boot the network of a list with simulated slaves, print the report, and write the journal, if there is a path for it.
     Run(RunWords<'a>),
@@ -331,12 +335,44 @@ fn action_of<'a>(alloc: Global, matches: &ArgMatches<'a>) -> Result<Action<'a>, 
     }
 }
 
-/// What `clap` says where it gives no matches.
-fn no_action_of(alloc: Global, error: &Error) -> NoAction {
+/// A command that takes a journal on standard input, where a path is typed behind it, and that path.
+fn typed_path(words: &[String]) -> Option<(&str, &str)> {
+    let [_, command, rest @ ..] = words else {
+        return None;
+    };
+    let command = command.as_str();
+    if !matches!(command, "replay" | "mend" | "tell" | "picture") {
+        return None;
+    }
+    let mut is_value = false;
+    for word in rest {
+        let word = word.as_str();
+        if !is_value && !word.starts_with('-') {
+            return Some((command, word));
+        }
+        is_value = word == "--node";
+    }
+    None
+}
+
+/// What `clap` says, and behind it how a journal is read, where its path is typed for a word that the command doesn't take.
+fn text_of_error(alloc: Global, error: &Error, words: &[String]) -> Result<String, AllocError> {
+    match typed_path(words) {
+        Some((command, path)) if error.kind() == ErrorKind::UnknownArgument => {
+            format!(in alloc;
+                "{error}A journal is read on standard input: canboot {command} < {path}\n"
+            )
+        }
+        _ => format!(in alloc; "{error}"),
+    }
+}
+
+/// What `clap` says of these words where it gives no matches.
+fn no_action_of(alloc: Global, error: &Error, words: &[String]) -> NoAction {
     if error.kind() == ErrorKind::OutOfMemory {
         return NoAction::OutOfMemory;
     }
-    match format!(in alloc; "{error}") {
+    match text_of_error(alloc, error, words) {
         Ok(text) => {
             if error.use_stderr() {
                 NoAction::Wrong(text)
@@ -360,6 +396,6 @@ pub fn read_words<'a>(alloc: Global, words: &'a [String]) -> Result<Action<'a>, 
     };
     match parsed {
         Ok(matches) => action_of(alloc, &matches),
-        Err(error) => Err(no_action_of(alloc, &error)),
+        Err(error) => Err(no_action_of(alloc, &error, words)),
     }
 }

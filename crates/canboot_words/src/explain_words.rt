@@ -17,9 +17,9 @@ pub(crate) fn explain_argument<'a>(alloc: Global) -> Result<Arg<'a>, AllocError>
 }
 
 /// Where a network list has its fault, of any other command.
-pub(crate) fn explain_fault_argument<'a>(alloc: Global) -> Arg<'a> {
+pub(crate) fn explain_fault_argument<'a>(alloc: Global) -> Result<Arg<'a>, AllocError> {
     let help = "Says behind the line of a fault where it is, and what is allowed there";
-    explain(alloc, help)
+    explain(alloc, help).conflicts_with("json")
 }
 
 /// What a line of a journal that has a fault was expected to be.

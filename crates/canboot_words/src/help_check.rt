@@ -48,6 +48,9 @@ faults, and the status is 0:
   a slave with a heartbeat time, but no write of 1017h that sets a shorter one
     that isn't 0
   an assignment with bit 1, 6 or 7
+  a slave that isn't mandatory and is booted, where all nodes are started at
+    once (startup bit 1, without bits 2 and 3): it is started too where its
+    boot fails
   no slave
   bit 0 of startup clear
 

@@ -179,9 +179,9 @@ It says too what else the bus says, and no call follows from it:
     passive, off, restarted, error active), each once until it changes
 
 With --names FILE nodes have names, which stand in brackets behind a node's
-number in what is told, as in 'node 5 (hoist): lost'. FILE is TOML, with a
-line such as 5 = \"hoist\" for each name: a node-ID of 1 to 127, and a text of 1
-to 64 bytes with no control characters in it.
+number in what is told, as in 'node 5 (hoist): lost, reset'. FILE is TOML,
+with a line such as 5 = \"hoist\" for each name: a node-ID of 1 to 127, and a
+text of 1 to 64 bytes with no control characters in it.
 
 With --events FILE canboot writes each thing that is told to FILE too, as a
 JSON object on a line of its own. Want of a reader never stops the run:

@@ -15,7 +15,8 @@ Examples:
 Exit statuses:
   0  the report is printed, and the journal is written, if one is asked for;
      also where the boot of a slave failed, or the network didn't become
-     ready, as the report says
+     ready, as the report says; where it was halted standard error says by
+     which slave, and of which slaves no boot was begun
   1  the list has a fault ('canboot check --help' names them), or the start is
      refused, since bit 0 of startup is clear ('start refused: 1 NotMaster');
      no report is printed
@@ -27,7 +28,7 @@ Exit statuses:
 
 Nothing is printed on standard output where no report is due. Standard error
 has one line that says why, and with --explain one behind it that says where,
-as 'canboot check --explain' does.
+as 'canboot check --explain' does; --explain doesn't go with --json.
 
 NET is a network list, and 'canboot check --help' says what it holds. The
 report is as 'canboot replay' prints it. It has a line for each listed slave,
@@ -37,9 +38,10 @@ a line (docs/report.schema.json), and a fault is one on standard error
 (docs/fault.schema.json).
 
 Before the boot standard error has a line 'canboot: warning: slave ID: ..' for
-each slave that any device is taken for, that nobody watches, or that nothing
-makes send its heartbeat in time; 'canboot check --explain' says the same.
-These are no faults.
+each slave that any device is taken for, that nobody watches, that nothing
+makes send its heartbeat in time, or that is started with all nodes though its
+boot failed; 'canboot check --explain' says the same. So it is said of each
+value of --wrong that no boot compares. These are no faults.
 
 Each slave agrees with the list: it has each object as the list expects it,
 acknowledges each write, and is heard in pre-operational. These options make

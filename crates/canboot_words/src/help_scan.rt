@@ -21,8 +21,8 @@ Exit statuses:
      that is expected of it, and no other node that was asked answered
   1  with --check: there is a difference, or the list has a fault
   2  the command line is wrong
-  3  a file that can't be opened, frames that can't be received or sent, a
-     failed write, or want of memory or of a thread
+  3  a file that can't be opened, frames that can't be received or sent, a bus
+     that is off, a failed write, or want of memory or of a thread
 
 'canboot live --help' says what --receive, --send and --slcan are; with
 can-utils './canboot-on-can can0 scan' does it.
@@ -46,6 +46,14 @@ in rising order of their node-IDs:
 device_type and the keys below it have what the device answered, as what a
 boot expects of it. A value that it didn't give, or that is 0, is left out,
 and then it isn't compared.
+
+Standard error has a line where no device was heard, where the bus says that
+nobody acknowledges or that the controller isn't well, and for each node at
+which two devices answer a question otherwise:
+
+  canboot: no device was heard
+  canboot: bus: no other node acknowledges
+  canboot: node 5: two devices answer: serial number 00000001 and 00000002
 
 Another program that asks the same nodes over SDO at the same time disturbs
 both. The command reads the list back before it prints it; 'canboot check

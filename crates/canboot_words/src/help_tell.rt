@@ -30,6 +30,9 @@ stands what became of the network and of slaves:
   node 7: begun 1
   node 7: status M (product code 00000457, expected 00000456)
   network halted: node 7 has status M; once that is mended, type start
+  node 9: lost, reset
+  node 2: status Ok, all started
+  node 3 isn't booted, and was started too
 
 With --node ID it prints just the lines of the calls that name the node. With
 --explain the line of a fault has behind it what was expected there, as

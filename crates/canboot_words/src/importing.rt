@@ -33,12 +33,26 @@ fn heartbeat_argument<'a>(alloc: Global) -> Arg<'a> {
         .default_value("0")
 }
 
+fn first_argument<'a>(alloc: Global) -> Arg<'a> {
+    let help = "Prints the first writes, of whole PDOs, 1 to 32, where there are more";
+    option(alloc, "first", "N", help).value_parser(value_parser!(u8).range(1..33))
+}
+
+fn partly_argument<'a>(alloc: Global) -> Arg<'a> {
+    let help = "Prints the slave also where a value can't be written";
+    argument(alloc, "partly", help)
+        .long("partly")
+        .action(ArgAction::SetTrue)
+}
+
 pub(crate) fn import_command<'a>(alloc: Global) -> Result<Command<'a>, AllocError> {
     let arguments = vec![in alloc;
         file_argument(alloc),
         id_argument(alloc),
         mandatory_argument(alloc),
         heartbeat_argument(alloc),
+        first_argument(alloc),
+        partly_argument(alloc),
     ]?;
     described(alloc, "import", ABOUT_IMPORT, HELP_IMPORT).args(arguments)
 }
@@ -51,5 +65,7 @@ pub(crate) fn import_action<'a>(given: &ArgMatches<'a>) -> Action<'a>
         id: node_of(given, "id"),
         mandatory: given.get_flag("mandatory"),
         heartbeat_ms: given.get_one::<u16>("heartbeat").unwrap_or(0),
+        first: given.get_one::<u8>("first"),
+        is_partly: given.get_flag("partly"),
     }
 }

@@ -5,6 +5,7 @@
 //! has one definition for words and events.
 #![tactic(auto)]
 
+mod abort_words;
 mod command_line;
 mod event;
 mod event_boot;
@@ -47,6 +48,6 @@ pub use scanning::{ScanOutput, ScanWords};
 pub use shown::ShownLines;
 pub use told::{
     Bad, ENTRIES_LEFT, EntryWords, GivenUp, LeftOut, NEARLY_FULL, NoBootOf, NoFrames, Nodes,
-    RunEnds, TimeOver, given_up, has_words, open_nodes, running_by, say, say_notice, tell_entry,
-    tell_history, tell_told,
+    RunEnds, TimeOver, given_up, has_words, open_nodes, running_by, say, say_notice, started_too,
+    tell_entry, tell_history, tell_told,
 };

@@ -73,7 +73,7 @@ pub(crate) fn run_command<'a>(alloc: Global) -> Result<Command<'a>, AllocError> 
         aborts_argument(alloc),
         dies_argument(alloc),
         journal_argument(alloc),
-        explain_fault_argument(alloc),
+        explain_fault_argument(alloc)?,
         json_argument(alloc),
     ]?;
     described(alloc, "run", ABOUT_RUN, HELP_RUN).args(arguments)

@@ -1,5 +1,6 @@
 pub mod Talk
 pub mod Waits
+pub mod Patience
 pub mod Outlets
 pub mod Hearing
 pub mod Places

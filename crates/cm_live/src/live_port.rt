@@ -1,11 +1,14 @@
 ghost use Rattle.std.specs.Prelude.{◌≡◌, IfNone, IsFalse, IsTrue, None};
 ghost use Rattle.cm_live.specs.Outlets.{Writes};
+ghost use Rattle.cm_live.specs.Patience.{next_part};
 
 use crate::bus_name::BusName;
 use crate::listening::Listening;
 use crate::outlet::Outlet;
+use crate::patience::Patience;
 use crate::port::Port;
 use crate::received::Received;
+use crate::routes::ms_in;
 use cm_boot::Question;
 use cm_can::CanFrame;
 use cm_nmt::NodeId;
@@ -28,8 +31,32 @@ pub struct LivePort<R: Wait + Clock + Drop, B: BusName, W: Write + Drop> {
     pub outlet: Outlet<W>,
     /// Set once a write has failed.
     pub broken: Arc<AtomicBool>,
-    /// Until when an answer is waited for.
-    pub deadline: Option<Instant>,
+    /// How much longer an answer is waited for.
+    pub patience: Patience,
+}
+
+/// How many ms went by since then; 0 where the clock doesn't say.
+fn ms_since<R: Clock>(rt: &R, then: Option<Instant>) -> u64 {
+    match then {
+        Some(then) => match then.elapsed(rt) {
+            Ok(time) => ms_in(time),
+            Err(_) => 0,
+        },
+        None => 0,
+    }
+}
+
+impl<R: Wait + Clock + Drop, B: BusName, W: Write + Drop> LivePort<R, B, W> {
+    /// What is heard within so many ms, but of a node that has booted up since its boot began.
+    fn hear_in(&self, part_ms: u32) -> Option<Received<B>> {
+        let part = Duration::from_millis(u64::from(part_ms));
+        let received = self.heard.recv_timeout(&self.rt, part).ok()?;
+        if self.listening.has_gone(&received.frame()) {
+            None
+        } else {
+            Some(received)
+        }
+    }
 }
 
 impl<R: Wait + Clock + Drop, B: BusName, W: Write + Drop> Port<B> for LivePort<R, B, W> {
@@ -42,11 +69,7 @@ impl<R: Wait + Clock + Drop, B: BusName, W: Write + Drop> Port<B> for LivePort<R
                 break;
             }
         }
-        let wait = Duration::from_millis(u64::from(wait_ms));
-        self.deadline = match Instant::now(&self.rt) {
-            Ok(now) => now.checked_add(wait),
-            Err(_) => None,
-        };
+        self.patience = Patience::new(wait_ms);
     }
 
     fn received(&self) -> u64 {
@@ -66,9 +89,20 @@ impl<R: Wait + Clock + Drop, B: BusName, W: Write + Drop> Port<B> for LivePort<R
 
     fn hear(&mut self) -> Option<Received<B>>
         ensures outlet { self.new.outlet ≡ self.old.outlet }
-        ensures deadline { IfNone self.old.deadline (result ≡ None) }
+        ensures over { IfNone (next_part self.old.patience) (result ≡ None) }
     {
-        let deadline = self.deadline?;
-        self.heard.recv_deadline(&self.rt, deadline).ok()
+        while let Some(part_ms) = self.patience.next_part() {
+            let began = Instant::now(&self.rt).ok();
+            let heard = self.hear_in(part_ms);
+            let took_ms = ms_since(&self.rt, began);
+            match heard {
+                Some(received) => {
+                    self.patience.wait(took_ms);
+                    return Some(received);
+                }
+                None => self.patience.wait_in_vain(part_ms, took_ms),
+            }
+        }
+        None
     }
 }

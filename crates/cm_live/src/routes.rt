@@ -45,7 +45,7 @@ fn worker_for(listed: &[NodeId], workers: usize, frame: &CanFrame) -> Option<usi
 }
 
 /// How many ms this time has.
-fn ms_in(time: Duration) -> u64
+pub(crate) fn ms_in(time: Duration) -> u64
     ensures { result ≡ min (as_nanos time / 1_000_000) (2 ^ 64 - 1) }
 {
     u64::try_from(time.as_millis()).unwrap_or(u64::MAX)
@@ -64,12 +64,15 @@ impl<B: BusName> Routes<B> {
         }
     }
 
-    /// Notes when a listed node was heard, and gives what is news of it.
+    /// Notes when a listed node was heard, and whether it has booted up, and gives what is news of it.
     fn news_in<R: Clock>(&self, rt: &R, frame: &CanFrame) -> Option<Happening>
         ensures { IfSome result (IsNewsIn self.now.listed.items frame.now) }
     {
         let message = error_control(frame)?;
         let _listed = place_of(self.listed.as_slice(), message.node)?;
+        if message.byte % 128 == 0 {
+            self.listening.note_boot_up(message.node);
+        }
         let Ok(time) = self.start.elapsed(rt) else {
             return None;
         };

@@ -126,6 +126,11 @@ module _ (net : Network) (s : Settings) (i t : ℕ) where
         | true ↦ λ started. busy_is (is_some b) (held || (false || false))
         | false ↦ before
       ]
+  moment_case (moment.Gave (step.Wake j)) at b busy held up k before =
+      elim (j == i) as (λ g. is_some at ≡ true → Known b busy held (unwrap_or (option_map (λ x. false) (if g then Some cause.Woken else None)) up) (schedule_after net s t i (if g then Some cause.Woken else None) k)) [
+        | true ↦ λ started. due_is (is_some b) busy held false
+        | false ↦ before
+      ]
   moment_case (moment.Gave (step.Signal j n)) at b busy held up k before = before
   moment_case (moment.Gave (step.LeftOut j n)) at b busy held up k before = before
   moment_case (moment.Gave (step.TimeOver ms)) at b busy held up k before = before

@@ -19,6 +19,7 @@ stays (moment.Happened (happening.Asked j)) i rest none yet = yet
 stays (moment.Happened (happening.Ends at)) i rest none yet = yet
 stays (moment.Gave (step.Lost j)) i rest none yet = elim (j == i) as (λ b. unwrap_or (if b then Some true else None) rest ≡ true) [ true ↦ refl | false ↦ yet ]
 stays (moment.Gave (step.Boot j)) i rest none yet = yet
+stays (moment.Gave (step.Wake j)) i rest none yet = yet
 stays (moment.Gave (step.Signal j b)) i rest none yet = yet
 stays (moment.Gave (step.LeftOut j n)) i rest none yet = yet
 stays (moment.Gave (step.TimeOver ms)) i rest none yet = yet

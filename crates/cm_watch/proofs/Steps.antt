@@ -1,6 +1,7 @@
 -- What a watch gives by what it keeps is what the past says.
 use Rattle.std.proofs.Common.{◌≡◌, ◌∙◌, ℕ, ◌≤◌, ◌<◌, ◌-◌, List, [], ◌∷◌, ◌++◌, ap, refl, map, min, nat_lt, Bool, ◌&&◌, ◌||◌, not, is_some, unwrap_or}
 use Rattle.cm_history.specs.Phases.{is_booting, is_ready}
+use Rattle.std.specs.Bool.{if◌then◌else◌}
 use Rattle.std.specs.List.{filter}
 use Rattle.cm_history.specs.History.{is_empty}
 use Rattle.cm_netlist.specs.Network.{Network, is_listed}
@@ -11,10 +12,10 @@ use Rattle.cm_watch.specs.ErrorControl.{error_control_at}
 use Rattle.cm_watch.specs.Guarding.{counts, counts_for, guard_of, is_asked_again, is_guard_due, most_silence_of}
 use Rattle.cm_watch.specs.Kept.{course_of, slave_of}
 use Rattle.cm_watch.specs.Pasts.{Past}
-use Rattle.cm_watch.specs.Signals.{is_allowed, news_of, pending_of}
+use Rattle.cm_watch.specs.Signals.{is_allowed, is_urgent, news_of, pending_of}
 use Rattle.cm_watch.specs.Slaves.{is_tried_in}
-use Rattle.cm_watch.specs.Steps.{are_tried, elapsed_at, given, is_end, is_free, is_late, is_left_out, is_overdue, is_time_over, is_to_be_booted, is_to_be_told, left_out_of, signal_of, steps_at, step_if, takes_boots}
-use Rattle.cm_watch.specs.Watches.{Watches, are_tried_by, counts_by, elapsed_by, error_control_by, is_end_by, is_guard_due_by, is_late_by, is_left_out_by, is_pending_by, is_run_over_by, is_time_over_by, is_to_be_booted_by, is_to_be_told_by, kept_at, left_out_by, signal_by, steps_by, steps_of_kind}
+use Rattle.cm_watch.specs.Steps.{are_tried, boot_of, elapsed_at, given, is_end, is_free, is_late, is_left_out, is_overdue, is_time_over, is_to_be_booted, is_to_be_told, left_out_of, signal_of, steps_at, step_if, takes_boots}
+use Rattle.cm_watch.specs.Watches.{Watches, are_tried_by, boot_by, counts_by, elapsed_by, error_control_by, is_end_by, is_guard_due_by, is_late_by, is_left_out_by, is_pending_by, is_run_over_by, is_time_over_by, is_to_be_booted_by, is_to_be_told_by, kept_at, left_out_by, signal_by, steps_by, steps_of_kind}
 use Rattle.cm_watch.specs.declared.watch.Kind.TheVariants as kind
 use Rattle.cm_watch.specs.declared.watch.Pending.TheVariants as pending
 use Rattle.cm_watch.specs.declared.course.Course.{Course}
@@ -32,13 +33,13 @@ module _ (w : Watch) (net : Network) (s : Settings) (past : Past) (has : Watches
 
   same_boot : (now i : ℕ) → 1 ≤ i → i < 128 → is_to_be_booted_by w net now i ≡ is_to_be_booted net s past now i
   same_boot now i low high =
-      ap (λ (k : Slave). takes_boots w.course.phase && ((not w.course.is_stopped || k.is_asked) && (is_listed net i && is_free now k.schedule k.is_busy k.is_held k.budget))) (has.slaves i low high)
-      ∙ ap (λ (c : Course). let k = slave_of net s past i in takes_boots c.phase && ((not c.is_stopped || k.is_asked) && (is_listed net i && is_free now k.schedule k.is_busy k.is_held k.budget))) has.course
+      ap (λ (k : Slave). takes_boots w.course.phase && ((not w.course.is_stopped || k.is_asked) && (is_listed net i && (not k.news.boot_up && is_free now k.schedule k.is_busy k.is_held k.budget)))) (has.slaves i low high)
+      ∙ ap (λ (c : Course). let k = slave_of net s past i in takes_boots c.phase && ((not c.is_stopped || k.is_asked) && (is_listed net i && (not k.news.boot_up && is_free now k.schedule k.is_busy k.is_held k.budget)))) has.course
 
   same_told : (now i : ℕ) → 1 ≤ i → i < 128 → is_to_be_told_by w net now i ≡ is_to_be_told net s past now i
   same_told now i low high =
-      ap (λ (k : Slave). is_listed net i && (is_some (news_of k.news) && (is_allowed now k.budget && not (is_to_be_booted_by w net now i)))) (has.slaves i low high)
-      ∙ ap (λ (b : Bool). let k = slave_of net s past i in is_listed net i && (is_some (news_of k.news) && (is_allowed now k.budget && not b))) (same_boot now i low high)
+      ap (λ (k : Slave). is_listed net i && (is_some (news_of k.news) && ((is_urgent k.news || is_allowed now k.budget) && not (is_to_be_booted_by w net now i)))) (has.slaves i low high)
+      ∙ ap (λ (b : Bool). let k = slave_of net s past i in is_listed net i && (is_some (news_of k.news) && ((is_urgent k.news || is_allowed now k.budget) && not b))) (same_boot now i low high)
 
   same_left_out : (now i : ℕ) → 1 ≤ i → i < 128 → is_left_out_by w net now i ≡ is_left_out net s past now i
   same_left_out now i low high =
@@ -47,6 +48,9 @@ module _ (w : Watch) (net : Network) (s : Settings) (past : Past) (has : Watches
 
   same_amount : (i : ℕ) → 1 ≤ i → i < 128 → left_out_by w i ≡ left_out_of past i
   same_amount i low high = ap (λ (k : Slave). step.LeftOut i (k.news.changes - pending_of k.news)) (has.slaves i low high)
+
+  same_boot_step : (i : ℕ) → 1 ≤ i → i < 128 → boot_by w i ≡ boot_of net past i
+  same_boot_step i low high = ap (λ (k : Slave). if k.is_stopped then step.Wake i else step.Boot i) (has.slaves i low high)
 
   same_signal : (i : ℕ) → 1 ≤ i → i < 128 → signal_by w i ≡ signal_of past i
   same_signal i low high = ap (λ (k : Slave). step.Signal i (unwrap_or (news_of k.news) 0)) (has.slaves i low high)
@@ -75,8 +79,9 @@ module _ (w : Watch) (net : Network) (s : Settings) (past : Past) (has : Watches
   same_steps now =
       let losses : steps_of_kind w net now kind.Lost ≡ map step.Lost (filter (is_late net past now) node_ids) =
       ap (map step.Lost) (same_chosen (is_late_by w net now) (is_late net past now) (same_late now)) in
-      let boots : steps_of_kind w net now kind.Boot ≡ map step.Boot (filter (is_to_be_booted net s past now) node_ids) =
-      ap (map step.Boot) (same_chosen (is_to_be_booted_by w net now) (is_to_be_booted net s past now) (same_boot now)) in
+      let boots : steps_of_kind w net now kind.Boot ≡ map (boot_of net past) (filter (is_to_be_booted net s past now) node_ids) =
+      ap (map (boot_by w)) (same_chosen (is_to_be_booted_by w net now) (is_to_be_booted net s past now) (same_boot now))
+      ∙ same_mapped (boot_by w) (boot_of net past) (is_to_be_booted net s past now) same_boot_step in
       let signals : steps_of_kind w net now kind.Signal ≡ map (signal_of past) (filter (is_to_be_told net s past now) node_ids) =
       ap (map (signal_by w)) (same_chosen (is_to_be_told_by w net now) (is_to_be_told net s past now) (same_told now))
       ∙ same_mapped (signal_by w) (signal_of past) (is_to_be_told net s past now) same_signal in

@@ -17,6 +17,7 @@ same_boots now (moment.Happened (happening.Asked j)) past i other = refl
 same_boots now (moment.Happened (happening.Ends at)) past i other = refl
 same_boots now (moment.Gave (step.Lost j)) past i other = refl
 same_boots now (moment.Gave (step.Boot j)) past i other = absurd (cc)
+same_boots now (moment.Gave (step.Wake j)) past i other = refl
 same_boots now (moment.Gave (step.Signal j b)) past i other = refl
 same_boots now (moment.Gave (step.LeftOut j n)) past i other = refl
 same_boots now (moment.Gave (step.TimeOver ms)) past i other = refl

@@ -1,11 +1,12 @@
 -- Working definitions: what is kept of a slave and of the network, and what one moment makes of it.
-use Rattle.std.specs.Prelude.{ℕ, Option, Some, None, false, ◌&&◌, if◌then◌else◌, nat_le, unwrap_or}
+use Rattle.std.specs.Prelude.{ℕ, Bool, Option, Some, None, true, false, ◌&&◌, if◌then◌else◌, nat_le, unwrap_or}
 use Rattle.std.specs.Option.{option_or}
 use Rattle.cm_history.specs.Machine.{own_after, phase_after}
-use Rattle.cm_history.specs.Orders.{is_reset_all}
+use Rattle.cm_history.specs.Orders.{is_node}
 use Rattle.cm_history.specs.declared.call.Call.{Call}
 use Rattle.cm_history.specs.declared.call.Call.TheVariants as call
 use Rattle.cm_history.specs.declared.call.Orders.{Orders}
+use Rattle.cm_history.specs.declared.call.Orders.TheVariants as orders
 use Rattle.cm_history.specs.declared.phase.Phase.{Phase}
 use Rattle.cm_history.specs.declared.phase.Phase.TheVariants as phase
 use Rattle.cm_netlist.specs.Network.{Network, listing}
@@ -17,9 +18,11 @@ use Rattle.cm_watch.specs.Course.{end_by, is_end_given, is_over_given, is_stoppe
 use Rattle.cm_watch.specs.Guarding.{guard_by, guard_last, toggle_by, toggle_in}
 use Rattle.cm_watch.specs.Pasts.{Past}
 use Rattle.cm_watch.specs.Schedules.{blank_schedule, cause_by, schedule_after, schedule_in}
-use Rattle.cm_watch.specs.Signals.{boot_up_by, changes_by, budget_in, full_budget, news_in, spends, spent, state_heard_by, state_told_by}
+use Rattle.cm_watch.specs.Signals.{boot_up_by, changes_by, budget_in, full_budget, news_in, rests_by, shown_by, since_by, spends, spent}
+use Rattle.cm_watch.specs.Signals.{state_heard_by, state_told_by}
 use Rattle.cm_watch.specs.Slaves.{asked_by, booted_by, booted_since, busy_by, heard_by, heard_last, held_by, is_asked_in}
 use Rattle.cm_watch.specs.Slaves.{is_busy_in, is_held_in, is_lost_given, is_tried_in, lost_by, tried_by}
+use Rattle.cm_watch.specs.Waking.{stands_by, stands_stopped}
 use Rattle.cm_watch.specs.declared.course.Course.{Course}
 use Rattle.cm_watch.specs.declared.happening.Happening.{Happening}
 use Rattle.cm_watch.specs.declared.happening.Happening.TheVariants as happening
@@ -31,6 +34,7 @@ use Rattle.cm_watch.specs.declared.schedule.Schedule.{Schedule}
 use Rattle.cm_watch.specs.declared.settings.Settings.{Settings}
 use Rattle.cm_watch.specs.declared.signals.Budget.{Budget}
 use Rattle.cm_watch.specs.declared.signals.News.{News}
+use Rattle.cm_watch.specs.declared.shown.Since.TheVariants as since
 use Rattle.cm_watch.specs.declared.slave.Slave.{Slave}
 
 -- ---- a slave
@@ -45,6 +49,7 @@ slave_of net s past i = record {
   is_lost = is_lost_given past i;
   is_tried = is_tried_in past i;
   is_asked = is_asked_in past i;
+  is_stopped = stands_stopped net past i;
   schedule = schedule_in net s past i;
   news = news_in past i;
   budget = budget_in net s past i;
@@ -62,8 +67,9 @@ blank_slave = record {
   is_lost = false;
   is_tried = false;
   is_asked = false;
+  is_stopped = false;
   schedule = blank_schedule;
-  news = record { boot_up = false; heard = None; told = None; changes = 0 };
+  news = record { boot_up = false; rests = false; heard = None; told = None; shown = 0; since = since.Nothing; changes = 0 };
   budget = full_budget;
   guarded = None;
   toggle = false;
@@ -72,13 +78,16 @@ blank_slave = record {
 abbrev pub news_after : Moment → ℕ → News → News
 news_after m i n = record {
   boot_up = unwrap_or (boot_up_by m i) n.boot_up;
+  rests = unwrap_or (rests_by m i) n.rests;
   heard = option_or (state_heard_by m i) n.heard;
   told = option_or (state_told_by m i) n.told;
+  shown = shown_by m i n.shown;
+  since = since_by m i n.heard n.since;
   changes = changes_by m i n.heard n.changes;
 }
 
-abbrev pub budget_after : ℕ → Moment → ℕ → Schedule → Budget → Budget
-budget_after t m i k b = if spends m k i then spent t b else b
+abbrev pub budget_after : ℕ → Moment → ℕ → Bool → Schedule → Budget → Budget
+budget_after t m i rests k b = if spends m rests k i then spent t b else b
 
 -- what is kept of i after the moment m at the time t
 abbrev pub slave_after : Network → Settings → ℕ → Moment → ℕ → Slave → Slave
@@ -90,9 +99,10 @@ slave_after net s t m i k = record {
   is_lost = unwrap_or (lost_by m i) k.is_lost;
   is_tried = unwrap_or (tried_by m i) k.is_tried;
   is_asked = unwrap_or (asked_by m i) k.is_asked;
+  is_stopped = unwrap_or (stands_by net m i) k.is_stopped;
   schedule = schedule_after net s t i (cause_by m i) k.schedule;
   news = news_after m i k.news;
-  budget = budget_after t m i k.schedule k.budget;
+  budget = budget_after t m i k.news.rests k.schedule k.budget;
   guarded = option_or (guard_by t m i) k.guarded;
   toggle = unwrap_or (toggle_by net m i) k.toggle;
 }
@@ -103,19 +113,35 @@ slave_after net s t m i k = record {
 abbrev pub node_at : ℕ → Option ℕ
 node_at t = if nat_le 1 t && nat_le t 127 then Some t else None
 
--- the node that a call with these orders is about; none where it may be about all, as a start of the network, a loss that is
--- handled by a reset of all, and a request to all, or is about no node, as one that tells the time
+-- the node that a call names; none where it is for all, as a start of the network and a request to all, or names none, as one
+-- that tells the time
+abbrev pub named_by : Call → Option ℕ
+named_by call.StartNetwork = None
+named_by (call.Begin j) = Some j
+named_by (call.Report j n a) = Some j
+named_by (call.Signal j b) = Some j
+named_by (call.Lost j) = Some j
+named_by (call.Request t v) = node_at t
+named_by (call.Read t) = node_at t
+named_by (call.Elapsed ms) = None
+named_by (call.Hold j) = Some j
+named_by (call.Release j) = Some j
+
+-- the orders reach no other node than j
+abbrev pub reaches_only : Orders → ℕ → Bool
+reaches_only orders.None j = true
+reaches_only (orders.One f) j = is_node f.target j
+reaches_only orders.ResetUnkept j = false
+
+-- a node, where the orders reach no other
+abbrev pub if_only : Orders → Option ℕ → Option ℕ
+if_only o None = None
+if_only o (Some j) = if reaches_only o j then Some j else None
+
+-- the node that a call with these orders is about: that which it names, where its orders reach no other, as those of a loss that
+-- is handled by a reset of all do, and those of a report behind which all are started
 abbrev pub about_call : Call → Orders → Option ℕ
-about_call call.StartNetwork o = None
-about_call (call.Begin j) o = Some j
-about_call (call.Report j n a) o = Some j
-about_call (call.Signal j b) o = Some j
-about_call (call.Lost j) o = if is_reset_all o then None else Some j
-about_call (call.Request t v) o = node_at t
-about_call (call.Read t) o = node_at t
-about_call (call.Elapsed ms) o = None
-about_call (call.Hold j) o = Some j
-about_call (call.Release j) o = Some j
+about_call c o = if_only o (named_by c)
 
 abbrev pub about_happening : Happening → Option ℕ
 about_happening (happening.Heard j b) = Some j
@@ -127,6 +153,7 @@ about_happening (happening.Ends at) = None
 abbrev pub about_step : Step → Option ℕ
 about_step (step.Lost j) = Some j
 about_step (step.Boot j) = Some j
+about_step (step.Wake j) = Some j
 about_step (step.Signal j b) = Some j
 about_step (step.LeftOut j n) = Some j
 about_step (step.TimeOver ms) = None

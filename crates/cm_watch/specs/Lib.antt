@@ -1,5 +1,6 @@
 pub mod Pasts
 pub mod Slaves
+pub mod Waking
 pub mod Schedules
 pub mod Signals
 pub mod Course

@@ -33,19 +33,25 @@ if_place place i here other = if place == i then here else other
 abbrev pub notice_if : Bool → Notice → Option Notice
 notice_if told x = if told then Some x else None
 
--- i isn't listed, and isn't the manager itself
-abbrev pub is_stranger : Network → ℕ → Bool
-is_stranger net i = not (is_listed net i || (i == net.own))
+-- the boot-up message of i is our own, which was sent once and comes back
+abbrev pub is_own_back : Notices → Network → ℕ → Bool
+is_own_back n net i = (i == net.own) && n.is_own_out
 
--- that is told of i when it boots up: it wasn't before
-abbrev pub is_news_of : Notices → Network → ℕ → Bool
-is_news_of n net i = is_stranger net i && not (is_stranger_told n i)
+-- the boot-up message of i is that of a device that isn't listed, or has our own node-ID
+abbrev pub is_stranger : Notices → Network → ℕ → Bool
+is_stranger n net i = not (is_own_back n net i || is_listed net i)
 
--- an emergency message within the limit of its node; a boot-up message of a node that isn't listed, once; an NMT message that isn't
+-- what is told of i when it boots up, if it wasn't before
+abbrev pub boot_up_notice : Notices → Network → ℕ → Option Notice
+boot_up_notice n net i =
+    notice_if (is_stranger n net i && not (is_stranger_told n i)) (if i == net.own then notice.OwnNodeId i else notice.Unlisted i)
+
+-- an emergency message within the limit of its node; a boot-up message of a node that isn't listed, or of another device with the
+-- manager's own node-ID, once; an NMT message that isn't
 -- one of ours come back, within the limit of other masters; an error of the bus, once until it changes
 abbrev pub notice_by : Notices → Network → ℕ → Remark → Option Notice
 notice_by n net now (remark.Emergency i e) = notice_if (is_told (limit_at n i) now) (notice.Emergency i e)
-notice_by n net now (remark.BootUp i) = notice_if (is_news_of n net i) (notice.Unlisted i)
+notice_by n net now (remark.BootUp i) = boot_up_notice n net i
 notice_by n net now (remark.Message m) = notice_if (not (is_ours n.sent m) && is_told (limit_at n 0) now) (notice.Master m)
 notice_by n net now (remark.Error e) = option_map (λ x. notice.Bus x) (error_notice n.bus e)
 
@@ -75,12 +81,20 @@ count_by (remark.Message m) k count = behind_heard m k count
 count_by r k count = count
 
 -- whether it was told of i that it isn't listed, where j boots up
-abbrev pub stranger_by : Network → ℕ → ℕ → Bool → Bool
-stranger_by net j i told = if j == i && is_stranger net i then true else told
+abbrev pub stranger_by : Notices → Network → ℕ → ℕ → Bool → Bool
+stranger_by n net j i told = if j == i && is_stranger n net i then true else told
 
-abbrev pub strangers_by : Network → Remark → ℕ → Bool → Bool
-strangers_by net (remark.BootUp j) i told = stranger_by net j i told
-strangers_by net r i told = told
+abbrev pub strangers_by : Notices → Network → Remark → ℕ → Bool → Bool
+strangers_by n net (remark.BootUp j) i told = stranger_by n net j i told
+strangers_by n net r i told = told
+
+-- whether our own boot-up message was sent and hasn't come back, where j boots up
+abbrev pub own_out_behind : Network → ℕ → Bool → Bool
+own_out_behind net j out = out && not (j == net.own)
+
+abbrev pub own_out_by : Network → Remark → Bool → Bool
+own_out_by net (remark.BootUp j) out = own_out_behind net j out
+own_out_by net r out = out
 
 -- what was told of the errors of the bus
 abbrev pub bus_by : Remark → BusTold → BusTold

@@ -1,6 +1,6 @@
 -- When a slave is to be booted (own). At a start of the network and behind a reset it settles, until its boot-up message
 -- comes or the settle time is over. One that reboots by itself or is lost is booted at once, and where that happens again and
--- again, after 1, 2, 4 .. 60 s. At once too where it is released, or the operator asks for it.
+-- again, after 1, 2, 4 .. 60 s. At once too where it is released, or the operator asks for it; one that is woken settles first.
 use Rattle.std.specs.Prelude.{◌==◌, ◌&&◌, ◌||◌, if◌then◌else◌, ◌+◌, ◌-◌, [], ◌∷◌, ℕ, Bool, true, false}
 use Rattle.std.specs.Prelude.{nat_le, max, min, Option, Some, None}
 use Rattle.cm_history.specs.History.{is_boot_again, is_granted, is_handled, is_reset_value}
@@ -41,11 +41,12 @@ cause_by_call (call.Hold j) r o i = if is_granted r && j == i then Some cause.Dr
 cause_by_call (call.Release j) r o i = if is_granted r && j == i then Some cause.Wanted else None
 cause_by_call _ r o i = None
 
--- and what a moment is: the operator asks for a boot of i, or one is given, behind which it isn't to be booted
+-- and what a moment is: the operator asks for a boot of i; or one is given, behind which it isn't to be booted; or it is woken
 abbrev pub cause_by : Moment → ℕ → Option Cause
 cause_by (moment.Happened (happening.Called e)) i = cause_by_call e.call e.reply e.orders i
 cause_by (moment.Happened (happening.Asked j)) i = if j == i then Some cause.Wanted else None
 cause_by (moment.Gave (step.Boot j)) i = if j == i then Some cause.Dropped else None
+cause_by (moment.Gave (step.Wake j)) i = if j == i then Some cause.Woken else None
 cause_by _ i = None
 
 -- ---- again and again
@@ -107,6 +108,7 @@ due_after net s now i cause.Reset d a = Some (settling now s.settle_ms)
 due_after net s now i cause.BootUp d a = Some (boot_up_due now d a)
 due_after net s now i cause.Lost d a = Some (lost_due s now a)
 due_after net s now i cause.Wanted d a = Some (settling now 0)
+due_after net s now i cause.Woken d a = Some (settling now s.settle_ms)
 due_after net s now i cause.Dropped d a = None
 
 -- how often it rebooted by itself or was lost: a boot-up message behind a reset isn't counted, and at a start of the network

@@ -11,7 +11,8 @@ use Rattle.cm_watch.specs.Ends.{is_run_over}
 use Rattle.cm_watch.specs.Guarding.{most_silence_of}
 use Rattle.cm_watch.specs.Pasts.{Past}
 use Rattle.cm_watch.specs.Schedules.{is_due, is_own, schedule_in}
-use Rattle.cm_watch.specs.Signals.{budget_in, is_allowed, news_in, news_of, pending_of}
+use Rattle.cm_watch.specs.Signals.{budget_in, is_allowed, is_boot_up_left, is_urgent, news_in, news_of, pending_of}
+use Rattle.cm_watch.specs.Waking.{stands_stopped}
 use Rattle.cm_watch.specs.Slaves.{booted_since, heard_last, is_asked_in, is_busy_in, is_held_in, is_lost_given, is_tried_in}
 use Rattle.cm_watch.specs.declared.happening.Moment.TheVariants as moment
 use Rattle.cm_watch.specs.declared.happening.Step.{Step}
@@ -43,21 +44,28 @@ takes_boots p = is_booting p || is_ready p
 abbrev pub is_free : ℕ → Schedule → Bool → Bool → Budget → Bool
 is_free now k busy held b = is_due now k.due && (not busy && (not held && (not (is_own k.due) || is_allowed now b)))
 
--- i is to be booted: the manager takes boots, all aren't stopped, or the operator has asked for it, and i is free for it
+-- i is to be booted: the manager takes boots, all aren't stopped, or the operator has asked for it, no boot-up message of i waits to be
+-- told, and i is free for it
 abbrev pub is_to_be_booted : Network → Settings → Past → ℕ → ℕ → Bool
 is_to_be_booted net s past now i =
     takes_boots (phase_in net past)
     && ((not (is_stopped_in past) || is_asked_in past i)
     && (is_listed net i
-    && is_free now (schedule_in net s past i) (is_busy_in past i) (is_held_in past i) (budget_in net s past i)))
+    && (not (is_boot_up_left past i)
+    && is_free now (schedule_in net s past i) (is_busy_in past i) (is_held_in past i) (budget_in net s past i))))
+
+-- where i is to be booted it is handed to its worker; where it stands stopped it is woken first, and booted once it has settled
+abbrev pub boot_of : Network → Past → ℕ → Step
+boot_of net past i = if stands_stopped net past i then step.Wake i else step.Boot i
 
 -- ---- a signal
 
--- the manager is to be told of i: there is something, i may cause a step, and isn't booted just now
+-- the manager is to be told of i: there is something, which is urgent, or i may cause a step, and i isn't booted just now
 abbrev pub is_to_be_told : Network → Settings → Past → ℕ → ℕ → Bool
 is_to_be_told net s past now i =
     is_listed net i
-    && (is_some (news_of (news_in past i)) && (is_allowed now (budget_in net s past i) && not (is_to_be_booted net s past now i)))
+    && (is_some (news_of (news_in past i))
+    && ((is_urgent (news_in past i) || is_allowed now (budget_in net s past i)) && not (is_to_be_booted net s past now i)))
 
 abbrev pub signal_of : Past → ℕ → Step
 signal_of past i = step.Signal i (unwrap_or (news_of (news_in past i)) 0)
@@ -96,12 +104,12 @@ is_end net past =
 abbrev pub step_if : Bool → Step → List Step
 step_if b s = if b then s ∷ [] else []
 
--- the steps at a time: the slaves that are lost, those to be booted, what is left out, the signals, each in rising order,
+-- the steps at a time: the slaves that are lost, those to be booted or woken, what is left out, the signals, each in rising order,
 -- the time, and behind all others the end of the run
 abbrev pub steps_at : Network → Settings → Past → ℕ → List Step
 steps_at net s past now =
     map step.Lost (filter (is_late net past now) node_ids)
-    ++ map step.Boot (filter (is_to_be_booted net s past now) node_ids)
+    ++ map (boot_of net past) (filter (is_to_be_booted net s past now) node_ids)
     ++ map (left_out_of past) (filter (is_left_out net s past now) node_ids)
     ++ map (signal_of past) (filter (is_to_be_told net s past now) node_ids)
     ++ step_if (is_time_over net past now) (step.TimeOver (elapsed_at past now))

@@ -1,5 +1,5 @@
 -- When a watch has what a past says (own).
-use Rattle.std.specs.Prelude.{◌≡◌, ◌<◌, ◌≤◌, ◌&&◌, ◌||◌, ◌-◌, ◌++◌, ℕ, Bool, not, List}
+use Rattle.std.specs.Prelude.{◌≡◌, ◌<◌, ◌≤◌, ◌&&◌, ◌||◌, ◌-◌, ◌++◌, if◌then◌else◌, ℕ, Bool, not, List}
 use Rattle.std.specs.Prelude.{nat_lt, min, map, filter, is_none, is_some, slice_index_or, unwrap_or}
 use Rattle.cm_history.specs.History.{is_empty}
 use Rattle.cm_history.specs.Phases.{is_booting, is_ready}
@@ -8,7 +8,7 @@ use Rattle.cm_nmt.specs.Listing.{is_mandatory, node_ids}
 use Rattle.cm_watch.specs.Ends.{ends_in, has_come}
 use Rattle.cm_watch.specs.Kept.{blank_slave, course_of, slave_of}
 use Rattle.cm_watch.specs.Pasts.{Past}
-use Rattle.cm_watch.specs.Signals.{is_allowed, news_of, pending_of}
+use Rattle.cm_watch.specs.Signals.{is_allowed, is_urgent, news_of, pending_of}
 use Rattle.cm_watch.specs.Beats.{beat_byte, is_beat_due}
 use Rattle.cm_watch.specs.Guarding.{counts_for, guard_of, is_asked_again, most_silence_of}
 use Rattle.cm_watch.specs.Steps.{is_free, is_overdue, step_if, takes_boots}
@@ -46,12 +46,17 @@ abbrev pub is_to_be_booted_by : Watch → Network → ℕ → ℕ → Bool
 is_to_be_booted_by w net now i =
     let k = kept_at w.slaves i in
     takes_boots w.course.phase
-    && ((not w.course.is_stopped || k.is_asked) && (is_listed net i && is_free now k.schedule k.is_busy k.is_held k.budget))
+    && ((not w.course.is_stopped || k.is_asked)
+    && (is_listed net i && (not k.news.boot_up && is_free now k.schedule k.is_busy k.is_held k.budget)))
+
+abbrev pub boot_by : Watch → ℕ → Step
+boot_by w i = if (kept_at w.slaves i).is_stopped then step.Wake i else step.Boot i
 
 abbrev pub is_to_be_told_by : Watch → Network → ℕ → ℕ → Bool
 is_to_be_told_by w net now i =
     let k = kept_at w.slaves i in
-    is_listed net i && (is_some (news_of k.news) && (is_allowed now k.budget && not (is_to_be_booted_by w net now i)))
+    is_listed net i
+    && (is_some (news_of k.news) && ((is_urgent k.news || is_allowed now k.budget) && not (is_to_be_booted_by w net now i)))
 
 abbrev pub signal_by : Watch → ℕ → Step
 signal_by w i = step.Signal i (unwrap_or (news_of (kept_at w.slaves i).news) 0)
@@ -90,7 +95,7 @@ is_given_by w net now kind.Guard i = is_guard_due_by w net now i
 
 abbrev pub step_by : Watch → Kind → ℕ → Step
 step_by w kind.Lost i = step.Lost i
-step_by w kind.Boot i = step.Boot i
+step_by w kind.Boot i = boot_by w i
 step_by w kind.LeftOut i = left_out_by w i
 step_by w kind.Signal i = signal_by w i
 step_by w kind.Guard i = step.Guard i

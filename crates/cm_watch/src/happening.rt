@@ -25,6 +25,8 @@ pub enum Step {
     Lost(NodeId),
     /// The worker of the slave is to boot it.
     Boot(NodeId),
+    /// The slave is to be made to answer again before it is booted, since it stands stopped: by enter pre-operational (CiA 301).
+    Wake(NodeId),
     /// The manager is to be told what the node sent: a boot-up message (0), or its state.
     Signal(NodeId, u8),
     /// The operator is to be told that so many changes of state of the node were left out.

@@ -1,7 +1,7 @@
 ghost use Rattle.cm_watch.specs.Beats.{IsAtMultiples};
 ghost use Rattle.cm_watch.specs.Causes.{IsNotForgotten};
 ghost use Rattle.cm_watch.specs.Limiting.{IsTenASecond};
-ghost use Rattle.cm_watch.specs.Limits.{IsOneInTenSeconds, IsToldInTime};
+ghost use Rattle.cm_watch.specs.Limits.{IsEndedOnce, IsOneInTenSeconds, IsToldAtOnce, IsToldInTime};
 ghost use Rattle.cm_watch.specs.Losses.{IsLostOnce};
 
 /// Behind a step that gave a slave as lost none does, until a report boots it.
@@ -19,6 +19,16 @@ pub fn one_in_ten_seconds()
 /// itself, unless it is booted just then.
 pub fn told_in_time()
     ensures { IsToldInTime }
+{}
+
+/// A boot-up message of a slave whose boot was begun, or that a report booted, is told in the next turn, whatever came before.
+pub fn told_at_once()
+    ensures { IsToldAtOnce }
+{}
+
+/// Each boot-up message that was told so has a boot that was begun, or a report, of its own.
+pub fn ended_once()
+    ensures { IsEndedOnce }
 {}
 
 /// Once the network was started, each slave is booted, or with a worker, or held, or given up, or it is to be booted at

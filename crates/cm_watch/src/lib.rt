@@ -31,6 +31,7 @@ mod pace;
 mod schedule;
 mod sent;
 mod settings;
+mod shown;
 mod signals;
 mod slave;
 mod starts;
@@ -38,6 +39,7 @@ mod taking;
 mod telling;
 mod tried;
 mod waiting;
+mod waking;
 mod watch;
 
 pub use boot_fault::{BootFault, Compared};
@@ -47,7 +49,8 @@ pub use guarding::guard_of;
 pub use happening::{Happening, Moment, Step};
 pub use in_order::{InOrder, Placed};
 pub use laws::{
-    beats_at_multiples, lost_once, none_forgotten, one_in_ten_seconds, ten_a_second, told_in_time,
+    beats_at_multiples, ended_once, lost_once, none_forgotten, one_in_ten_seconds, ten_a_second,
+    told_at_once, told_in_time,
 };
 pub use limit::Limit;
 pub use notices::{Notice, Notices};
@@ -55,6 +58,7 @@ pub use pace::Pace;
 pub use schedule::{Again, Cause, Due, Schedule};
 pub use sent::Sent;
 pub use settings::Settings;
+pub use shown::Since;
 pub use signals::{Budget, News};
 pub use slave::Slave;
 pub use starts::Starts;

@@ -1,11 +1,11 @@
 //! What is told of what a bus says, beside the answers and the states of slaves.
 
-ghost use Rattle.std.specs.Prelude.{◌≡◌, ◌<◌, ◌+◌, ◌%◌, ℕ, false};
+ghost use Rattle.std.specs.Prelude.{◌≡◌, ◌<◌, ◌+◌, ◌%◌, ℕ, false, true};
 ghost use Rattle.cm_watch.specs.BusErrors.{nothing_told};
 ghost use Rattle.cm_watch.specs.Echoes.{behind_sent_all, count_at};
 ghost use Rattle.cm_watch.specs.Limiting.{behind_message, behind_turn, is_told, none_told};
-ghost use Rattle.cm_watch.specs.Notices.{bus_by, count_by, if_place, is_news_of, is_stranger_told, left_out_by, left_out_notice, limit_at};
-ghost use Rattle.cm_watch.specs.Notices.{limit_by, notice_by, place_of_turn, stranger_by, strangers_by};
+ghost use Rattle.cm_watch.specs.Notices.{boot_up_notice, bus_by, count_by, if_place, is_stranger_told, left_out_by, left_out_notice};
+ghost use Rattle.cm_watch.specs.Notices.{limit_at, limit_by, notice_by, own_out_by, own_out_behind, place_of_turn, stranger_by, strangers_by};
 
 use crate::bus_told::{BusTold, ErrorNotice};
 use crate::limit::Limit;
@@ -30,12 +30,15 @@ pub enum Notice {
     MastersLeftOut(u32),
     /// The node isn't listed, and has booted up. This is told once of each.
     Unlisted(NodeId),
+    /// Another device with the manager's own node-ID, which is this, has booted up. This is told once.
+    OwnNodeId(NodeId),
     /// The interface said this of the bus.
     Bus(ErrorNotice),
 }
 
 /// What decides which of the remarks of a bus are told (own): of one node at most ten emergency messages in any second, and of
-/// other masters as many messages; each error of the bus once until it changes; each node that isn't listed once.
+/// other masters as many messages; each error of the bus once until it changes; each node that isn't listed once, and once
+/// another device with the manager's own node-ID.
 #[derive(Clone, Copy)]
 pub struct Notices {
     /// How often what is told, of other masters at first, and then of each node.
@@ -43,7 +46,9 @@ pub struct Notices {
     /// The place of the limit that is looked at in the next turn, modulo 128.
     next: u8,
     sent: Sent,
-    /// Of each node, whether it was told that it isn't listed.
+    /// Our own boot-up message was sent, and hasn't come back.
+    is_own_out: bool,
+    /// Of each node, whether it was told that it isn't listed, or is another device with our node-ID.
     strangers: [bool; 128],
     bus: BusTold,
 }
@@ -65,6 +70,7 @@ impl Notices {
         ensures limits { (i : ℕ) → i < 128 → limit_at result i ≡ none_told }
         ensures next { result.next ≡ 0 }
         ensures sent { (k : ℕ) → k < 640 → count_at result.sent k ≡ 0 }
+        ensures own { result.is_own_out ≡ false }
         ensures strangers { (i : ℕ) → i < 128 → is_stranger_told result i ≡ false }
         ensures bus { result.bus ≡ nothing_told }
     {
@@ -72,6 +78,7 @@ impl Notices {
             limits: [Limit::new(); 128],
             next: 0,
             sent: Sent::new(),
+            is_own_out: false,
             strangers: [false; 128],
             bus: BusTold::new(),
         }
@@ -85,6 +92,7 @@ impl Notices {
             → limit_at self.new i ≡ if_place place i (behind_message (limit_at self.old i) now) (limit_at self.old i) }
         ensures next { self.new.next ≡ self.old.next }
         ensures sent { self.new.sent ≡ self.old.sent }
+        ensures own { self.new.is_own_out ≡ self.old.is_own_out }
         ensures strangers { self.new.strangers ≡ self.old.strangers }
         ensures bus { self.new.bus ≡ self.old.bus }
     {
@@ -94,24 +102,44 @@ impl Notices {
         is_told
     }
 
-    /// A node has booted up: whether it is told that it isn't listed. The manager's own boot-up message, which comes back, isn't
-    /// another's.
-    fn meet(&mut self, network: &Network, id: NodeId) -> bool
-        ensures told { result ≡ is_news_of self.old network.now id }
+    /// A node has booted up: what is told of it, if it isn't listed. Our own boot-up message, which comes back, isn't another's.
+    fn meet(&mut self, network: &Network, id: NodeId) -> Option<Notice>
+        ensures told { result ≡ boot_up_notice self.old network.now id }
         ensures strangers { (i : ℕ) → i < 128
-            → is_stranger_told self.new i ≡ stranger_by network.now id i (is_stranger_told self.old i) }
+            → is_stranger_told self.new i ≡ stranger_by self.old network.now id i (is_stranger_told self.old i) }
+        ensures own { self.new.is_own_out ≡ own_out_behind network.now id self.old.is_own_out }
         ensures limits { self.new.limits ≡ self.old.limits }
         ensures next { self.new.next ≡ self.old.next }
         ensures sent { self.new.sent ≡ self.old.sent }
         ensures bus { self.new.bus ≡ self.old.bus }
     {
-        if network.entry(id).is_some() || id == network.own_id() {
-            return false;
+        let is_own = id == network.own_id();
+        if is_own && self.is_own_out {
+            self.is_own_out = false;
+            return None;
         }
         let place = usize::from(id.get());
-        let is_known = self.strangers[place];
+        if network.entry(id).is_some() || self.strangers[place] {
+            return None;
+        }
         self.strangers[place] = true;
-        !is_known
+        if is_own {
+            Some(Notice::OwnNodeId(id))
+        } else {
+            Some(Notice::Unlisted(id))
+        }
+    }
+
+    /// We send our own boot-up message: it comes back at most once.
+    pub fn boot_up(&mut self)
+        ensures own { self.new.is_own_out ≡ true }
+        ensures limits { self.new.limits ≡ self.old.limits }
+        ensures next { self.new.next ≡ self.old.next }
+        ensures sent { self.new.sent ≡ self.old.sent }
+        ensures strangers { self.new.strangers ≡ self.old.strangers }
+        ensures bus { self.new.bus ≡ self.old.bus }
+    {
+        self.is_own_out = true;
     }
 
     /// We send these NMT messages: each comes back at most once.
@@ -120,6 +148,7 @@ impl Notices {
             → count_at self.new.sent k ≡ behind_sent_all messages.now k (count_at self.old.sent k) }
         ensures limits { self.new.limits ≡ self.old.limits }
         ensures next { self.new.next ≡ self.old.next }
+        ensures own { self.new.is_own_out ≡ self.old.is_own_out }
         ensures strangers { self.new.strangers ≡ self.old.strangers }
         ensures bus { self.new.bus ≡ self.old.bus }
     {
@@ -138,7 +167,8 @@ impl Notices {
         ensures sent { (k : ℕ) → k < 640
             → count_at self.new.sent k ≡ count_by remark.now k (count_at self.old.sent k) }
         ensures strangers { (i : ℕ) → i < 128
-            → is_stranger_told self.new i ≡ strangers_by network.now remark.now i (is_stranger_told self.old i) }
+            → is_stranger_told self.new i ≡ strangers_by self.old network.now remark.now i (is_stranger_told self.old i) }
+        ensures own { self.new.is_own_out ≡ own_out_by network.now remark.now self.old.is_own_out }
         ensures bus { self.new.bus ≡ bus_by remark.now self.old.bus }
         ensures next { self.new.next ≡ self.old.next }
     {
@@ -147,10 +177,7 @@ impl Notices {
                 let is_told = self.take(id.get(), now_ms);
                 is_told.then_some(Notice::Emergency(*id, *emergency))
             }
-            Remark::BootUp(id) => {
-                let is_told = self.meet(network, *id);
-                is_told.then_some(Notice::Unlisted(*id))
-            }
+            Remark::BootUp(id) => self.meet(network, *id),
             Remark::Message(message) => {
                 if self.sent.hear(*message) || !self.take(MASTERS, now_ms) {
                     None
@@ -173,6 +200,7 @@ impl Notices {
             → limit_at self.new i ≡ if_place (place_of_turn self.old) i (behind_turn (limit_at self.old i) now_ms) (limit_at self.old i) }
         ensures next { self.new.next ≡ (place_of_turn self.old + 1) % 128 }
         ensures sent { self.new.sent ≡ self.old.sent }
+        ensures own { self.new.is_own_out ≡ self.old.is_own_out }
         ensures strangers { self.new.strangers ≡ self.old.strangers }
         ensures bus { self.new.bus ≡ self.old.bus }
     {

@@ -59,6 +59,8 @@ pub enum Cause {
     Wanted,
     /// It is not to be booted: it is held, or its boot was given.
     Dropped,
+    /// It is made to answer again.
+    Woken,
 }
 
 /// The cause, where the condition holds.
@@ -111,6 +113,7 @@ pub(crate) fn cause_by(moment: &Moment, id: NodeId) -> Option<Cause>
         }
         Moment::Happened(Happening::Asked(node)) => only(Cause::Wanted, *node == id),
         Moment::Gave(Step::Boot(node)) => only(Cause::Dropped, *node == id),
+        Moment::Gave(Step::Wake(node)) => only(Cause::Woken, *node == id),
         _ => None,
     }
 }
@@ -251,7 +254,7 @@ impl Schedule {
     {
         match cause {
             Cause::Started => Some(settling(now, settle_of(network, settings, id))),
-            Cause::Reset => Some(settling(now, settings.settle_ms)),
+            Cause::Reset | Cause::Woken => Some(settling(now, settings.settle_ms)),
             Cause::BootUp => Some(boot_up_due(now, self.due, self.again)),
             Cause::Lost => Some(lost_due(settings, now, self.again)),
             Cause::Wanted => Some(settling(now, 0)),

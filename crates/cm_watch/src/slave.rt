@@ -1,5 +1,5 @@
-ghost use Rattle.std.specs.Prelude.{◌≡◌, ◌<◌, ◌^◌};
-ghost use Rattle.cm_history.specs.History.{boots_by, clears_by, holds_by, is_start_by};
+ghost use Rattle.std.specs.Prelude.{◌≡◌, ◌<◌, ◌^◌, is_some};
+ghost use Rattle.cm_history.specs.History.{begins_by, boots_by, clears_by, holds_by, is_start_by};
 ghost use Rattle.cm_watch.specs.Kept.{slave_after};
 ghost use Rattle.cm_watch.specs.Slaves.{asked_by, booted_by, busy_by, heard_by, held_by, lost_by, tried_by};
 ghost use Rattle.cm_watch.specs.Steps.{is_free, is_overdue};
@@ -11,6 +11,7 @@ use crate::happening::{Happening, Moment, Step};
 use crate::schedule::{Schedule, is_reset};
 use crate::settings::Settings;
 use crate::signals::{Budget, News};
+use crate::waking::stands_by;
 use cm_history::{ALL_NODES, Call, Entry, Orders, Reply};
 use cm_netlist::Network;
 use cm_nmt::NodeId;
@@ -32,6 +33,8 @@ pub struct Slave {
     pub is_tried: bool,
     /// The operator has asked for its boot, and none was given since.
     pub is_asked: bool,
+    /// It stands stopped: the last NMT command that reached it was stop.
+    pub is_stopped: bool,
     pub schedule: Schedule,
     pub news: News,
     pub budget: Budget,
@@ -41,8 +44,18 @@ pub struct Slave {
     pub toggle: bool,
 }
 
+/// Whether the call begins a boot of the slave.
+pub(crate) fn is_begin(call: &Call, reply: Reply, id: NodeId) -> bool
+    ensures { result ≡ is_some (begins_by call.now reply id) }
+{
+    match (call, reply) {
+        (Call::Begin(node), Reply::Begun(_)) => *node == id,
+        _ => false,
+    }
+}
+
 /// Whether the call is a report that boots the slave.
-fn boots_by(call: &Call, reply: Reply, id: NodeId) -> bool
+pub(crate) fn boots_by(call: &Call, reply: Reply, id: NodeId) -> bool
     ensures { result ≡ boots_by call.now reply id }
 {
     match (call, reply) {
@@ -209,9 +222,12 @@ impl Slave {
             is_lost: lost_by(moment, id).unwrap_or(self.is_lost),
             is_tried: tried_by(moment, id).unwrap_or(self.is_tried),
             is_asked: asked_by(moment, id).unwrap_or(self.is_asked),
+            is_stopped: stands_by(network, moment, id).unwrap_or(self.is_stopped),
             schedule: self.schedule.after(network, settings, now, moment, id),
             news: self.news.after(moment, id),
-            budget: self.budget.after(now, moment, self.schedule, id),
+            budget: self
+                .budget
+                .after(now, moment, self.news.rests, self.schedule, id),
             guarded: guard_by(now, moment, id).or(self.guarded),
             toggle: toggle_by(network, moment, id).unwrap_or(self.toggle),
         }

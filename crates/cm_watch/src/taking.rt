@@ -1,7 +1,8 @@
 //! What a moment makes of what is kept of the slaves: where it is about one node, that slave alone is touched.
 
 ghost use Rattle.std.specs.Prelude.{◌≡◌, ◌<◌, ◌^◌, ◌∷◌, Some};
-ghost use Rattle.cm_watch.specs.Kept.{about, about_call, about_happening, about_step, node_at};
+ghost use Rattle.cm_history.specs.Orders.{is_node};
+ghost use Rattle.cm_watch.specs.Kept.{about, about_call, about_happening, about_step, if_only, named_by, node_at, reaches_only};
 ghost use Rattle.cm_watch.specs.Pasts.{Past};
 ghost use Rattle.cm_watch.specs.Watches.{AreSlaves};
 
@@ -10,7 +11,7 @@ use crate::settings::Settings;
 use crate::slave::Slave;
 use cm_history::{Call, Orders};
 use cm_netlist::Network;
-use cm_nmt::NodeId;
+use cm_nmt::{NodeId, Target};
 
 /// The node of a sub-index of object 1F82h; `None` at 128, which stands for all nodes.
 fn node_at(target: u8) -> Option<NodeId>
@@ -19,12 +20,11 @@ fn node_at(target: u8) -> Option<NodeId>
     NodeId::new(target)
 }
 
-/// The node that a call with these orders is about.
-fn about_call(call: &Call, orders: &Orders) -> Option<NodeId>
-    ensures { result ≡ about_call call.now orders.now }
+/// The node that a call names.
+fn named_by(call: &Call) -> Option<NodeId>
+    ensures { result ≡ named_by call.now }
 {
     match call {
-        Call::Lost(_) if orders.is_reset_all() => None,
         Call::Begin(id)
         | Call::Report(id, _, _)
         | Call::Signal(id, _)
@@ -33,6 +33,37 @@ fn about_call(call: &Call, orders: &Orders) -> Option<NodeId>
         | Call::Release(id) => Some(*id),
         Call::Request(target, _) | Call::Read(target) => node_at(*target),
         Call::StartNetwork | Call::Elapsed(_) => None,
+    }
+}
+
+/// Whether this node is the target.
+fn is_node(target: &Target, id: NodeId) -> bool
+    ensures { result ≡ is_node target.now id }
+{
+    match target {
+        Target::All => false,
+        Target::Node(node) => *node == id,
+    }
+}
+
+/// Whether the orders reach no other node than this one.
+fn reaches_only(orders: &Orders, id: NodeId) -> bool
+    ensures { result ≡ reaches_only orders.now id }
+{
+    match orders {
+        Orders::None => true,
+        Orders::One(frame) => is_node(&frame.target, id),
+        Orders::ResetUnkept => false,
+    }
+}
+
+/// The node that a call with these orders is about.
+fn about_call(call: &Call, orders: &Orders) -> Option<NodeId>
+    ensures { result ≡ about_call call.now orders.now }
+{
+    match named_by(call) {
+        Some(id) if reaches_only(orders, id) => Some(id),
+        _ => None,
     }
 }
 
@@ -54,6 +85,7 @@ fn about_step(step: &Step) -> Option<NodeId>
     match step {
         Step::Lost(id)
         | Step::Boot(id)
+        | Step::Wake(id)
         | Step::Signal(id, _)
         | Step::LeftOut(id, _)
         | Step::Guard(id) => Some(*id),

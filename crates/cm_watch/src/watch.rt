@@ -8,7 +8,7 @@ ghost use Rattle.cm_watch.specs.Limits.{AreLimited};
 ghost use Rattle.cm_watch.specs.Pasts.{Past};
 ghost use Rattle.cm_watch.specs.Steps.{given, steps_at};
 ghost use Rattle.cm_watch.specs.Telling.{given_up_of, told_of};
-ghost use Rattle.cm_watch.specs.Watches.{Watches, elapsed_by, is_end_by, is_given_by, is_given_up_by, is_late_by};
+ghost use Rattle.cm_watch.specs.Watches.{Watches, boot_by, elapsed_by, is_end_by, is_given_by, is_given_up_by, is_late_by};
 ghost use Rattle.cm_watch.specs.Watches.{is_left_out_by, is_pending_by, is_run_over_by, is_time_over_by, is_to_be_booted_by};
 ghost use Rattle.cm_watch.specs.Watches.{is_to_be_told_by, kept_at, left_out_by, signal_by, step_by, steps_by};
 ghost use Rattle.cm_watch.specs.declared.happening.Moment.TheVariants.{Gave, Happened};
@@ -21,6 +21,7 @@ use crate::guarding::most_silence_of;
 use crate::happening::{Happening, Moment, Step};
 use crate::schedule::{Again, Schedule};
 use crate::settings::Settings;
+use crate::shown::Since;
 use crate::signals::{Budget, MOST_AT_ONCE, News};
 use crate::slave::{Slave, is_overdue};
 use crate::taking::take_all;
@@ -77,11 +78,15 @@ impl Watch {
             is_lost: false,
             is_tried: false,
             is_asked: false,
+            is_stopped: false,
             schedule: Schedule { due: None, again },
             news: News {
                 boot_up: false,
+                rests: false,
                 heard: None,
                 told: None,
+                shown: 0,
+                since: Since::Nothing,
                 changes: 0,
             },
             budget: Budget {
@@ -163,7 +168,19 @@ impl Watch {
         self.course.takes_boots()
             && (!self.course.is_stopped || slave.is_asked)
             && network.listed(id)
+            && !slave.news.boot_up
             && slave.is_free(now)
+    }
+
+    /// The step by which the slave is booted: it is woken first where it stands stopped.
+    fn boot(&self, id: NodeId) -> Step
+        ensures { result ≡ boot_by self.now id }
+    {
+        if self.slave(id).is_stopped {
+            Step::Wake(id)
+        } else {
+            Step::Boot(id)
+        }
     }
 
     /// Whether the manager is to be told of the node now.
@@ -173,7 +190,7 @@ impl Watch {
         let slave = self.slave(id);
         network.listed(id)
             && slave.news.to_tell().is_some()
-            && slave.budget.is_allowed(now)
+            && (slave.news.is_urgent() || slave.budget.is_allowed(now))
             && !self.is_to_be_booted(network, now, id)
     }
 
@@ -217,7 +234,7 @@ impl Watch {
     {
         match kind {
             Kind::Lost => Step::Lost(id),
-            Kind::Boot => Step::Boot(id),
+            Kind::Boot => self.boot(id),
             Kind::LeftOut => self.left_out(id),
             Kind::Signal => self.signal(id),
             Kind::Guard => Step::Guard(id),

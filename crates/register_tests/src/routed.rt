@@ -4,7 +4,8 @@ use crate::support::{node, sure};
 use cm_boot::Question;
 use cm_can::{CanFrame, read_frame};
 use cm_live::{
-    Format, Happening, Heartbeats, Listening, LivePort, Outlet, Port, Received, Routes, Source,
+    Format, Happening, Heartbeats, Listening, LivePort, Outlet, Patience, Port, Received, Routes,
+    Source,
 };
 use cm_nmt::NodeId;
 use crossbeam_channel::{Receiver, Sender};
@@ -55,7 +56,7 @@ fn make_port<R: Wait + Clock + Clone + Drop + Abort>(
         listening: Arc::try_clone(listening).ok().expect(rt, "memory"),
         outlet: Outlet::new(Vec::new(alloc), Format::CanUtils),
         broken: unbroken(rt, alloc),
-        deadline: None,
+        patience: Patience::none(),
     };
     (port, hears)
 }
@@ -206,4 +207,56 @@ fn what_came_late_is_forgotten(rt: HostRuntime) {
     let (mut first, _second) = receive(&rt, rt.alloc(), &asks, HEARD);
     first.listen(node(&rt, 2), &Question::Read(0x1018, 1), 10);
     wait_there(&rt, &first.heard, &[]);
+}
+
+/// Node 2 says its device type, boots up, and says its vendor-ID and its state; so does node 5, but for the boot-up.
+const EXCHANGED: &[u8] = b"(0.0) can0 582#4300100092010200\n\
+    (0.0) can0 585#4300100092010200\n\
+    (0.0) can0 702#00\n\
+    (0.0) can0 582#4318100123010000\n\
+    (0.0) can0 585#4318100123010000\n\
+    (0.0) can0 702#7F\n";
+
+#[test]
+fn behind_its_boot_up_message_no_node_is_heard(rt: HostRuntime) {
+    let asks = [(0, 2, Question::Read(0x1000, 0))];
+    let (first, _second) = receive(&rt, rt.alloc(), &asks, EXCHANGED);
+    wait_there(&rt, &first.heard, &["582#4300100092010200"]);
+}
+
+#[test]
+fn whatever_it_is_asked_just_then(rt: HostRuntime) {
+    let boot = Question::Read(0x1000, 0);
+    let asks = [(0, 2, boot), (0, 2, Question::Beat)];
+    let (first, _second) = receive(&rt, rt.alloc(), &asks, EXCHANGED);
+    // the message itself answers nothing
+    wait_there(&rt, &first.heard, &["702#00"]);
+}
+
+#[test]
+fn the_boot_up_message_of_another_ends_no_boot(rt: HostRuntime) {
+    let asks = [(0, 5, Question::Read(0x1000, 0))];
+    let (first, _second) = receive(&rt, rt.alloc(), &asks, EXCHANGED);
+    let answers = ["585#4300100092010200", "585#4318100123010000"];
+    wait_there(&rt, &first.heard, &answers);
+}
+
+#[test]
+fn a_node_is_heard_again_in_its_next_boot(rt: HostRuntime) {
+    let alloc = rt.alloc();
+    let boot = Question::Read(0x1000, 0);
+    let listening = listening_of(&rt, alloc);
+    let shared = Arc::try_clone(&listening).ok().expect(&rt, "memory");
+    let (mut first, to_first) = make_port(&rt, alloc, &listening, 0);
+    let (_second, to_second) = make_port(&rt, alloc, &listening, 1);
+    let again = to_first.clone().ok().expect(&rt, "memory");
+    let also = to_second.clone().ok().expect(&rt, "memory");
+    first.listen(node(&rt, 2), &boot, 10);
+    let workers = both(&rt, alloc, to_first, to_second);
+    give(&rt, alloc, shared, workers, EXCHANGED);
+    first.listen(node(&rt, 2), &boot, 10);
+    let workers = both(&rt, alloc, again, also);
+    give(&rt, alloc, listening, workers, HEARD);
+    let answers = ["582#4300100092010200", "582#4318100123010000"];
+    wait_there(&rt, &first.heard, &answers);
 }

@@ -1,10 +1,12 @@
 //! The lines of a device file, an electronic data sheet or a device configuration file (CiA 306): keys with values, in
 //! sections.
 
-ghost use Rattle.std.specs.Prelude.{◌≡◌, [], ◌∷◌, ◌++◌, IfNone, IfOk, IfSome, IsTrue, Some};
+ghost use Rattle.std.specs.Prelude.{◌≡◌, [], ◌∷◌, ◌++◌, IfNone, IfOk, IfSome, IsTrue, Some, false, get_or};
 ghost use Rattle.std.specs.Char.{to_ascii_lowercase};
-ghost use Rattle.canboot.specs.DeviceFiles.{AreSame, BeginsSection, IsEntry, behind_mark};
-ghost use Rattle.canboot.specs.LinesRead.{AreOf, BeginsNone, HasKey, IsRead, IsTaken, IsValueIn, item_of};
+ghost use Rattle.cm_text.specs.Words.{split};
+ghost use Rattle.canboot.specs.DeviceFiles.{AreSame, BeginsSection, Has, IsEntry, behind_mark};
+ghost use Rattle.canboot.specs.Imports.{Stands, StandsNone};
+ghost use Rattle.canboot.specs.LinesRead.{AreAllOf, AreOf, BeginsNone, HasKey, IsOther, IsRead, IsTaken, IsValueIn, item_of};
 
 use cm_text::{Fields, is_word};
 use std::alloc::Global;
@@ -45,6 +47,8 @@ pub(crate) struct Item<'a> {
     pub value: &'a [u8],
     /// The place of the first item of its section.
     pub first: usize,
+    /// Its line, counted from 1.
+    pub line: usize,
 }
 
 /// A section that was begun.
@@ -57,7 +61,7 @@ struct Begun<'a> {
 
 /// What a line is.
 enum Line<'a> {
-    /// It is empty, or a comment.
+    /// It is empty but for a comment.
     Nothing,
     /// The begin of a section.
     Section(&'a [u8]),
@@ -79,7 +83,8 @@ fn small(byte: u8) -> u8
 
 /// Whether the texts are the same but for capital and small letters (ASCII).
 pub(crate) fn is_same(one: &[u8], other: &[u8]) -> bool
-    ensures { IsTrue result → AreSame one.now other.now }
+    ensures same { IsTrue result → AreSame one.now other.now }
+    ensures other { result ≡ false → AreSame one.now other.now → ⊥ }
 {
     if one.len() != other.len() {
         return false;
@@ -123,18 +128,22 @@ fn section_name(text: &[u8]) -> Option<&[u8]>
     Some(text[1..last].trim_ascii())
 }
 
-/// Whether a line says nothing: it is empty, or a comment.
-fn is_silent(text: &[u8]) -> bool
-    ensures { IsTrue result → BeginsNone text.now }
+/// A line without a comment, which begins with a semicolon.
+fn before_comment(line: &[u8]) -> &[u8]
+    ensures { result.now ≡ get_or (split 59 line.now) 0 [] }
 {
-    text.is_empty() || text[0] == b';'
+    let mut parts = Fields::new(line, b';');
+    match parts.next_field() {
+        Some(front) => front,
+        None => b"",
+    }
 }
 
-/// What a line is, without white space at its ends.
+/// What a line is, without a comment and white space at its ends.
 fn line_of(text: &[u8]) -> Line<'_>
     ensures { IsRead text.now result }
 {
-    if is_silent(text) {
+    if text.is_empty() {
         return Line::Nothing;
     }
     if let Some(name) = section_name(text) {
@@ -152,11 +161,12 @@ enum Untaken {
     OutOfMemory,
 }
 
-/// Takes a line, and gives the section that is begun behind it.
+/// Takes a line, with its number, and gives the section that is begun behind it.
 fn take_line<'a>(
     items: &mut Vec<Item<'a>>,
     begun: Option<Begun<'a>>,
     text: &'a [u8],
+    number: usize,
 ) -> Result<Option<Begun<'a>>, Untaken>
     ensures { IfOk result (λ now. IsTaken text.now items.old.items items.new.items begun.entry now) }
 {
@@ -165,7 +175,7 @@ fn take_line<'a>(
         Line::Nothing => Ok(begun),
         Line::Section(name) => Ok(Some(Begun { name, first })),
         Line::Entry(entry) => match begun {
-            Some(begun) => take_entry(items, begun, entry),
+            Some(begun) => take_entry(items, begun, entry, number),
             None => Err(Untaken::Line(LineFault::NoSection)),
         },
         Line::Unknown => Err(Untaken::Line(LineFault::Unknown)),
@@ -177,15 +187,17 @@ fn take_entry<'a>(
     items: &mut Vec<Item<'a>>,
     begun: Begun<'a>,
     entry: Entry<'a>,
+    line: usize,
 ) -> Result<Option<Begun<'a>>, Untaken>
     ensures { IfOk result (λ now. (now ≡ Some begun.entry)
-        × (items.new.items ≡ items.old.items ++ item_of begun.entry entry.entry ∷ [])) }
+        × (items.new.items ≡ items.old.items ++ item_of begun.entry entry.entry line ∷ [])) }
 {
     let item = Item {
         section: begun.name,
         key: entry.key,
         value: entry.value,
         first: begun.first,
+        line,
     };
     match items.push(item) {
         Ok(()) => Ok(Some(begun)),
@@ -206,7 +218,8 @@ fn behind_mark(file: &[u8]) -> &[u8]
 
 /// The keys of a device file with their values, in its order.
 pub(crate) fn read_items(alloc: Global, file: &[u8]) -> Result<Vec<Item<'_>>, FileFault>
-    ensures { IfOk result (λ items. AreOf file.now items.items) }
+    ensures items { IfOk result (λ items. AreOf file.now items.items) }
+    ensures all { IfOk result (λ items. AreAllOf file.now items.items) }
 {
     let mut items = Vec::new(alloc);
     let mut begun = None;
@@ -214,7 +227,8 @@ pub(crate) fn read_items(alloc: Global, file: &[u8]) -> Result<Vec<Item<'_>>, Fi
     let mut number = 0;
     while let Some(line) = lines.next_field() {
         number += 1;
-        match take_line(&mut items, begun, line.trim_ascii()) {
+        let text = before_comment(line).trim_ascii();
+        match take_line(&mut items, begun, text, number) {
             Ok(now) => begun = now,
             Err(Untaken::Line(fault)) => return Err(FileFault::Line(number, fault)),
             Err(Untaken::OutOfMemory) => return Err(FileFault::OutOfMemory),
@@ -231,6 +245,42 @@ pub(crate) fn value_of<'a>(items: &[Item<'a>], name: &str, key: &str) -> Option<
     for item in items {
         if is_same(item.section, name.as_bytes()) && is_same(item.key, key.as_bytes()) {
             return Some(item.value);
+        }
+    }
+    None
+}
+
+/// Whether an item is this key with a value that isn't empty, in a section of this name.
+fn is_given(item: &Item<'_>, name: &[u8], key: &[u8]) -> bool
+    ensures given { IsTrue result → AreSame item.now.section.now name.now
+        × (AreSame item.now.key.now key.now × (item.now.value.now ≡ [] → ⊥)) }
+    ensures other { result ≡ false → IsOther name.now key.now item.now }
+{
+    if !is_same(item.section, name) {
+        return false;
+    }
+    if !is_same(item.key, key) {
+        return false;
+    }
+    !item.value.is_empty()
+}
+
+/// The first item of this key in a section of this name whose value isn't empty.
+pub(crate) fn given_item<'s, 'a>(
+    items: &'s [Item<'a>],
+    name: &[u8],
+    key: &[u8],
+) -> Option<&'s Item<'a>>
+    ensures given { (file : _) → AreOf file items.now
+        → IfSome result (λ i. Stands file name.now key.now i.now.value.now) }
+    ensures item { (file : _) → AreOf file items.now
+        → IfSome result (λ i. Has (behind_mark file) i.now.section.now i.now.key.now i.now.value.now
+        × (AreSame i.now.section.now name.now × AreSame i.now.key.now key.now)) }
+    ensures none { (file : _) → AreAllOf file items.now → IfNone result (StandsNone file name.now key.now) }
+{
+    for item in items {
+        if is_given(item, name, key) {
+            return Some(item);
         }
     }
     None

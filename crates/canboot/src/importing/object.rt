@@ -39,6 +39,11 @@ pub(crate) fn is_count(index: u16, sub: u8) -> bool
     (index / 512 == 11 || index / 512 == 13) && sub == 0
 }
 
+/// Whether the object of this index is a mapping of a PDO.
+pub(crate) fn is_mapping(index: u16) -> bool {
+    matches!(part_of(index), Part::Mapping)
+}
+
 /// Whether the object is one that is compared by a boot, or that stores and restores parameters.
 pub(crate) fn is_left_out(index: u16) -> bool {
     matches!(index, 0x1000 | 0x1010 | 0x1011 | 0x1018 | 0x1020)
@@ -63,12 +68,20 @@ pub(crate) fn step_of(index: u16, sub: u8) -> u8 {
     }
 }
 
+/// The PDO that the object of this index is a parameter of, by the index of its communication parameters.
+pub(crate) fn pdo_of(index: u16) -> Option<u16> {
+    match part_of(index) {
+        Part::None => None,
+        Part::Communication | Part::Mapping => Some(index & !0x0200),
+    }
+}
+
 /// The place of a write among all: PDOs behind other objects, and heartbeats last.
 pub(crate) fn rank(index: u16, sub: u8, step: u8) -> u64 {
-    let (stage, object) = match index {
-        0x1016 | 0x1017 => (2, index),
-        _ if !matches!(part_of(index), Part::None) => (1, index & !0x0200),
-        _ => (0, index),
+    let (stage, object) = match (index, pdo_of(index)) {
+        (0x1016 | 0x1017, _) => (2, index),
+        (_, Some(pdo)) => (1, pdo),
+        (_, None) => (0, index),
     };
     ((stage * 0x1_0000 + u64::from(object)) * 0x100 + u64::from(step)) * 0x100 + u64::from(sub)
 }

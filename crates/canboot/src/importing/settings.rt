@@ -1,16 +1,20 @@
 //! What a device file sets in a device, as writes in an order that devices accept (CiA 301, CiA 306).
 
-ghost use Rattle.std.specs.Prelude.{◌≡◌, ◌≤◌, ℕ, [], true, IfOk, IfSome, IsTrue, OnOk, vec_len};
+ghost use Rattle.std.specs.Prelude.{◌≡◌, ◌≤◌, ◌||◌, ℕ, [], IfOk, IfSome, IsTrue, OnOk, length, vec_len};
 ghost use Rattle.cm_nmt.specs.Size.{is_size};
 ghost use Rattle.cm_nmt.specs.Write.{write_with};
-ghost use Rattle.canboot.specs.DeviceFiles.{AreSame, IsNumber, IsObject};
-ghost use Rattle.canboot.specs.Imports.{IsSetting, IsSized, is_count};
+ghost use Rattle.canboot.specs.DeviceFiles.{AreSame, IsObject, IsPlain};
+ghost use Rattle.canboot.specs.Imports.{IsSetting, IsTyped, is_cob_id, is_count};
 ghost use Rattle.canboot.specs.LinesRead.{AreOf};
-ghost use Rattle.canboot.specs.SettingsMade.{AllWrites, Gives, HasAdded, IsOf, MaySet};
+ghost use Rattle.canboot.specs.SettingsMade.{AllWrites, Gives, HasAdded, IsOf, IsTypeOf, IsValueSection, MaySet};
 
-use crate::importing::device_file::{Item, is_same, value_beside};
-use crate::importing::device_number::{number, object_of, plain_number, size_of};
-use crate::importing::object::{is_cob_id, is_count, is_left_out, is_writable, rank, step_of};
+use crate::importing::device_file::{Item, given_item, is_same, value_beside};
+use crate::importing::device_number::{
+    NumberFault, index_of, object_of, plain_number, size_of, typed_number,
+};
+use crate::importing::object::{
+    is_cob_id, is_count, is_left_out, is_mapping, is_writable, pdo_of, rank, step_of,
+};
 use cm_netlist::Write;
 use cm_nmt::NodeId;
 use std::alloc::{AllocError, Global};
@@ -28,14 +32,14 @@ pub(crate) struct Setting<'a> {
 pub(crate) enum Reason {
     /// The data type has no size of 1, 2 or 4 bytes, or isn't given.
     Size,
-    /// The value is no number of 32 bits.
-    Number,
-    /// The value doesn't fit into the bytes of its data type.
-    Wide,
-    /// The mapping of a PDO is given, but neither a value nor a default of its COB-ID that can be written.
-    CobId,
-    /// 32 writes stand before it.
-    Many,
+    /// The value is none of its data type.
+    Number(NumberFault),
+    /// It is of the mapping of a PDO, of which the file gives no COB-ID, or not how many objects are mapped, that can be written.
+    Mapping,
+    /// It is one of an object's values in a section of their own, and the object hasn't such a sub-index.
+    Compact,
+    /// It stands behind the writes that the slave has.
+    Behind,
 }
 
 /// A value that is no write.
@@ -51,43 +55,48 @@ pub(crate) struct Unwritten<'a> {
 pub(crate) struct Settings<'a> {
     pub settings: Vec<Setting<'a>>,
     pub unwritten: Vec<Unwritten<'a>>,
+    /// How many writes stand behind those that the slave has.
+    pub behind: usize,
 }
 
 /// Bit 31 of a COB-ID: the PDO doesn't exist (CiA 301).
 const OFF: u32 = 0x8000_0000;
 
-/// The size of the data type of an item's section.
-fn size_beside(items: &[Item<'_>], item: &Item<'_>) -> Option<u8>
-    ensures sized { (file : _) → AreOf file items.now
-        → IfSome result (λ s. IsSized file item.now.section.now s) }
-    ensures size { IfSome result (λ s. IsTrue (is_size s)) }
-{
-    size_of(plain_number(value_beside(items, item, "DataType")?)?)
+/// A value of an object.
+#[derive(Clone, Copy)]
+pub(crate) struct Value<'a> {
+    pub object: (u16, u8),
+    pub item: Item<'a>,
+    /// A key of the section that describes it.
+    pub described: Item<'a>,
 }
 
-/// The size and the number of an item's value.
-fn valued(items: &[Item<'_>], item: &Item<'_>, node: NodeId) -> Result<(u8, u32), Reason>
-    ensures sized { (file : _) → AreOf file items.now
-        → IfOk result (λ v. IsSized file item.now.section.now v.0) }
-    ensures number { IfOk result (λ v. IsNumber node item.now.value.now v.1) }
+/// The data type that is given in an item's section.
+fn type_beside(items: &[Item<'_>], item: &Item<'_>) -> Option<u32>
+    ensures { (file : _) → AreOf file items.now
+        → IfSome result (IsTypeOf file item.now.section.now) }
+{
+    plain_number(value_beside(items, item, "DataType")?)
+}
+
+/// The size and the number of a value.
+fn valued(items: &[Item<'_>], value: &Value<'_>, node: NodeId) -> Result<(u8, u32), Reason>
+    ensures typed { (file : _) → AreOf file items.now
+        → IfOk result (λ v. IsTyped file value.now.described.section.now node value.now.item.value.now v.0 v.1) }
     ensures size { IfOk result (λ v. IsTrue (is_size v.0)) }
 {
-    let Some(size) = size_beside(items, item) else {
+    let Some(data_type) = type_beside(items, &value.described) else {
         return Err(Reason::Size);
     };
-    match number(item.value, node) {
-        Some(number) if fits(size, number) => Ok((size, number)),
-        Some(_) => Err(Reason::Wide),
-        None => Err(Reason::Number),
+    let Some(size) = size_of(data_type) else {
+        return Err(Reason::Size);
+    };
+    if is_cob_id(value.object.0, value.object.1) && size != 4 {
+        return Err(Reason::Size);
     }
-}
-
-/// Whether the number fits into so many bytes.
-fn fits(size: u8, number: u32) -> bool {
-    match size {
-        1 => number < 256,
-        2 => number < 65_536,
-        _ => true,
+    match typed_number(data_type, size, value.item.value, node) {
+        Ok(number) => Ok((size, number)),
+        Err(fault) => Err(Reason::Number(fault)),
     }
 }
 
@@ -99,6 +108,7 @@ impl<'a> Settings<'a> {
         Settings {
             settings: Vec::new(alloc),
             unwritten: Vec::new(alloc),
+            behind: 0,
         }
     }
 
@@ -158,22 +168,21 @@ impl<'a> Settings<'a> {
         self.add(object, step_of(object.0, object.1), value, name)
     }
 
-    /// Adds what an item sets, the value of this object.
-    fn add_item(
+    /// Adds what a value sets.
+    fn add_given(
         &mut self,
         items: &[Item<'a>],
-        item: &Item<'a>,
-        object: (u16, u8),
+        value: &Value<'a>,
         node: NodeId,
     ) -> Result<(), AllocError>
-        ensures { (file : _) → AreOf file items.now → Gives file item.now object
+        ensures { (file : _) → AreOf file items.now → Gives file value.now
             → AllWrites (IsSetting file node) self.old
             → OnOk result (AllWrites (IsSetting file node) self.new) }
     {
-        let name = name_of(items, item);
-        match valued(items, item, node) {
-            Ok(value) => self.add_value(object, value, name),
-            Err(reason) => self.leave(object, name, reason),
+        let name = name_of(items, &value.described);
+        match valued(items, value, node) {
+            Ok(number) => self.add_value(value.object, number, name),
+            Err(reason) => self.leave(value.object, name, reason),
         }
     }
 
@@ -189,30 +198,62 @@ impl<'a> Settings<'a> {
         Ok(())
     }
 
-    /// Adds the COB-ID of a PDO of which the file gives the number of mapped objects, where it doesn't give the COB-ID: the one
-    /// that it has by default.
+    /// Adds the value that an object of a PDO has by default, where the file gives no other.
     fn add_default(
         &mut self,
         items: &[Item<'a>],
-        mapping: &Item<'a>,
-        count: (u16, u8),
+        object: (u16, u8),
         node: NodeId,
     ) -> Result<(), AllocError>
-        requires { is_count count.0 count.1 ≡ true }
         ensures { (file : _) → AreOf file items.now → AllWrites (IsSetting file node) self.old
             → OnOk result (AllWrites (IsSetting file node) self.new) }
     {
-        let object = (count.0 - 0x0200, 1);
         if item_of_object(items, object, "ParameterValue").is_some() {
             return Ok(());
         }
-        let Some(item) = item_of_object(items, object, "DefaultValue") else {
-            return self.leave(count, name_of(items, mapping), Reason::CobId);
-        };
-        if !is_set(items, item, object.0) {
-            return self.leave(count, name_of(items, mapping), Reason::CobId);
+        match default_of(items, object) {
+            Some(value) => self.add_given(items, &value, node),
+            None => Ok(()),
         }
-        self.add_item(items, item, object, node)
+    }
+
+    /// Adds a value of the mapping of a PDO, and with the first one what the PDO has by default, where the file gives no other.
+    fn add_mapped(
+        &mut self,
+        items: &[Item<'a>],
+        value: &Value<'a>,
+        node: NodeId,
+    ) -> Result<(), AllocError>
+        ensures { (file : _) → AreOf file items.now → Gives file value.now
+            → AllWrites (IsSetting file node) self.old
+            → OnOk result (AllWrites (IsSetting file node) self.new) }
+    {
+        let mapping = value.object.0;
+        if !is_mapped(items, mapping, node) {
+            return self.leave(
+                value.object,
+                name_of(items, &value.described),
+                Reason::Mapping,
+            );
+        }
+        self.add_given(items, value, node)?;
+        if !is_first(items, value) {
+            return Ok(());
+        }
+        self.add_default(items, (cob_id_of(mapping), 1), node)?;
+        self.add_default(items, (mapping, 0), node)
+    }
+
+    /// Tells of an item that is none of the values of its object's sub-indexes, if it stands among them.
+    fn leave_compact(&mut self, item: &Item<'a>) -> Result<(), AllocError>
+        ensures { OnOk result (self.new.settings.items ≡ self.old.settings.items) }
+    {
+        match compact_index(item.section) {
+            Some(index) if !is_same(item.key, b"NrOfEntries") => {
+                self.leave((index, 0), item.key, Reason::Compact)
+            }
+            _ => Ok(()),
+        }
     }
 
     /// Adds what an item sets, where it is a value that may be written.
@@ -226,24 +267,147 @@ impl<'a> Settings<'a> {
             → AllWrites (IsSetting file node) self.old
             → OnOk result (AllWrites (IsSetting file node) self.new) }
     {
-        if !is_same(item.key, b"ParameterValue") {
-            return Ok(());
-        }
         if item.value.is_empty() {
             return Ok(());
         }
-        let Some(object) = object_of(item.section) else {
-            return Ok(());
+        let Some(value) = value_at(items, item) else {
+            return self.leave_compact(item);
         };
-        if !is_set(items, item, object.0) {
+        if !is_set(items, &value) {
             return Ok(());
         }
-        self.add_item(items, item, object, node)?;
-        if is_count(object.0, object.1) {
-            return self.add_default(items, item, object, node);
+        if is_mapping(value.object.0) {
+            self.add_mapped(items, &value, node)
+        } else {
+            self.add_given(items, &value, node)
         }
-        Ok(())
     }
+}
+
+/// The value of an object that an item is in the object's own section.
+fn own_value<'a>(item: &Item<'a>) -> Option<Value<'a>>
+    ensures { (file : _) → IsOf file item.now → IfSome result (λ v. (v.item ≡ item.now) × Gives file v) }
+{
+    if !is_same(item.key, b"ParameterValue") {
+        return None;
+    }
+    Some(Value {
+        object: object_of(item.section)?,
+        item: *item,
+        described: *item,
+    })
+}
+
+/// The index of the object whose section of values this one is: `XXXXValue`.
+fn compact_index(section: &[u8]) -> Option<u16>
+    ensures { IfSome result (IsValueSection section.now) }
+{
+    if section.len() != 9 {
+        return None;
+    }
+    let (digits, word) = section.split_at(4);
+    if !is_same(word, b"Value") {
+        return None;
+    }
+    index_of(digits)
+}
+
+/// The sub-index that a key of values without sections of their own names, up to as many as there are.
+fn compact_sub(key: &[u8], count: u32) -> Option<u8>
+    ensures { IfSome result (λ s. IsPlain key.now s × ((1 ≤ s) × (s ≤ count))) }
+{
+    let sub = plain_number(key)?;
+    if sub == 0 || count < sub {
+        return None;
+    }
+    u8::try_from(sub).ok()
+}
+
+/// The value of an object that an item is in the section of the object's values.
+fn compact_value<'a>(items: &[Item<'a>], item: &Item<'a>) -> Option<Value<'a>>
+    ensures { (file : _) → AreOf file items.now → IsOf file item.now
+        → IfSome result (λ v. (v.item ≡ item.now) × Gives file v) }
+{
+    let index = compact_index(item.section)?;
+    let described = given_item(items, &item.section[..4], b"CompactSubObj")?;
+    let sub = compact_sub(item.key, plain_number(described.value)?)?;
+    Some(Value {
+        object: (index, sub),
+        item: *item,
+        described: *described,
+    })
+}
+
+/// The value of an object that an item is, if it is one.
+fn value_at<'a>(items: &[Item<'a>], item: &Item<'a>) -> Option<Value<'a>>
+    ensures { (file : _) → AreOf file items.now → IsOf file item.now
+        → IfSome result (λ v. (v.item ≡ item.now) × Gives file v) }
+{
+    match own_value(item) {
+        Some(value) => Some(value),
+        None => compact_value(items, item),
+    }
+}
+
+/// Whether the default of an object counts where the file gives no other value: of a COB-ID, and of the number of mapped objects.
+fn has_default(object: (u16, u8)) -> bool
+    ensures { result ≡ (is_cob_id object.0 object.1 || is_count object.0 object.1) }
+{
+    is_cob_id(object.0, object.1) || is_count(object.0, object.1)
+}
+
+/// The value that an object of a PDO has by default.
+fn default_of<'a>(items: &[Item<'a>], object: (u16, u8)) -> Option<Value<'a>>
+    ensures { (file : _) → AreOf file items.now → IfSome result (Gives file) }
+{
+    if !has_default(object) {
+        return None;
+    }
+    let item = *item_of_object(items, object, "DefaultValue")?;
+    Some(Value {
+        object,
+        item,
+        described: item,
+    })
+}
+
+/// Whether the file gives an object of a PDO a value that can be written, its own or the one that it has by default.
+fn is_given(items: &[Item<'_>], object: (u16, u8), node: NodeId) -> bool {
+    let value = match item_of_object(items, object, "ParameterValue") {
+        Some(item) => own_value(item),
+        None => default_of(items, object),
+    };
+    match value {
+        Some(value) => is_set(items, &value) && valued(items, &value, node).is_ok(),
+        None => false,
+    }
+}
+
+/// The index of the communication parameters of the PDO of this mapping.
+fn cob_id_of(mapping: u16) -> u16 {
+    mapping & !0x0200
+}
+
+/// Whether the file gives the PDO of this mapping a COB-ID, and a number of mapped objects, that can be written.
+fn is_mapped(items: &[Item<'_>], mapping: u16, node: NodeId) -> bool {
+    is_given(items, (cob_id_of(mapping), 1), node) && is_given(items, (mapping, 0), node)
+}
+
+/// Whether no value of the same object that may be written stands before this one in the file.
+fn is_first(items: &[Item<'_>], value: &Value<'_>) -> bool {
+    for item in items {
+        if item.line == value.item.line {
+            return true;
+        }
+        if !item.value.is_empty()
+            && let Some(other) = value_at(items, item)
+            && other.object.0 == value.object.0
+            && is_set(items, &other)
+        {
+            return false;
+        }
+    }
+    true
 }
 
 /// Whether the section is named for this object.
@@ -261,12 +425,12 @@ fn name_of<'a>(items: &[Item<'a>], item: &Item<'a>) -> &'a [u8] {
     value_beside(items, item, "ParameterName").unwrap_or(b"")
 }
 
-/// Whether an item is a value that may be written to this object.
-fn is_set(items: &[Item<'_>], item: &Item<'_>, index: u16) -> bool {
-    if is_left_out(index) {
+/// Whether a value may be written to its object.
+fn is_set(items: &[Item<'_>], value: &Value<'_>) -> bool {
+    if is_left_out(value.object.0) {
         return false;
     }
-    match value_beside(items, item, "AccessType") {
+    match value_beside(items, &value.described, "AccessType") {
         Some(access) => is_writable(access),
         None => false,
     }
@@ -304,41 +468,70 @@ fn collect<'a>(alloc: Global, items: &[Item<'a>], node: NodeId) -> Result<Settin
 }
 
 /// The most writes that a slave of a network list has.
-const MOST_WRITES: usize = 32;
+pub(crate) const MOST_WRITES: u8 = 32;
 
-/// Leaves out the writes behind the most that a slave has.
-fn leave_many<'a>(
+/// Whether both writes are of one PDO.
+fn is_one_pdo(one: &Setting<'_>, other: &Setting<'_>) -> bool {
+    match (pdo_of(one.write.index), pdo_of(other.write.index)) {
+        (Some(one), Some(other)) => one == other,
+        _ => false,
+    }
+}
+
+/// How many of the first writes the slave has, `most` at most: of each PDO all of its writes, or none.
+fn first_whole(settings: &[Setting<'_>], most: u8) -> usize
+    ensures few { result ≤ most }
+    ensures within { result ≤ length settings.now }
+{
+    let mut count = usize::from(most);
+    if settings.len() <= count {
+        return settings.len();
+    }
+    while 0 < count && is_one_pdo(&settings[count - 1], &settings[count]) {
+        count -= 1;
+    }
+    count
+}
+
+/// Leaves out the writes behind those that the slave has.
+fn leave_behind<'a>(
     settings: &[Setting<'a>],
+    count: usize,
     unwritten: &mut Vec<Unwritten<'a>>,
 ) -> Result<(), AllocError> {
-    for setting in settings.get(MOST_WRITES..).unwrap_or(&[]) {
+    for setting in settings.get(count..).unwrap_or(&[]) {
         unwritten.push(Unwritten {
             object: (setting.write.index, setting.write.sub),
             name: setting.name,
-            reason: Reason::Many,
+            reason: Reason::Behind,
         })?;
     }
     Ok(())
 }
 
-/// The writes of a file for the device of this node, in the order in which they are made, 32 at most.
+/// The writes of a file for the device of this node, in the order in which they are made, `most` at most.
 pub(crate) fn settings_of<'a>(
     alloc: Global,
     items: &[Item<'a>],
     node: NodeId,
+    most: u8,
 ) -> Result<Settings<'a>, AllocError>
     ensures all { (file : _) → AreOf file items.now → IfOk result (AllWrites (IsSetting file node)) }
-    ensures few { IfOk result (λ s. vec_len s.settings ≤ 32) }
+    ensures few { IfOk result (λ s. vec_len s.settings ≤ most) }
 {
     let Settings {
         mut settings,
         mut unwritten,
+        behind: _,
     } = collect(alloc, items, node)?;
     settings.sort_by_key(|setting| setting.rank)?;
-    leave_many(settings.as_slice(), &mut unwritten)?;
-    settings.truncate(MOST_WRITES);
+    let count = first_whole(settings.as_slice(), most);
+    let behind = settings.len() - count;
+    leave_behind(settings.as_slice(), count, &mut unwritten)?;
+    settings.truncate(count);
     Ok(Settings {
         settings,
         unwritten,
+        behind,
     })
 }

@@ -1,6 +1,8 @@
 //! An imported slave as a table of a network list in TOML.
 
-use crate::importing::imported::Imported;
+use crate::importing::device_file::Item;
+use crate::importing::device_number::NumberFault;
+use crate::importing::imported::{Identity, Imported};
 use crate::importing::settings::{Reason, Setting, Unwritten};
 use crate::shown::{LONGEST_TEXT, put_letter, put_text};
 use cm_netlist::SlaveEntry;
@@ -14,8 +16,8 @@ fn put_hex<W: Write>(digits: &[u8], out: &mut W) -> io::Result<()> {
     out.write_all(digits)
 }
 
-/// Writes a name, which is text in UTF-8, else in Latin-1.
-fn put_name<W: Write>(name: &[u8], out: &mut W) -> io::Result<()> {
+/// Writes a name or a value, which is text in UTF-8, else in Latin-1.
+pub(crate) fn put_name<W: Write>(name: &[u8], out: &mut W) -> io::Result<()> {
     if let Ok(text) = str::from_utf8(name) {
         return put_text(text, out);
     }
@@ -54,6 +56,40 @@ pub(crate) fn put_identity<W: Write>(
     put_key("revision", revision, out)
 }
 
+/// Writes that a part of the identity stands in the file and is no number, where that is so.
+fn put_unread<W: Write>(
+    found: &Result<u32, Item<'_>>,
+    part: &str,
+    front: &str,
+    out: &mut W,
+) -> io::Result<()> {
+    let Err(item) = found else {
+        return Ok(());
+    };
+    write!(out, "{front}{part}: '")?;
+    put_name(item.value, out)?;
+    let line = item.line;
+    writeln!(out, "' of line {line} is no number")
+}
+
+/// Writes a line, with these words in front, for each part of the identity that stands in the file and is no number.
+pub(crate) fn put_uncompared<W: Write>(
+    identity: &Identity<'_>,
+    front: &str,
+    out: &mut W,
+) -> io::Result<()> {
+    put_unread(&identity.device_type, "1000h, device type", front, out)?;
+    put_unread(&identity.vendor, "1018h sub 1, vendor-ID", front, out)?;
+    put_unread(&identity.product, "1018h sub 2, product code", front, out)?;
+    put_unread(
+        &identity.revision,
+        "1018h sub 3, revision number",
+        front,
+        out,
+    )?;
+    put_unread(&identity.serial, "1018h sub 4, serial number", front, out)
+}
+
 /// Writes a value in the digits of its size.
 fn put_value<W: Write>(size: u8, value: u32, out: &mut W) -> io::Result<()> {
     let digits = hex8(value);
@@ -90,17 +126,23 @@ fn put_writes<W: Write>(settings: &[Setting<'_>], out: &mut W) -> io::Result<()>
 fn reason_words(reason: Reason) -> &'static str {
     match reason {
         Reason::Size => "its data type has no size of 1, 2 or 4 bytes",
-        Reason::Number => "its value is no number",
-        Reason::Wide => "its value is too wide for its data type",
-        Reason::CobId => "its PDO's COB-ID isn't given, or can't be written",
-        Reason::Many => "32 writes stand before it",
+        Reason::Number(NumberFault::None) => "its value is no number of its data type",
+        Reason::Number(NumberFault::Wide) => "its value is too wide for its data type",
+        Reason::Number(NumberFault::Whole) => {
+            "a REAL32 has a point, or stands as its bits behind 0x"
+        }
+        Reason::Mapping => {
+            "its PDO's COB-ID or number of objects isn't given, or can't be written"
+        }
+        Reason::Compact => "its object's CompactSubObj has no such sub-index",
+        Reason::Behind => "it stands behind the first writes",
     }
 }
 
-/// Writes what isn't written to the device, and why.
-pub(crate) fn put_unwritten<W: Write>(unwritten: &Unwritten<'_>, out: &mut W) -> io::Result<()> {
+/// Writes what isn't written to the device, and why, behind these words.
+fn put_unwritten<W: Write>(unwritten: &Unwritten<'_>, front: &str, out: &mut W) -> io::Result<()> {
     let (index, sub) = unwritten.object;
-    write!(out, "not written: {index:04X}h sub {sub}")?;
+    write!(out, "{front}{index:04X}h sub {sub}")?;
     if !unwritten.name.is_empty() {
         out.write_all(b", ")?;
         put_name(unwritten.name, out)?;
@@ -108,11 +150,14 @@ pub(crate) fn put_unwritten<W: Write>(unwritten: &Unwritten<'_>, out: &mut W) ->
     writeln!(out, ": {}", reason_words(unwritten.reason))
 }
 
-/// Writes a comment for each value that isn't written.
-fn put_all_unwritten<W: Write>(all: &[Unwritten<'_>], out: &mut W) -> io::Result<()> {
+/// Writes a line, with these words in front, for each value that isn't written.
+pub(crate) fn put_all_unwritten<W: Write>(
+    all: &[Unwritten<'_>],
+    front: &str,
+    out: &mut W,
+) -> io::Result<()> {
     for unwritten in all {
-        out.write_all(b"# ")?;
-        put_unwritten(unwritten, out)?;
+        put_unwritten(unwritten, front, out)?;
     }
     Ok(())
 }
@@ -122,6 +167,7 @@ fn put_terms<W: Write>(entry: &SlaveEntry, out: &mut W) -> io::Result<()> {
     writeln!(out, "assignment = 0x{:08X}", entry.assignment.0)?;
     put_key("device_type", entry.device_type, out)?;
     put_identity(entry.vendor, entry.product, entry.revision, out)?;
+    put_key("serial", entry.serial, out)?;
     if entry.heartbeat_ms == 0 {
         return Ok(());
     }
@@ -135,5 +181,7 @@ pub(crate) fn put_imported<W: Write>(slave: &Imported<'_>, out: &mut W) -> io::R
     writeln!(out, "id = {}", slave.id.get())?;
     put_terms(&slave.entry, out)?;
     put_writes(slave.settings.settings.as_slice(), out)?;
-    put_all_unwritten(slave.settings.unwritten.as_slice(), out)
+    put_uncompared(&slave.identity, "# not compared: ", out)?;
+    let unwritten = slave.settings.unwritten.as_slice();
+    put_all_unwritten(unwritten, "# not written: ", out)
 }

@@ -9,6 +9,7 @@ ghost use Rattle.canboot.specs.Going.{Follows};
 ghost use Rattle.canboot.specs.Sendings.{HasSentSteps, IsFrameFor, is_frame};
 
 use crate::live::ending::Ending;
+use crate::live::hearing::count_beats;
 use crate::live::progress::Course;
 use cm_can::{CanFrame, ErrorControl, error_control_frame, guard_request};
 use cm_live::Outlet;
@@ -32,6 +33,7 @@ fn frame_of(network: &Network, step: &Step) -> Option<CanFrame>
         Step::Guard(id) => Some(guard_request(*id)),
         Step::Lost(_)
         | Step::Boot(_)
+        | Step::Wake(_)
         | Step::Signal(_, _)
         | Step::LeftOut(_, _)
         | Step::TimeOver(_)
@@ -80,6 +82,7 @@ impl<'w, 'a, 'n, R: Wait + Clock> Course<'w, 'a, 'n, R> {
         let alloc = self.setting.alloc;
         let steps = self.progress.watch.error_control(alloc, self.network, now)?;
         send_steps(self.network, steps.as_slice(), outlet);
+        count_beats(&mut self.teller.notices, steps.as_slice());
         if outlet.has_failed() {
             self.setting.broken.store(true, Ordering::SeqCst);
         }

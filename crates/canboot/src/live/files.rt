@@ -3,15 +3,15 @@
 ghost use Rattle.std.specs.Prelude.{◌≡◌, ◌≤◌, ◌⊎◌, IfErr, IfOk, vec_len};
 ghost use Rattle.canboot.specs.Program.{channel_closing, channel_opening, format_of};
 
-use crate::live::journal_file::make_journal;
+use crate::live::event_file::EventFile;
+use crate::live::journal_file::{JournalFile, make_journal};
 use crate::live::operator_input::{OperatorInput, open_operator};
 use crate::live::paths::wrong_path;
 use crate::live::{Followed, LiveEnds, LiveOptions, ReplaceFile, StatusFile, live_text};
-use crate::refusing::{read_fault_of, refuse_explained};
-use canboot_check::{
-    FAILED, LONGEST_LIST, MISUSED, REFUSED, fault_line, input_fault_line, list_of, read_fault,
-};
-use canboot_run::write_fault;
+use crate::refusing::names_fault::explain_names;
+use crate::refusing::{read_fault_of, refuse_explained, unread_fault_of, write_fault_of};
+use canboot_check::{FAILED, LONGEST_LIST, MISUSED, REFUSED, fault_line, list_of, read_fault};
+use canboot_run::{JournalOutput, write_fault};
 use canboot_words::{
     BusPaths, JournalPath, LivePaths, LiveWords, Names, NamesFault, ShownLines, read_names,
 };
@@ -143,7 +143,8 @@ fn operator_fault<E: Write>(err: &mut E, kind: ErrorKind) -> u8
     }
 }
 
-/// The bytes of the file of this path. The answer is else the exit status; the line of fault is written, and why the file can't be opened.
+/// The bytes of the file of this path. The answer is else the exit status; the line of fault is written, and why the file can't be
+/// opened or read.
 pub(crate) fn read_file<R: Files + AllocGlobal, E: Write>(
     rt: &R,
     path: &str,
@@ -154,10 +155,30 @@ pub(crate) fn read_file<R: Files + AllocGlobal, E: Write>(
     match fs::open(rt, path) {
         Ok(mut file) => match read_input(rt.alloc(), &mut file, LONGEST_LIST) {
             Ok(text) => Ok(text),
-            Err(fault) => Err(input_fault_line(err, fault)),
+            Err(fault) => Err(unread_fault_of(rt, err, path, fault)),
         },
         Err(error) => Err(read_fault_of(err, path, error.kind())),
     }
+}
+
+/// Writes the line of fault of a text of names, and behind it where it applies. The answer is the exit status.
+fn refuse_names<E: Write>(
+    alloc: Global,
+    path: &str,
+    text: &[u8],
+    fault: NamesFault,
+    err: &mut E,
+) -> u8
+    ensures { (result ≡ 1) ⊎ (result ≡ 3) }
+{
+    let status = match fault {
+        NamesFault::OutOfMemory => fault_line(err, FAILED, "out of memory"),
+        NamesFault::NotToml => fault_line(err, REFUSED, "names: not TOML"),
+        NamesFault::BadNode => fault_line(err, REFUSED, "names: bad node-ID"),
+        NamesFault::BadName => fault_line(err, REFUSED, "names: bad name"),
+    };
+    explain_names(alloc, path, text, fault, err);
+    status
 }
 
 /// The names of the file of this path; none without a path.
@@ -175,27 +196,28 @@ fn read_names_file<R: Files + AllocGlobal, E: Write>(
         Ok(text) => text,
         Err(status) => return Err(status),
     };
-    match read_names(rt.alloc(), text.as_slice()) {
+    let bytes = text.as_slice();
+    match read_names(rt.alloc(), bytes) {
         Ok(names) => Ok(names),
-        Err(NamesFault::OutOfMemory) => Err(fault_line(err, FAILED, "out of memory")),
-        Err(NamesFault::NotToml) => Err(fault_line(err, REFUSED, "names: not TOML")),
-        Err(NamesFault::BadNode) => Err(fault_line(err, REFUSED, "names: bad node-ID")),
-        Err(NamesFault::BadName) => Err(fault_line(err, REFUSED, "names: bad name")),
+        Err(fault) => Err(refuse_names(rt.alloc(), path, bytes, fault, err)),
     }
 }
 
-/// Opens what events are written to, if they are: it is made where it isn't there, and what it has stays. A FIFO is opened both ways,
-/// so that nobody needs to read it.
-fn open_events<R: Files<File = File>>(rt: &R, path: Option<&str>) -> io::Result<Option<File>> {
+/// Opens what events are written to, if they are. The answer is else the exit status.
+fn open_events<R: Files<File = File>, E: Write>(
+    rt: &R,
+    path: Option<&str>,
+    err: &mut E,
+) -> Result<Option<EventFile>, u8>
+    ensures { IfErr result (λ status. status ≡ 3) }
+{
     let Some(path) = path else {
         return Ok(None);
     };
-    let file = OpenOptions::new()
-        .read(true)
-        .append(true)
-        .create(true)
-        .open(rt, path)?;
-    Ok(Some(file))
+    match EventFile::open(rt, path) {
+        Ok(file) => Ok(Some(file)),
+        Err(error) => Err(write_fault_of(err, path, error.kind())),
+    }
 }
 
 /// Where the report so far is written, if it is.
@@ -211,21 +233,29 @@ fn status_file<F: Drop>(
     Ok(Some(StatusFile { files, path }))
 }
 
-/// Opens where other programs follow a live run.
-fn open_followed<R: Files<File = File> + AllocGlobal, F: Drop>(
+/// Opens where other programs follow a live run. The answer is else the exit status.
+fn open_followed<R: Files<File = File> + AllocGlobal, F: Drop, E: Write>(
     rt: &R,
     paths: &LivePaths<'_>,
     files: F,
-) -> io::Result<Followed<File, F>> {
-    let events = open_events(rt, paths.events)?;
-    let status = status_file(rt.alloc(), paths.status, files)?;
-    Ok(Followed { events, status })
+    err: &mut E,
+) -> Result<Followed<EventFile, F>, u8>
+    ensures { IfErr result (λ status. status ≡ 3) }
+{
+    let events = match open_events(rt, paths.events, err) {
+        Ok(events) => events,
+        Err(status) => return Err(status),
+    };
+    match status_file(rt.alloc(), paths.status, files) {
+        Ok(status) => Ok(Followed { events, status }),
+        Err(error) => Err(write_fault(err, error.kind())),
+    }
 }
 
 /// What a live run reads and writes, opened.
 #[derive(Drop)]
 struct OpenEnds<F> {
-    ends: LiveEnds<File, OperatorInput, BufWriter<File>, File, F>,
+    ends: LiveEnds<File, OperatorInput, BufWriter<File>, EventFile, F>,
     messages: Outlet<BufWriter<File>>,
     /// The bus itself.
     sent: File,
@@ -263,9 +293,9 @@ fn open_ends<
     let (Some(writer), Some(error_control)) = (written.pop(), written.pop()) else {
         return Err(fault_line(err, FAILED, "out of memory"));
     };
-    let followed = match open_followed(rt, paths, files) {
+    let followed = match open_followed(rt, paths, files, err) {
         Ok(followed) => followed,
-        Err(error) => return Err(write_fault(err, error.kind())),
+        Err(status) => return Err(status),
     };
     Ok(OpenEnds {
         ends: LiveEnds {
@@ -280,8 +310,37 @@ fn open_ends<
     })
 }
 
-/// Runs over what was opened, and its journal's file, which is made first. Each line of the run on `err` has its time, and words in
-/// colour and with names where these are asked for.
+/// Makes the file of the journal, if there is one. Where another is taken than the path's own, that is told as a line of the run is.
+fn make_journal_told<R: Files<File = File> + Clock + AllocGlobal, E: Write>(
+    rt: &R,
+    journal: JournalPath<'_>,
+    err: &mut E,
+    is_coloured: bool,
+) -> io::Result<JournalOutput<JournalFile<File>>> {
+    let names = Names::new(rt.alloc());
+    let mut shown = ShownLines::new(rt, rt.alloc(), err, is_coloured, Some(&names));
+    make_journal(rt, journal.path, journal.is_synced, &mut shown)
+}
+
+/// The same. The answer is else the exit status.
+fn open_journal<R: Files<File = File> + Clock + AllocGlobal, E: Write>(
+    rt: &R,
+    journal: JournalPath<'_>,
+    err: &mut E,
+    is_coloured: bool,
+) -> Result<JournalOutput<JournalFile<File>>, u8>
+    ensures { IfErr result (λ status. status ≡ 3) }
+{
+    let made = make_journal_told(rt, journal, err, is_coloured);
+    match (made, journal.path) {
+        (Ok(output), _) => Ok(output),
+        (Err(error), Some(path)) => Err(write_fault_of(err, path, error.kind())),
+        (Err(error), None) => Err(write_fault(err, error.kind())),
+    }
+}
+
+/// Runs over what was opened, and its journal's file. Each line of the run on `err` has its time, and words in colour and with names
+/// where these are asked for.
 fn live_over<
     R: Files<File = File>
         + Clock
@@ -299,7 +358,7 @@ fn live_over<
 >(
     rt: &R,
     text: &[u8],
-    journal: JournalPath<'_>,
+    mut journal: JournalOutput<JournalFile<File>>,
     options: LiveOptions,
     opened: OpenEnds<F>,
     out: &mut O,
@@ -314,10 +373,6 @@ fn live_over<
         mut sent,
     } = opened;
     let mut messages = Some(messages);
-    let mut journal = match make_journal(rt, journal.path, journal.is_synced, shown) {
-        Ok(output) => output,
-        Err(error) => return write_fault(shown, error.kind()),
-    };
     let _ = sent.write_all(channel_opening(options.format));
     let mut list = text;
     let status = live_text(
@@ -384,6 +439,10 @@ pub(crate) fn live_file<
             path: None,
             is_synced: false,
         }
+    };
+    let journal = match open_journal(rt, journal, err, is_coloured) {
+        Ok(output) => output,
+        Err(status) => return status,
     };
     let mut shown = ShownLines::new(rt, rt.alloc(), err, is_coloured, Some(&names));
     live_over(

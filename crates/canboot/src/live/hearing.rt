@@ -15,7 +15,7 @@ use cm_can::Remark;
 use cm_history::Entry;
 use cm_netlist::Network;
 use cm_sequential::frames;
-use cm_watch::{Notice, Notices};
+use cm_watch::{Notice, Notices, Step};
 use std::io::{self, Write};
 use std::sync::Wait;
 use std::time::Clock;
@@ -27,6 +27,17 @@ pub(crate) fn count_sent(notices: &mut Notices, network: &Network, entry: &Entry
 {
     let sent = frames(network, entry.orders);
     notices.send(sent.as_slice());
+}
+
+/// Our own boot-up message, if these steps have it, is ours: it comes back at most once. It is counted before what comes back is taken.
+pub(crate) fn count_beats(notices: &mut Notices, steps: &[Step])
+    ensures { notices.new.sent ≡ notices.old.sent }
+{
+    for step in steps {
+        if let Step::Beat(0) = step {
+            notices.boot_up();
+        }
+    }
 }
 
 impl Events {

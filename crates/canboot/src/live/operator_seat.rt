@@ -3,10 +3,9 @@ ghost use Rattle.std.specs.Prelude.{◌≡◌, ◌++◌, ◌∷◌, [], Err, IfO
 ghost use Rattle.cm_nmt.specs.Bits.{has_bit};
 ghost use Rattle.cm_live.specs.Receiving.{IsReceivedList};
 ghost use Rattle.canboot.specs.Operated.{IsOperators};
-ghost use Rattle.cm_live.specs.Console.{IsOfWatch};
 ghost use Rattle.cm_history.specs.declared.call.Call.TheVariants.{Request as RequestCall};
 ghost use Rattle.canboot.specs.Steps.{HasMadeOrNot, calls_made};
-ghost use Rattle.canboot.specs.Typing.{SpellsRequest};
+ghost use Rattle.canboot.specs.Typing.{IsUntyped, SpellsRequest};
 ghost use Rattle.canboot.specs.Workers.{AreOfItsSeat};
 
 use canboot_run::{NoHistory, not_called, started};
@@ -28,12 +27,12 @@ fn spells(line: &[u8], target: u8, value: u8) -> bool
     }
 }
 
-/// The operator's seat, which has started the network. Its requests are those that were typed, in their order, and it
-/// makes no report. Contracts see the seat.
+/// The operator's seat, which has started the network. Its requests are those that were typed, in their order, and those that wake
+/// slaves, and it makes no report. Contracts see the seat.
 #[derive(Drop)]
 pub struct OperatorSeat<K: RunName, B: BusName> {
     seat: Seat<K>,
-    /// The place of the line of its last request.
+    /// The place of the line of its last typed request.
     last: u64,
     of: PhantomData<B>,
 }
@@ -78,14 +77,14 @@ impl<K: RunName, B: BusName> OperatorSeat<K, B> {
         }
     }
 
-    /// Makes a call that is neither a report nor a request.
+    /// Makes a call that is neither a report nor a request, but for one that wakes a slave.
     pub fn call<R: Wait, M: SharedManager<K, R>>(
         &mut self,
         rt: &R,
         register: &M,
         call: Call,
     ) -> Result<Receipt, CallFault>
-        requires { IsOfWatch call }
+        requires { IsUntyped call }
         ensures made { IfOk result (λ _. calls_made self.new ≡ calls_made self.old ++ call ∷ []) }
         ensures same { OnErr result (self.new ≡ self.old) }
     {
@@ -93,7 +92,7 @@ impl<K: RunName, B: BusName> OperatorSeat<K, B> {
     }
 
     /// Makes the request that a typed line spells. There is no receipt where it spells another, or where it doesn't stand
-    /// behind the line of the last request; this never comes, though no clause says so.
+    /// behind the line of the last typed request; this never comes, though no clause says so.
     pub fn request<R: Wait, M: SharedManager<K, R>>(
         &mut self,
         rt: &R,
@@ -121,7 +120,7 @@ impl<K: RunName, B: BusName> OperatorSeat<K, B> {
         &self.seat
     }
 
-    /// The seat, and the place of the line of its last request.
+    /// The seat, and the place of the line of its last typed request.
     pub(crate) fn into_seat(self) -> (Seat<K>, u64)
         ensures received { IsReceivedList B.format B.text K.net result.0.list }
         ensures operators { IsOperators B.typed result.0 result.1 }

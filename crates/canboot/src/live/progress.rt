@@ -305,7 +305,7 @@ impl<'w, 'a, 'n, R: Wait + Clock> Course<'w, 'a, 'n, R> {
     }
 }
 
-/// The state in the error control message of a node that came last, where it came since the watch noted one and has the state
+/// The state in the error control message of a node that came last, where it came after the watch noted one and has the state
 /// that it noted last: another state, and a boot-up message, comes as a happening of its own, and so does each answer of a node
 /// that is guarded.
 fn state_again(
@@ -320,7 +320,7 @@ fn state_again(
     let (at, byte) = last?;
     let noted = noted?;
     let state = byte % 128;
-    if guard_ms == 0 && state != 0 && state_noted == Some(state) && noted <= at {
+    if guard_ms == 0 && state != 0 && state_noted == Some(state) && noted < at {
         Some(state)
     } else {
         None

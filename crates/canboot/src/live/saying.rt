@@ -11,7 +11,9 @@ use crate::live::progress::Course;
 use crate::live::setting::Setting;
 use crate::live::versions::manager_seen;
 use crate::live::watching::is_set;
-use canboot_words::{EntryWords, Event, Nodes, RunEnds, running_by, say, tell_entry, tell_told};
+use canboot_words::{
+    EntryWords, Event, Nodes, RunEnds, running_by, say, started_too, tell_entry, tell_told,
+};
 use cm_history::Entry;
 use cm_netlist::Network;
 use cm_register::{RunName, Seat};
@@ -143,12 +145,14 @@ impl<'w, 'a, 'n, R: Wait + Clock> Course<'w, 'a, 'n, R> {
                 .tried
                 .unbooted(&untold.value, &self.progress.watch),
         };
+        let (watch, tried) = (&self.progress.watch, &self.progress.tried);
+        let too = started_too(self.network, watch, tried, &untold.value.orders, is_handed);
         let _ = tell_entry(err, &words);
-        let _ = tell_told(err, running, &untold.value, &untold.told);
+        let _ = tell_told(err, &too, running, &untold.value, &untold.told);
         let rt = self.setting.rt;
         self.teller
             .events
-            .tell_untold(rt, self.network, untold, is_handed, running);
+            .tell_untold(rt, self.network, untold, is_handed, &too, running);
     }
 
     /// Tells the next entry that waits, if its frames were handed to the wire; at the end of the run, also if not. Whether

@@ -2,8 +2,8 @@
 
 ghost use Rattle.std.specs.Prelude.{◌≡◌, IfNone, IfSome, None, length, slice_index_or};
 ghost use Rattle.cm_netlist.specs.Workers.{worker_of};
-ghost use Rattle.cm_live.specs.Console.{IsOfWatch};
 ghost use Rattle.canboot.specs.Steps.{call_for};
+ghost use Rattle.canboot.specs.Typing.{IsUntyped};
 
 use cm_history::Call;
 use cm_netlist::worker_of;
@@ -11,11 +11,14 @@ use cm_nmt::NodeId;
 use cm_watch::Step;
 use crossbeam_channel::Sender;
 
-/// The call that a step is, if it is one: a boot is handed to a worker, what was left out is told, what is sent for error control
-/// is a frame, and the run ends.
+/// The value of a request that asks a node to enter pre-operational (CiA 302-2, request NMT).
+const PRE_OPERATIONAL: u8 = 127;
+
+/// The call that a step is, if it is one: a slave that is woken is asked to enter pre-operational; a boot is handed to a worker, what
+/// was left out is told, what is sent for error control is a frame, and the run ends.
 pub(crate) fn call_of(step: &Step) -> Option<Call>
     ensures call { result ≡ call_for step.now }
-    ensures watched { IfSome result IsOfWatch }
+    ensures untyped { IfSome result IsUntyped }
 {
     match step {
         Step::Lost(id) => {
@@ -25,6 +28,10 @@ pub(crate) fn call_of(step: &Step) -> Option<Call>
         Step::Signal(id, byte) => {
             let _in_range = id.get();
             Some(Call::Signal(*id, *byte))
+        }
+        Step::Wake(id) => {
+            let target = id.get();
+            Some(Call::Request(target, PRE_OPERATIONAL))
         }
         Step::TimeOver(ms) | Step::AllTried(ms) => Some(Call::Elapsed(*ms)),
         Step::Boot(_) | Step::LeftOut(_, _) | Step::Beat(_) | Step::Guard(_) | Step::End => None,

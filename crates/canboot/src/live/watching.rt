@@ -2,11 +2,11 @@
 
 ghost use Rattle.std.specs.Prelude.{◌≡◌, ◌<◌, ◌^◌, ◌++◌, ◌∷◌, [], IfOk};
 ghost use Rattle.cm_netlist.specs.Network.{Network as NetworkList};
-ghost use Rattle.cm_live.specs.Console.{IsOfWatch};
 ghost use Rattle.cm_watch.specs.Pasts.{Past};
 ghost use Rattle.cm_watch.specs.declared.settings.Settings.{Settings as WatchSettings};
 ghost use Rattle.canboot.specs.Going.{Follows, GoesOn, HasTaken};
 ghost use Rattle.canboot.specs.Steps.{calls_made};
+ghost use Rattle.canboot.specs.Typing.{IsUntyped};
 
 use crate::live::console::show_report;
 use crate::live::ending::Ending;
@@ -135,9 +135,9 @@ impl<'w, 'a, 'n, R: Wait + Clock + Drop, K: RunName, B: BusName, M: LiveRegister
         operator
     }
 
-    /// Makes a call that is neither a report nor a request.
+    /// Makes a call that is neither a report nor a request, but for one that wakes a slave.
     pub(crate) fn call(&mut self, call: Call) -> Result<(), Ending>
-        requires { IsOfWatch call }
+        requires { IsUntyped call }
         ensures made { IfOk result (λ _. calls_made self.new.operator ≡ calls_made self.old.operator ++ call ∷ []) }
         ensures course { self.new.course ≡ self.old.course }
     {

@@ -6,7 +6,7 @@ ghost use Rattle.canboot.specs.Faults.{fault_of};
 use crate::live::booth::Booth;
 use crate::live::heard_seat::HeardSeat;
 use crate::live::setting::Setting;
-use cm_live::{BusName, Happening, LiveBus, LivePort, Outlet, Received};
+use cm_live::{BusName, Happening, LiveBus, LivePort, Outlet, Patience, Received};
 use cm_nmt::NodeId;
 use cm_register::{CallFault, RunName, Seat, SharedManager};
 use cm_run::{Last, Outcome};
@@ -121,7 +121,7 @@ pub(crate) fn make_bus<'a, 'n, R: Wait + Clock + Clone + Drop, B: BusName, W: Wr
         listening: Arc::try_clone(&setting.listening)?,
         outlet: Outlet::new(writer, setting.options.format),
         broken: Arc::try_clone(&setting.broken)?,
-        deadline: None,
+        patience: Patience::none(),
     };
     let answer_ms = setting.options.answer_ms;
     let bus = LiveBus::new(setting.alloc, setting.network, answer_ms, port)?;

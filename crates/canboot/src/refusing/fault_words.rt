@@ -140,9 +140,15 @@ fn put_integer<W: Write>(
     }
     put_key(table, key.name, out)?;
     if fault == NetFault::WrongKind {
-        return out.write_all(b": an integer");
+        return out.write_all(b": must be an integer");
     }
-    write!(out, ": {} to {}{}", key.least, key.greatest, unit(key.name))
+    write!(
+        out,
+        ": must be {} to {}{}",
+        key.least,
+        key.greatest,
+        unit(key.name)
+    )
 }
 
 /// The name of these that is the nearest to this one, if it is 3 letters apart at most; of several the first.
@@ -193,9 +199,9 @@ fn put_unknown<W: Write>(alloc: Global, name: &str, is_slave: bool, out: &mut W)
 fn put_no_array<W: Write>(table: &Table, is_slave: bool, out: &mut W) -> io::Result<()> {
     put_key(table, array_name(is_slave), out)?;
     if is_slave {
-        out.write_all(b": an array of arrays of four integers")
+        out.write_all(b": must be an array of arrays of four integers")
     } else {
-        out.write_all(b": an array of tables")
+        out.write_all(b": must be an array of tables")
     }
 }
 
@@ -234,7 +240,7 @@ fn put_element<W: Write>(
     }
     put_ordinal(number, " slave", out)?;
     put_value(element, out)?;
-    out.write_all(b": a table")
+    out.write_all(b": must be a table")
 }
 
 /// Writes what is wrong with a slave as a whole.

@@ -103,17 +103,20 @@ fn put_part<W: Write>(write: &Value, part: WritePart, out: &mut W) -> io::Result
 fn put_no_write<W: Write>(write: &Value, out: &mut W) -> io::Result<()> {
     let Some(values) = write.as_array() else {
         put_value(write, out)?;
-        return out.write_all(b": an array of four integers");
+        return out.write_all(b": must be an array of four integers");
     };
     if values.len() != 4 {
         let count = values.len();
         let unit = if count == 1 { "value" } else { "values" };
-        return write!(out, " has {count} {unit}: an array of four integers");
+        return write!(
+            out,
+            " has {count} {unit}: must be an array of four integers"
+        );
     }
     for part in parts() {
         if integer_of(write, part).is_none() {
             put_part(write, part, out)?;
-            return out.write_all(b": an integer");
+            return out.write_all(b": must be an integer");
         }
     }
     Ok(())
@@ -124,7 +127,7 @@ fn put_outside<W: Write>(write: &Value, out: &mut W) -> io::Result<()> {
     for part in parts() {
         if is_part_outside(write, part) {
             put_part(write, part, out)?;
-            return write!(out, ": {}", part_range(part));
+            return write!(out, ": must be {}", part_range(part));
         }
     }
     Ok(())
@@ -138,7 +141,7 @@ fn put_wide<W: Write>(write: &Value, out: &mut W) -> io::Result<()> {
     write!(out, ", {index:04X}h sub {sub}")?;
     put_part(write, WritePart::Value, out)?;
     let most = if size == 1 { 255 } else { 65_535 };
-    write!(out, ": 0 to {most}, as its size is {size}")
+    write!(out, ": must be 0 to {most}, as its size is {size}")
 }
 
 /// Writes what is wrong with a write, behind which of the slave's it is.

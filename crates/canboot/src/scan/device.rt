@@ -4,6 +4,7 @@ ghost use Rattle.std.specs.Prelude.{◌≡◌, IfSome};
 ghost use Rattle.canboot.specs.Scanning.{IsHeardDevice, found_of};
 
 use crate::scan::device_name::{DeviceName, NameTalk};
+use crate::scan::doubles::{Double, DoubleTalk};
 use canboot_tools::Found;
 use cm_live::{BusName, Identity, LiveBus, Port, identify};
 use cm_nmt::NodeId;
@@ -16,6 +17,8 @@ pub(crate) struct HeardDevice<B: BusName> {
     found: Found,
     /// No bytes where it isn't known.
     name: DeviceName,
+    /// Two answers to one question, where another device answers at its node-ID too.
+    double: Option<Double>,
     of: PhantomData<B>,
 }
 
@@ -46,13 +49,14 @@ fn found_as(id: NodeId, identity: &Identity) -> Found
 
 impl<B: BusName> HeardDevice<B> {
     /// A device of which that is known.
-    fn of(found: Found, name: DeviceName) -> HeardDevice<B>
+    fn of(found: Found, name: DeviceName, double: Option<Double>) -> HeardDevice<B>
         requires { IsHeardDevice B.format B.text found }
         ensures { result ≡ found }
     {
         HeardDevice {
             found,
             name,
+            double,
             of: PhantomData,
         }
     }
@@ -74,13 +78,18 @@ impl<B: BusName> HeardDevice<B> {
         }
     }
 
+    /// Two answers to one question, where another device answers at its node-ID too.
+    pub(crate) fn double(&self) -> Option<Double> {
+        self.double
+    }
+
     /// Its node-ID as a number.
     pub(crate) fn node(&self) -> u8 {
         self.found.id.get()
     }
 }
 
-/// Asks a node what it is, and its name; `None` where it gives no device type.
+/// Asks a node what it is, its name, and whether another device answers there too; `None` where it gives no device type.
 pub(crate) fn hear_device<'n, B: BusName, P: Port<B>>(
     bus: &mut LiveBus<'n, B, P>,
     id: NodeId,
@@ -93,5 +102,10 @@ pub(crate) fn hear_device<'n, B: BusName, P: Port<B>>(
         name: DeviceName::new(),
     };
     bus.talk(&mut talk);
-    Some(HeardDevice::of(found_as(id, &identity), talk.name))
+    let mut again = DoubleTalk {
+        node: id,
+        double: None,
+    };
+    bus.talk(&mut again);
+    Some(HeardDevice::of(found_as(id, &identity), talk.name, again.double))
 }

@@ -6,9 +6,10 @@ ghost use Rattle.canboot.specs.Scanning.{IsHeardDevice};
 use crate::live::LiveOptions;
 use crate::live::setting::set_up;
 use crate::scan::asking::ask_nodes;
-use crate::scan::scanned::{NoScan, Scanned, in_order};
+use crate::scan::scanned::{BusSaid, NoScan, Scanned, in_order};
 use crate::scan::{ScanEnds, ScanOptions};
 use canboot_words::ReportForm;
+use cm_can::{BusState, CanError, Remark};
 use cm_live::{BusName, Happening};
 use cm_netlist::Network;
 use cm_nmt::NodeId;
@@ -38,30 +39,34 @@ fn live_options(options: ScanOptions) -> LiveOptions
     }
 }
 
-/// What was told of the bus while its nodes were asked.
-#[derive(Clone, Copy)]
-struct Bus {
-    /// Nothing is received any more.
-    is_over: bool,
-    /// 16 lines were received, and none of them is a frame.
-    are_strange: bool,
+/// The interface says this of the bus.
+fn take_error(said: &mut BusSaid, error: &CanError) {
+    if error.is_unacknowledged() {
+        said.is_unacknowledged = true;
+    }
+    if let Some(state) = error.state() {
+        said.state = Some(state);
+    }
 }
 
-/// What was told of the bus so far.
-fn told_of<R: Wait>(rt: &R, happenings: &Receiver<Happening>) -> Bus {
-    let mut bus = Bus {
+/// What was told of the bus so far, while its nodes were asked.
+fn told_of<R: Wait>(rt: &R, happenings: &Receiver<Happening>) -> BusSaid {
+    let mut said = BusSaid {
         is_over: false,
         are_strange: false,
+        is_unacknowledged: false,
+        state: None,
     };
     for _told in 0..ENDLESS {
         match happenings.try_recv(rt) {
-            Ok(Happening::NoMoreHeard) => bus.is_over = true,
-            Ok(Happening::NoFrames) => bus.are_strange = true,
+            Ok(Happening::NoMoreHeard) => said.is_over = true,
+            Ok(Happening::NoFrames) => said.are_strange = true,
+            Ok(Happening::Said(Remark::Error(error))) => take_error(&mut said, &error),
             Ok(_) => {}
             Err(_) => break,
         }
     }
-    bus
+    said
 }
 
 /// Asks these nodes on a bus that has a name.
@@ -88,11 +93,14 @@ fn find_on<
     if setting.broken.load(Ordering::SeqCst) {
         return Err(NoScan::NotWritten);
     }
-    let bus = told_of(rt, &happenings);
-    if bus.is_over {
+    let said = told_of(rt, &happenings);
+    if said.is_over {
         return Err(NoScan::NotHeard);
     }
-    Ok(in_order(alloc, devices, bus.are_strange)?)
+    if said.state == Some(BusState::Off) {
+        return Err(NoScan::BusOff);
+    }
+    Ok(in_order(alloc, devices, said)?)
 }
 
 /// Asks these nodes what they are; those that answered, in rising order.

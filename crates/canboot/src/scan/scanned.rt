@@ -4,10 +4,35 @@ ghost use Rattle.std.specs.Prelude.{All, IfOk};
 ghost use Rattle.canboot.specs.Scanning.{IsHeardDevice};
 
 use crate::scan::device::HeardDevice;
+use crate::scan::doubles::Double;
 use canboot_run::NoHistory;
 use canboot_tools::Found;
+use cm_can::BusState;
 use cm_live::BusName;
 use std::alloc::{AllocError, Global};
+
+/// What was told of the bus while its nodes were asked.
+#[derive(Clone, Copy)]
+pub(crate) struct BusSaid {
+    /// Nothing is received any more.
+    pub(crate) is_over: bool,
+    /// 16 lines were received, and none of them is a frame.
+    pub(crate) are_strange: bool,
+    /// The interface has said that no other node acknowledges what is sent.
+    pub(crate) is_unacknowledged: bool,
+    /// The state of the controller that the interface has said last, if it said one.
+    pub(crate) state: Option<BusState>,
+}
+
+impl BusSaid {
+    /// The state of the controller, where it isn't well.
+    pub(crate) fn trouble(self) -> Option<BusState> {
+        match self.state {
+            Some(BusState::Active | BusState::Restarted) => None,
+            state => state,
+        }
+    }
+}
 
 /// The devices that were found, in rising order of their node-IDs.
 #[derive(Drop)]
@@ -15,8 +40,10 @@ pub(crate) struct Scanned {
     pub(crate) found: Vec<Found>,
     /// What each of them is called, no bytes where that isn't known.
     pub(crate) names: Vec<Vec<u8>>,
-    /// Whether 16 lines were received, and none of them is a frame.
-    pub(crate) are_strange: bool,
+    /// Two answers of nodes at which two devices answer.
+    pub(crate) doubles: Vec<Double>,
+    /// What was told of the bus.
+    pub(crate) said: BusSaid,
 }
 
 /// Why a scan gives nothing.
@@ -30,6 +57,8 @@ pub(crate) enum NoScan {
     NotHeard,
     /// A frame couldn't be sent.
     NotWritten,
+    /// The controller takes no part in the bus any more.
+    BusOff,
 }
 
 impl From<AllocError> for NoScan {
@@ -47,11 +76,25 @@ impl From<NoHistory> for NoScan {
     }
 }
 
+/// Two answers of each node at which two devices answer.
+fn doubles_of<B: BusName>(
+    alloc: Global,
+    devices: &[HeardDevice<B>],
+) -> Result<Vec<Double>, AllocError> {
+    let mut doubles = Vec::new(alloc);
+    for device in devices {
+        if let Some(double) = device.double() {
+            doubles.push(double)?;
+        }
+    }
+    Ok(doubles)
+}
+
 /// These devices in rising order of their node-IDs.
 pub(crate) fn in_order<B: BusName>(
     alloc: Global,
     devices: Vec<HeardDevice<B>>,
-    are_strange: bool,
+    said: BusSaid,
 ) -> Result<Scanned, AllocError>
     ensures { IfOk result (λ s. All (IsHeardDevice B.format B.text) s.found.items) }
 {
@@ -63,9 +106,11 @@ pub(crate) fn in_order<B: BusName>(
         found.push(device.found())?;
         names.push(Vec::from_slice(alloc, device.name())?)?;
     }
+    let doubles = doubles_of(alloc, devices.as_slice())?;
     Ok(Scanned {
         found,
         names,
-        are_strange,
+        doubles,
+        said,
     })
 }

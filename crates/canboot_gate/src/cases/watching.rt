@@ -125,6 +125,13 @@ impl<'a> Story<'a> {
         }
     }
 
+    /// The manager's own boot-up message is counted as sent.
+    fn count_beat(&mut self, step: Step) {
+        if let Step::Beat(0) = step {
+            self.notices.boot_up();
+        }
+    }
+
     /// What was left out by now is told, where it is to be.
     fn count_left_out<W: Write>(&mut self, now_ms: u64, out: &mut W) -> io::Result<()> {
         for _turn in 0..TURNS {
@@ -152,6 +159,7 @@ impl<'a> Story<'a> {
             Some(Line::Round) => self.count_left_out(now_ms, out)?,
             Some(Line::Turn) => {
                 for step in &self.watch.error_control(alloc, network, now_ms)? {
+                    self.count_beat(*step);
                     put_step(now_ms, *step, out)?;
                 }
                 for step in &self.watch.turn(alloc, network, now_ms)? {
@@ -169,6 +177,7 @@ fn put_step<W: Write>(now_ms: u64, step: Step, out: &mut W) -> io::Result<()> {
     match step {
         Step::Lost(id) => writeln!(out, "{now_ms} lost {}", id.get()),
         Step::Boot(id) => writeln!(out, "{now_ms} boot {}", id.get()),
+        Step::Wake(id) => writeln!(out, "{now_ms} wake {}", id.get()),
         Step::LeftOut(id, count) => writeln!(out, "{now_ms} left-out {} {count}", id.get()),
         Step::Signal(id, byte) => writeln!(out, "{now_ms} signal {} {byte:02X}", id.get()),
         Step::TimeOver(ms) => writeln!(out, "{now_ms} time-over {ms}"),
@@ -218,6 +227,7 @@ fn put_notice<W: Write>(now_ms: u64, notice: &Notice, out: &mut W) -> io::Result
         Notice::Master(message) => put_message(now_ms, *message, out),
         Notice::MastersLeftOut(count) => writeln!(out, "{now_ms} masters-left-out {count}"),
         Notice::Unlisted(id) => writeln!(out, "{now_ms} unlisted {}", id.get()),
+        Notice::OwnNodeId(id) => writeln!(out, "{now_ms} own-node-id {}", id.get()),
         Notice::Bus(error) => writeln!(out, "{now_ms} {}", error_word(*error)),
     }
 }

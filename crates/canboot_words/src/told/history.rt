@@ -10,7 +10,7 @@ ghost use Rattle.canboot_words.specs.ToldLines.{running_in};
 ghost use Rattle.canboot_words.specs.ToldHistory.{concerns, history_told, is_of, words_behind};
 ghost use Rattle.canboot_words.specs.Tellers.{Knows, SaysBehind};
 
-use crate::told::nodes::{Nodes, running_by};
+use crate::told::nodes::{Nodes, running_by, started_too};
 use crate::told::telling::{say_if, tell_told};
 use crate::told::words::{EntryWords, has_words};
 use cm_history::{Call, Entry};
@@ -51,6 +51,8 @@ fn concerns(node: &Option<NodeId>, call: &Call) -> bool
 struct Said<'a> {
     words: EntryWords<'a>,
     told: Told,
+    /// The nodes that were started with all nodes though they aren't booted.
+    too: Nodes,
     /// The nodes that run on, where the network was halted with it.
     running: Option<Nodes>,
 }
@@ -63,7 +65,7 @@ impl<'a> Said<'a> {
             (words_behind self.now.words.network.now before self.now.words.entry.now)) }
     {
         say_if(out, has_words(self.words.entry), &self.words)?;
-        tell_told(out, &self.running, self.words.entry, &self.told)
+        tell_told(out, &self.too, &self.running, self.words.entry, &self.told)
     }
 
     /// Writes it, if it is to be told.
@@ -143,10 +145,12 @@ impl<'a> Teller<'a> {
             place: self.count,
             unbooted,
         };
+        let too = started_too(self.network, &self.watch, &self.tried, &entry.orders, true);
         let running = self.running_if(told.is_halted);
         Said {
             words,
             told,
+            too,
             running,
         }
     }

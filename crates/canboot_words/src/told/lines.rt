@@ -1,7 +1,7 @@
 //! The lines that a live run tells beside those of entries.
 
 ghost use Rattle.std.specs.Prelude.{◌≡◌, Some, option_map};
-ghost use Rattle.canboot_words.specs.ToldLines.{back_words, bad_words, ends_words, given_up_words, halted_by, halted_words, last_words};
+ghost use Rattle.canboot_words.specs.ToldLines.{back_words, bad_words, ends_words, given_up_words, halted_by, halted_words, last_words, lost_by};
 ghost use Rattle.canboot_words.specs.ToldLines.{left_out_words, mandatory_words, nearly_full_words, no_boot_words};
 ghost use Rattle.canboot_words.specs.ToldLines.{no_frames_words, running_words, stopped_words, time_over_words, times_words, unwatched_words};
 
@@ -92,7 +92,7 @@ impl Display for Back {
         let number = self.0.get();
         write!(
             f,
-            "node {number} is back; the network is stopped: boot {number}, or start"
+            "node {number} is back; the network is stopped: boot {number}, then start"
         )
     }
 }
@@ -164,7 +164,22 @@ impl Display for NoBootOf {
     }
 }
 
-/// That all nodes were stopped with this entry.
+/// The slave whose loss it was behind which all nodes are stopped.
+#[derive(Drop)]
+struct LostBy<'a>(&'a Entry);
+
+impl<'a> Display for LostBy<'a> {
+    ghost output = { λ l. Some (lost_by l.0.now.call) };
+
+    fn fmt<W: fmt::Write>(&self, f: &mut fmt::Formatter<W>) -> fmt::Result {
+        match &self.0.call {
+            Call::Lost(id) => write!(f, ": node {} was lost", id.get()),
+            _ => Ok(()),
+        }
+    }
+}
+
+/// That all nodes were stopped with this entry, and what leads back.
 #[derive(Drop)]
 pub(crate) struct StoppedBy<'a>(pub(crate) &'a Entry);
 
@@ -172,10 +187,11 @@ impl<'a> Display for StoppedBy<'a> {
     ghost output = { λ s. Some (stopped_words s.0.now) };
 
     fn fmt<W: fmt::Write>(&self, f: &mut fmt::Formatter<W>) -> fmt::Result {
-        match &self.0.call {
-            Call::Lost(id) => write!(f, "all nodes are stopped: node {} was lost", id.get()),
-            _ => f.write_str("all nodes are stopped"),
-        }
+        let by = LostBy(self.0);
+        write!(
+            f,
+            "all nodes are stopped{by}; boot each mandatory slave that isn't booted, then start"
+        )
     }
 }
 

@@ -166,6 +166,13 @@ impl<'a> Display for NoticeWords<'a> {
                 let number = id.get();
                 write!(f, "node {number} isn't listed, and has booted up")
             }
+            Notice::OwnNodeId(id) => {
+                let number = id.get();
+                write!(
+                    f,
+                    "another device has the manager's own node-ID {number}, and has booted up"
+                )
+            }
             Notice::Bus(ErrorNotice::Unacknowledged) => {
                 f.write_str("bus: no other node acknowledges")
             }

@@ -5,10 +5,10 @@ ghost use Rattle.cm_watch.specs.Pasts.{Past};
 ghost use Rattle.cm_watch.specs.Tried.{Tries, attempts_in, status_in};
 ghost use Rattle.std.specs.Fmt.{with_newline};
 ghost use Rattle.std.specs.Io.KnownBytes.{Appends};
-ghost use Rattle.canboot_words.specs.ToldLines.{back_words, entry_lines, line_if, line_of, told_lines, unwatched_words};
+ghost use Rattle.canboot_words.specs.ToldLines.{back_words, entry_lines, line_if, line_of, told_lines, too_line, unwatched_words};
 
 use crate::told::lines::{Back, GivenUp, Halted, NearlyFull, StoppedBy, Unwatched};
-use crate::told::nodes::Nodes;
+use crate::told::nodes::{Nodes, StartedToo};
 use crate::told::words::{EntryWords, has_words};
 use cm_history::{Entry, MOST_ENTRIES};
 use cm_netlist::Network;
@@ -73,6 +73,13 @@ fn say_unwatched<E: Write>(err: &mut E, unwatched: Option<NodeId>) -> io::Result
     }
 }
 
+/// Tells which slaves were started with all nodes though they aren't booted, if there are any.
+fn say_too<E: Write>(err: &mut E, too: &Nodes) -> io::Result<()>
+    ensures { OnOk result (Appends (E.contents err.old) (E.contents err.new) (too_line too.now.0.items)) }
+{
+    say_if(err, !(too.0.len() == 0), &StartedToo(too))
+}
+
 /// Tells an entry in words, and behind it that the journal is nearly full, if it then is. Behind a failed write nothing more
 /// is told of it.
 pub fn tell_entry<E: Write>(err: &mut E, words: &EntryWords<'_>) -> io::Result<()>
@@ -83,16 +90,18 @@ pub fn tell_entry<E: Write>(err: &mut E, words: &EntryWords<'_>) -> io::Result<(
     say_if(err, words.place == NEARLY_FULL, &left)
 }
 
-/// Tells what became of the network and of slaves with an entry. Behind a failed write nothing more is told of it.
+/// Tells which slaves an entry started too though they aren't booted, and what became of the network and of slaves with it. Behind a failed write nothing more is told of it.
 pub fn tell_told<E: Write>(
     err: &mut E,
+    too: &Nodes,
     running: &Option<Nodes>,
     entry: &Entry,
     told: &Told,
 ) -> io::Result<()>
     ensures { OnOk result (Appends (E.contents err.old) (E.contents err.new)
-        (told_lines told.now entry.now (option_map (λ n. n.0.items) running.now))) }
+        (told_lines told.now entry.now too.now.0.items (option_map (λ n. n.0.items) running.now))) }
 {
+    say_too(err, too)?;
     say_if(err, told.is_stopped, &StoppedBy(entry))?;
     say_if(err, told.is_halted, &Halted { by: entry, running })?;
     say_if(err, told.is_ready, &"network ready")?;

@@ -4,4 +4,5 @@ use Rattle.canboot_warnings.proofs.start_warnings.put_told_warnings.Goals as goa
 pub returns : goal.returns
 returns g c =
     then_last _ _ _ _ _ _ c.in_ok-put_warning.ensures
-    (then_last _ _ _ _ _ _ c.in_ok-put_warning-2.ensures c.put_warning-3.ensures)
+    (then_last _ _ _ _ _ _ c.in_ok-put_warning-2.ensures
+    (then_last _ _ _ _ _ _ c.in_ok-put_warning-3.ensures c.put_started_warning.ensures))

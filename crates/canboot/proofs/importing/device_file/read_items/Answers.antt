@@ -4,7 +4,7 @@ use Rattle.std.proofs.lemmas.List.Sums.{count_by-le-length}
 use Rattle.cm_text.specs.Words.{split}
 use Rattle.cm_text.specs.Left.{left}
 use Rattle.canboot.specs.DeviceFiles.{behind_mark}
-use Rattle.canboot.proofs.DeviceFiles.{taken, line_next, left_behind}
+use Rattle.canboot.proofs.DeviceFiles.{all_read, all_taken, taken, line_next, left_behind}
 use Rattle.canboot.proofs.importing.device_file.read_items.Goals as goal
 
 pub loop-line-init : goal.loop-line-init
@@ -14,6 +14,7 @@ loop-line-init c =
       rest = same;
       count = omega (arith, ap length (sym same));
       items = λ k d low. absurd (omega (arith, low, ap length c.new-items.ensures.items));
+      all = λ section key value has low. absurd (omega (arith, low));
       begun = tt;
     }
 
@@ -41,10 +42,19 @@ loop-line-preserved c =
     let n = c.loop-line.number in
     let was = c.loop-line.invariant in
     let is = was.rest ∙ c.in-Some.ensures in
-    let more = taken file n c.trim_ascii.result.now (line_next file n c.in-Some.line.now c.trim_ascii.result.now _ is c.trim_ascii.ensures.value) _ _ _ _ was.items was.begun c.in-Ok.ensures in
+    let text = c.trim_ascii-text.result.now in
+    let there = line_next file n c.in-Some.line.now c.before_comment.result.now text _ is c.before_comment.ensures c.trim_ascii-text.ensures.value in
+    let more = taken file n text there _ _ _ _ was.items was.begun c.in-Ok.ensures in
     record {
       rest = left_behind file n c.in-Some.line.now _ is;
       count = omega (arith, was.count, ap length c.in-Some.ensures);
       items = more.0;
+      all = all_taken file n text there _ _ _ _ was.begun was.all c.in-Ok.ensures;
       begun = more.1;
     }
+
+pub returns-clause-items : goal.returns-clause-items
+returns-clause-items c = c.loop-line.invariant.items
+
+pub returns-clause-all : goal.returns-clause-all
+returns-clause-all c = all_read (behind_mark c.args.file.now) c.loop-line.number c.loop-line.items.items (omega (arith, c.loop-line.invariant.count, ap length c.in_default.ensures.0)) c.loop-line.invariant.all

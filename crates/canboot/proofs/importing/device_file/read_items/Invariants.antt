@@ -2,7 +2,7 @@ use Rattle.std.proofs.Common.{◌≡◌, ◌+◌, drop, length}
 use Rattle.cm_text.specs.Words.{split}
 use Rattle.cm_text.specs.Left.{left}
 use Rattle.canboot.specs.DeviceFiles.{behind_mark}
-use Rattle.canboot.specs.LinesRead.{AreOf, IsBegun}
+use Rattle.canboot.specs.LinesRead.{AreAllBefore, AreOf, IsBegun}
 use Rattle.canboot.proofs.importing.device_file.read_items.Given as goal
 
 -- the lines so far, and what is left
@@ -11,6 +11,7 @@ invariant-loop-line l = record {
   rest : drop l.number (split 10 (behind_mark l.file)) ≡ left l.lines;
   count : l.number + length (left l.lines) ≡ length (split 10 (behind_mark l.file));
   items : AreOf l.file l.items.items;
+  all : AreAllBefore (behind_mark l.file) l.number l.items.items;
   begun : IsBegun (behind_mark l.file) l.number l.begun;
 }
 

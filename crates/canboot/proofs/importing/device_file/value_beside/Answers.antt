@@ -21,4 +21,4 @@ pub returns-then-is_same : goal.returns-then-is_same
 returns-then-is_same c = λ file all.
     let part = c.in_ok-own.ensures.lookup.0 in
     part_has file c.args.items.now c.in_ok-own.own.now c.args.beside.now.first c.loop-item.item-index _ _ _ _ all part.2 part.3 c.loop-item-test.true
-    (same _ _ (sym c.is_word.ensures ∙ c.if-not-is_word.false)) (c.if-is_same.ensures refl) c.as_bytes.ensures.value
+    (same _ _ (sym c.is_word.ensures ∙ c.if-not-is_word.false)) (c.if-is_same.ensures.same refl) c.as_bytes.ensures.value

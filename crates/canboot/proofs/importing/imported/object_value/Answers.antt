@@ -1,10 +1,15 @@
-use Rattle.std.proofs.Common.{inl, inr}
-use Rattle.canboot.specs.Imports.{IsObjectValue}
-use Rattle.canboot.proofs.Given.{if_there}
+use Rattle.std.proofs.Common.{ℕ, Option, inl, subst}
+use Rattle.std.specs.Prelude.{codes}
+use Rattle.canboot.specs.LinesRead.{IsNumberRead}
+use Rattle.canboot.proofs.Given.{or_default}
 use Rattle.canboot.proofs.importing.imported.object_value.Goals as goal
 
 pub returns-in-Some : goal.returns-in-Some
-returns-in-Some c = λ file all. inl (c.in-Some.ensures file all)
+returns-in-Some c = λ file items all.
+    inl (subst (λ (r : Option ℕ). IsNumberRead file c.args.node c.args.name.now (codes "ParameterValue") r) c.in-Some.is (c.in_ok-value.ensures file items all))
 
 pub returns-in-None : goal.returns-in-None
-returns-in-None c = λ file all. if_there c.number_at-in-None.result _ (IsObjectValue file c.args.node c.args.name.now) (λ n default. inr default) (c.number_at-in-None.ensures file all)
+returns-in-None c = λ file items all.
+    or_default file c.args.node c.args.name.now c.read_number-in-None.result
+    (subst (λ (r : Option ℕ). IsNumberRead file c.args.node c.args.name.now (codes "ParameterValue") r) c.in-None.is (c.in_ok-value.ensures file items all))
+    (c.read_number-in-None.ensures file items all)

@@ -5,18 +5,21 @@ use Rattle.canboot.specs.Imports.{AreTermsOf, IsSetting}
 use Rattle.canboot.proofs.importing.imported.slave_of.Goals as goal
 
 pub returns : goal.returns
-returns c = λ file all.
-    let listed = c.listed_terms-terms.ensures file all in
+returns c = λ file items all.
+    let id = c.in_ok-id.id in
+    let listed = c.listed_terms-terms.ensures file id (c.identity_of-identity.ensures file items all) (c.may_be_listed.ensures c.if-not-may_be_listed.false) in
     record {
-      node_is = c.in-Some.ensures file all;
-      listed = subst (λ (t : Terms). AreTermsOf file c.args.words.now c.in-Some.id t) (sym c.from_terms.ensures.terms)
+      device = c.has_device.ensures file items c.if-not-has_device.false;
+      node_is = c.in_ok-id.ensures file items;
+      listed = subst (λ (t : Terms). AreTermsOf file c.args.words.now id t) (sym c.from_terms.ensures.terms)
           record {
             assignment = listed.assignment;
             device_type = listed.device_type;
             vendor = listed.vendor;
             product = listed.product;
             revision = listed.revision;
+            serial = listed.serial;
             heartbeat = listed.heartbeat;
           };
-      set = subst (All (IsSetting file c.in-Some.id)) (sym c.from_terms.ensures.writes) (c.writes_of-writes.ensures file c.in-Some.id (c.in-Ok.ensures.all file all));
+      set = subst (All (IsSetting file id)) (sym c.from_terms.ensures.writes) (c.writes_of-writes.ensures file id (c.in_ok-settings.ensures file items));
     }

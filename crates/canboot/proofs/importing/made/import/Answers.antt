@@ -1,5 +1,5 @@
 use Rattle.std.proofs.Common.{sym, subst}
-use Rattle.canboot.specs.LinesRead.{AreOf}
+use Rattle.canboot.specs.LinesRead.{AreAllOf, AreOf}
 use Rattle.canboot.proofs.Given.{imported}
 use Rattle.canboot.proofs.importing.made.import.Goals as goal
 
@@ -7,5 +7,6 @@ pub returns-in_ok-slave-in-Ok : goal.returns-in_ok-slave-in-Ok
 returns-in_ok-slave-in-Ok c =
     let file = c.args.file.now in
     let slave = c.in_ok-slave-in-Ok.slave in
-    let items = subst (AreOf file) (sym c.as_slice.ensures.value) c.in-Ok.ensures in
-    imported c.text_of.result file c.args.words slave.id slave.entry (c.in_ok-slave-in-Ok.ensures file items) c.text_of.ensures
+    let items = subst (AreOf file) (sym c.as_slice.ensures.value) c.in-Ok.ensures.items in
+    let all = subst (AreAllOf file) (sym c.as_slice.ensures.value) c.in-Ok.ensures.all in
+    imported c.text_of.result file c.args.words slave.id slave.entry (c.in_ok-slave-in-Ok.ensures file items all) c.text_of.ensures

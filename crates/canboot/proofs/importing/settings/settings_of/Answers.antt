@@ -10,5 +10,5 @@ pub returns-clause-all : goal.returns-clause-all
 returns-clause-all c = λ file all.
     let P : Setting → Type 0 = λ s. IsSetting file c.args.node s.write in
     subst (All P) (sym c.truncate.ensures.items)
-    (All-take P 32 c.sort_by_key.new.self.items
+    (All-take P _ c.sort_by_key.new.self.items
     (All-permutation P c.in_ok-settings.field-0.settings.items c.sort_by_key.new.self.items c.in_ok-sort_by_key.ensures.permutation (c.in_ok-settings.ensures file all)))

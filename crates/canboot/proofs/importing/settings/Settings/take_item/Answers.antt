@@ -1,11 +1,13 @@
-use Rattle.std.proofs.Common.{inl}
+use Rattle.canboot.specs.Imports.{IsSetting}
+use Rattle.canboot.proofs.Added.{kept_if}
 use Rattle.canboot.proofs.importing.settings.Settings.take_item.Goals as goal
 
-pub returns-then-is_count : goal.returns-then-is_count
-returns-then-is_count c = λ file all is before.
-    c.add_default.ensures file all
-    (c.in_ok-add_item.ensures file all record { has = is; object_is = c.in-Some.ensures; key_is = inl (c.is_same.ensures c.if-not-is_same.false) } before)
+pub returns-in_default : goal.returns-in_default
+returns-in_default c = λ file all is before.
+    kept_if c.leave_compact.result (IsSetting file c.args.node) c.args.self.now c.leave_compact.new.self before c.leave_compact.ensures
 
-pub returns : goal.returns
-returns c = λ file all is before.
-    c.in_ok-add_item.ensures file all record { has = is; object_is = c.in-Some.ensures; key_is = inl (c.is_same.ensures c.if-not-is_same.false) } before
+pub returns-then-is_mapping : goal.returns-then-is_mapping
+returns-then-is_mapping c = λ file all is before. c.add_mapped.ensures file all (c.in-Some.ensures file all is).1 before
+
+pub returns-else-is_mapping : goal.returns-else-is_mapping
+returns-else-is_mapping c = λ file all is before. c.add_given.ensures file all (c.in-Some.ensures file all is).1 before

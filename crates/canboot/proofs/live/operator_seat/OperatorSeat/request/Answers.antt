@@ -1,4 +1,4 @@
-use Rattle.std.proofs.Common.{arith, subst, sym}
+use Rattle.std.proofs.Common.{arith, inl, subst, sym}
 use Rattle.cm_history.specs.declared.call.Call.TheVariants as call
 use Rattle.cm_live.specs.Receiving.{IsReceivedList}
 use Rattle.cm_seat.specs.SeatCalls.{made}
@@ -23,6 +23,6 @@ invariant_of-self-2 g c =
     stands_as g.B.BusName.typed c.place-place.result c.args.line.now.place c.line.result.now c.args.line.now.line c.args.target c.args.value c.place-place.ensures c.line.ensures.line (c.spells.ensures c.if-not-spells.false)
     c.line.ensures.stands in (
       quiet_received g.B.BusName.format g.B.BusName.text g.K.HistoryName.net c.self.inside.seat.list c.call.new.seat.list asked tt c.in_ok-receipt.ensures.seat.1 c.self.invariant.0,
-      operated_on g.B.BusName.typed c.self.inside.seat c.call.new.seat c.self.inside.last c.place-place.result asked c.in_ok-receipt.ensures.seat (omega (arith, c.if-place-self.false), stands.0, stands.1, stands.2) c.self.invariant.1,
+      operated_on g.B.BusName.typed c.self.inside.seat c.call.new.seat c.self.inside.last c.place-place.result asked c.in_ok-receipt.ensures.seat (inl (omega (arith, c.if-place-self.false), stands.0, stands.1, stands.2)) c.self.invariant.1,
       called_own g.K.HistoryName.net g.K.RunName.seats (Ok c.in_ok-receipt.receipt) c.self.inside.seat c.call.new.seat (call.Request c.args.target c.args.value) tt c.in_ok-receipt.ensures.seat tt c.self.invariant.2,
     )

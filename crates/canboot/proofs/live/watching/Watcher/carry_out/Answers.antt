@@ -3,8 +3,14 @@ use Rattle.cm_history.specs.declared.call.Entry.{Entry}
 use Rattle.canboot.specs.Asking.{asked_of}
 use Rattle.canboot.specs.Going.{Follows}
 use Rattle.canboot.specs.declared.live.progress.Progress.{Progress}
+use Rattle.cm_live.specs.Console.{AsksPlainly}
+use Rattle.cm_live.specs.declared.console.Command.{Command}
 use Rattle.canboot.proofs.Going.{ok_always}
+use Rattle.canboot.proofs.Operated.{plainly_untyped}
 use Rattle.canboot.proofs.live.watching.Watcher.carry_out.Goals as goal
+
+pub call-requires : goal.call-requires
+call-requires g c = plainly_untyped c.in-Make.call (subst (λ (x : Command). AsksPlainly x) c.in-Make.is c.requires.plain)
 
 pub returns-in-Make-clause-told : goal.returns-in-Make-clause-told
 returns-in-Make-clause-told g c = λ s past f.

@@ -15,6 +15,8 @@ returns-clause-says c = λ before knows answered.
       place = ap (λ (n : ℕ). n + 1) knows.count;
       unbooted = c.unbooted-unbooted.ensures net no_settings (past_of before) knows.tries knows.watches;
       told = c.take-told.ensures.told no_settings (past_of before) knows.watches;
+      too = c.started_too-too.ensures no_settings (past_of (e ∷ before))
+          (c.take-told.ensures.taken no_settings (past_of before) knows.watches) (c.count.ensures 0 (past_of before) knows.tries);
       running = c.running_if-running.ensures (e ∷ before) stands;
     }
 
