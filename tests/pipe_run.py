@@ -139,6 +139,24 @@ class Slow(Counted):
         super().later(max(seconds, 0.02), action)
 
 
+class Late(Counted):
+    """A device each of whose answers comes after half of the time that it is waited for."""
+
+    def later(self, seconds, action):
+        super().later(ANSWERED / 2000 if seconds == ANSWER else seconds, action)
+
+
+class Beatless(Counted):
+    """A device that sends no heartbeat, whatever is written, until it is told to."""
+
+    def later(self, seconds, action):
+        if action != self.beat:
+            super().later(seconds, action)
+
+    def speak(self, seconds):
+        super().later(seconds, self.beat)
+
+
 class Exchanged(Counted):
     """A device that is exchanged behind its answer to the question of a boot that `left` counts down to, where that is set: another one
     of another product, which has none of its writes but sends a heartbeat, boots up at once, and answers from then on."""

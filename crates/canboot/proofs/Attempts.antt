@@ -1,5 +1,5 @@
 -- What the attempts at a slave leave in the log of a live bus.
-use Rattle.std.proofs.Common.{◌≡◌, ◌≤◌, ◌+◌, ◌*◌, ℕ, List, [], ◌∷◌, ◌++◌, length, sym, ap, subst, ◌∙◌, append_assoc, arith, length-append}
+use Rattle.std.proofs.Common.{◌≡◌, ◌≤◌, ◌+◌, ◌*◌, ℕ, Bool, false, List, [], ◌∷◌, ◌++◌, length, sym, ap, subst, ◌∙◌, append_assoc, arith, length-append}
 use Rattle.std.specs.Prelude.{All, slice_index_or}
 use Rattle.std.proofs.lemmas.List.{append-nil}
 use Rattle.std.proofs.lemmas.List.Elements.{All-nil, All-cons, All-append}
@@ -18,15 +18,15 @@ use Rattle.cm_run.specs.declared.outcome.Outcome.{Outcome}
 use Rattle.cm_run.specs.Rounds.{Boots, Fail, Gives, HasRound, calls_in}
 use Rattle.std.specs.Prelude.{Option}
 use Rattle.cm_boot.specs.Talk.{Talks}
-use Rattle.cm_live.specs.Receiving.{BusView, IsGiven}
+use Rattle.cm_live.specs.Receiving.{BusView, EndsBoot, IsPut}
 use Rattle.cm_live.specs.declared.outlet.Format.{Format}
 use Rattle.cm_live.specs.Talk.{IsAsked}
 use Rattle.cm_live.specs.Hearing.{AreHeard, HasHeardCalls, IsHeardCall}
 use Rattle.cm_live.specs.declared.event.Event.{Event}
 use Rattle.cm_live.proofs.Talking.{has_talked, heard_before}
 
--- steps of one kind of bus, seen as steps of another
-module _ {B C : Type 0} (f : B → C) (s : B → ℕ → Question → Answer → B → Type 0) (t : C → ℕ → Question → Answer → C → Type 0) (k : (b : B) (n : ℕ) (q : Question) (x : Answer) (c : B) → s b n q x c → t (f b) n q x (f c)) (net : Network) (i : ℕ) where
+-- steps and ends of one kind of bus, seen as those of another
+module _ {B C : Type 0} (f : B → C) (s : B → ℕ → Question → Answer → B → Type 0) (t : C → ℕ → Question → Answer → C → Type 0) (k : (b : B) (n : ℕ) (q : Question) (x : Answer) (c : B) → s b n q x c → t (f b) n q x (f c)) (looks : B → ℕ → Bool → B → Type 0) (seen : C → ℕ → Bool → C → Type 0) (l : (b : B) (n : ℕ) (x : Bool) (c : B) → looks b n x c → seen (f b) n x (f c)) (net : Network) (i : ℕ) where
   seen_talks : (list : List (Question × Answer)) (b c : B) → Talks (λ b q x c. s b i q x c) b list c → Talks (λ b q x c. t b i q x c) (f b) list (f c)
   seen_talks [] b c h = ap f h
   seen_talks (qx ∷ rest) b c h = (f h.0, h.1, k b i qx.0 h.1 h.0 h.2, h.3, seen_talks rest h.0 c h.4)
@@ -34,17 +34,18 @@ module _ {B C : Type 0} (f : B → C) (s : B → ℕ → Question → Answer →
   seen_boots : (b : B) (a : Answers) (c : B) → Boots s net i b a c → Boots t net i (f b) a (f c)
   seen_boots b a c h = record { lawful = h.lawful; talk = seen_talks (asked (entry net i) a) b c h.talk; few = h.few }
 
-  seen_gives : (b : B) (a : Attempt) (c : B) → Gives s net i b a c → Gives t net i (f b) a (f c)
+  seen_gives : (b : B) (a : Attempt) (c : B) → Gives s looks net i b a c → Gives t seen net i (f b) a (f c)
   seen_gives b (attempt.NotBegun e) c h = ap f h
   seen_gives b (attempt.Refused r n) c h = (h.0, ap f h.1)
-  seen_gives b (attempt.NotReported r n a e) c h = (h.0, seen_boots b a c h.1)
-  seen_gives b (attempt.Ended r n a w l) c h = (h.0, seen_boots b a c h.1, h.2)
+  seen_gives b (attempt.Left r n a) c h = (h.0, f h.1, seen_boots b a h.1 h.2, l h.1 i _ c h.3)
+  seen_gives b (attempt.NotReported r n a e) c h = (h.0, f h.1, seen_boots b a h.1 h.2, l h.1 i _ c h.3)
+  seen_gives b (attempt.Ended r n a w e) c h = (h.0, f h.1, seen_boots b a h.1 h.2, l h.1 i _ c h.3, h.4)
 
-  seen_fail : (b : B) (ts : List Attempt) (list : List Made) (c : B) → Fail s net i b ts list c → Fail t net i (f b) ts list (f c)
+  seen_fail : (b : B) (ts : List Attempt) (list : List Made) (c : B) → Fail s looks net i b ts list c → Fail t seen net i (f b) ts list (f c)
   seen_fail b [] list c h = (h.0, ap f h.1)
   seen_fail b (a ∷ ts) list c h = (h.0, f h.1, seen_gives b a h.1 h.2, h.3, seen_fail h.1 ts h.0 c h.4, h.5)
 
-  pub seen_round : (m : ℕ) (o : Outcome) (old new : List Made) (b c : B) → HasRound s net i m o old new b c → HasRound t net i m o old new (f b) (f c)
+  pub seen_round : (m : ℕ) (o : Outcome) (old new : List Made) (b c : B) → HasRound s looks net i m o old new b c → HasRound t seen net i m o old new (f b) (f c)
   seen_round m o old new b c h = record {
     added = h.added;
     grown = h.grown;
@@ -67,6 +68,9 @@ module _ {B C : Type 0} (f : B → C) (s : B → ℕ → Question → Answer →
 module _ (net : Network) (i : ℕ) where
   abbrev Step : List Event → ℕ → Question → Answer → List Event → Type 0
   Step b n q x c = IsAsked n q x b c
+
+  abbrev Stays : List Event → ℕ → Bool → List Event → Type 0
+  Stays b n x c = b ≡ c
 
   abbrev Heard : List Event → Made → Type 0
   Heard log m = IsHeardCall net i m.call log
@@ -94,17 +98,20 @@ module _ (net : Network) (i : ℕ) where
       let t = has_talked i (asked (entry net i) a) old new b.talk (omega (arith, room, b.few)) in
       (t.more, t.grown, omega (arith, t.short, b.few), t.heard)
 
-  attempt_heard : (old : List Event) (t : Attempt) (new : List Event) → Gives Step net i old t new → length old + 2747 ≤ 27470 → HasGrown 2747 (calls_in i t) old new
+  attempt_heard : (old : List Event) (t : Attempt) (new : List Event) → Gives Step Stays net i old t new → length old + 2747 ≤ 27470 → HasGrown 2747 (calls_in i t) old new
   attempt_heard old (attempt.NotBegun f) new g room = record { more = []; grown = sym g ∙ sym (append-nil old); short = omega arith; heard = All-nil (Heard new) }
   attempt_heard old (attempt.Refused b r) new g room = record { more = []; grown = sym g.1 ∙ sym (append-nil old); short = omega arith; heard = All-cons (Heard new) (made b.position (call.Begin i) b.reply) [] (tt {0}) (All-nil (Heard new)) }
+  attempt_heard old (attempt.Left b n a) new g room =
+      let h = boot_heard old a new (subst (λ (l : List Event). Boots Step net i old a l) g.3 g.2) room in
+      record { more = h.0; grown = h.1; short = h.2; heard = All-cons (Heard new) (made b.position (call.Begin i) b.reply) [] (tt {0}) (All-nil (Heard new)) }
   attempt_heard old (attempt.NotReported b n a f) new g room =
-      let h = boot_heard old a new g.1 room in
+      let h = boot_heard old a new (subst (λ (l : List Event). Boots Step net i old a l) g.3 g.2) room in
       record { more = h.0; grown = h.1; short = h.2; heard = All-cons (Heard new) (made b.position (call.Begin i) b.reply) [] (tt {0}) (All-nil (Heard new)) }
   attempt_heard old (attempt.Ended b n a r l) new g room =
-      let h = boot_heard old a new g.1 room in
+      let h = boot_heard old a new (subst (λ (l : List Event). Boots Step net i old a l) g.3 g.2) room in
       record { more = h.0; grown = h.1; short = h.2; heard = All-cons (Heard new) (made b.position (call.Begin i) b.reply) (made r.position (call.Report i n a) r.reply ∷ []) (tt {0}) (All-cons (Heard new) (made r.position (call.Report i n a) r.reply) [] h.3 (All-nil (Heard new))) }
 
-  attempts_heard : (old : List Event) (ts : List Attempt) (list : List Made) (new : List Event) → Fail Step net i old ts list new → length old + 2747 * length ts ≤ 27470
+  attempts_heard : (old : List Event) (ts : List Attempt) (list : List Made) (new : List Event) → Fail Step Stays net i old ts list new → length old + 2747 * length ts ≤ 27470
       → HasGrown (2747 * length ts) list old new
   attempts_heard old [] list new f room = record {
     more = [];
@@ -123,7 +130,7 @@ module _ (net : Network) (i : ℕ) where
       }
 
   -- of a round of 10 attempts at most, which began with an empty log
-  pub round_heard : (m : ℕ) (o : Outcome) (old new : List Made) (log : List Event) → m ≤ 10 → HasRound Step net i m o old new [] log → HasHeardCalls net i old new log
+  pub round_heard : (m : ℕ) (o : Outcome) (old new : List Made) (log : List Event) → m ≤ 10 → HasRound Step Stays net i m o old new [] log → HasHeardCalls net i old new log
   round_heard m o old new log few r =
       let f = attempts_heard [] r.round.failed r.round.before r.round.between r.round.fails (omega (arith, few, r.round.attempts, r.round.most)) in
       let g = attempt_heard r.round.between r.round.final log r.round.gives (omega (arith, few, r.round.attempts, r.round.most, f.short, ap length f.grown)) in
@@ -133,18 +140,28 @@ module _ (net : Network) (i : ℕ) where
         heard = subst (λ (l : List Made). AllHeard l log) (sym r.round.calls) (All-append (Heard log) r.round.before (calls_in i r.round.final) (subst (λ (l : List Event). AllHeard r.round.before l) (sym g.grown) (all_before r.round.before r.round.between g.more f.heard)) g.heard);
       }
 
-  -- of the bus of a worker, of which the log is a part
-  pub log_heard : (format : Format) (text : Option (List ℕ)) (m : ℕ) (o : Outcome) (old new : List Made) (at : ℕ) (c : BusView) → m ≤ 10
-      → HasRound (λ b n q x d. IsAsked n q x b.log d.log × IsGiven format text n q x b.heard d.heard) net i m o old new (record { log = []; heard = at }) c → HasHeardCalls net i old new c.log
-  log_heard format text m o old new at c few r =
-      round_heard m o old new c.log few
-      (seen_round (λ (b : BusView). b.log) (λ b n q x d. IsAsked n q x b.log d.log × IsGiven format text n q x b.heard d.heard) Step (λ b n q x d h. h.0) net i m o old new (record { log = []; heard = at }) c r)
+  module _ (format : Format) (text : Option (List ℕ)) where
+    -- the steps of the bus of a worker
+    abbrev Asks : BusView → ℕ → Question → Answer → BusView → Type 0
+    Asks b n q x c = IsAsked n q x b.log c.log × IsPut format text n q x b c
 
-  -- a bus whose log was emptied
-  pub from_forgotten : (format : Format) (text : Option (List ℕ)) (m : ℕ) (o : Outcome) (old new : List Made) (b : BusView) (at : ℕ) (c : BusView)
-      → HasRound (λ b n q x d. IsAsked n q x b.log d.log × IsGiven format text n q x b.heard d.heard) net i m o old new b c → b.log ≡ [] → b.heard ≡ at
-      → HasRound (λ b n q x d. IsAsked n q x b.log d.log × IsGiven format text n q x b.heard d.heard) net i m o old new (record { log = []; heard = at }) c
-  from_forgotten format text m o old new b at c r log heard =
-      let P : List Event → Type 0 = λ (l : List Event). HasRound (λ b n q x d. IsAsked n q x b.log d.log × IsGiven format text n q x b.heard d.heard) net i m o old new (record { log = l; heard = b.heard }) c in
-      let Q : ℕ → Type 0 = λ (n : ℕ). HasRound (λ b n q x d. IsAsked n q x b.log d.log × IsGiven format text n q x b.heard d.heard) net i m o old new (record { log = []; heard = n }) c in
-      subst Q heard (subst P log r)
+    abbrev Ends : BusView → ℕ → Bool → BusView → Type 0
+    Ends b n x c = EndsBoot b c
+
+    -- of which the log is a part
+    pub log_heard : (m : ℕ) (o : Outcome) (old new : List Made) (at begun : ℕ) (c : BusView) → m ≤ 10
+        → HasRound Asks Ends net i m o old new (record { log = []; heard = at; begun = begun; goes_on = false }) c → HasHeardCalls net i old new c.log
+    log_heard m o old new at begun c few r =
+        round_heard m o old new c.log few
+        (seen_round (λ (b : BusView). b.log) Asks Step (λ b n q x d h. h.0) Ends Stays (λ b n x d e. sym e.log) net i m o old new (record { log = []; heard = at; begun = begun; goes_on = false }) c r)
+
+    -- a bus whose log was emptied, and over which no boot goes on
+    pub from_forgotten : (m : ℕ) (o : Outcome) (old new : List Made) (b : BusView) (at begun : ℕ) (c : BusView)
+        → HasRound Asks Ends net i m o old new b c → b.log ≡ [] → b.heard ≡ at → b.begun ≡ begun → b.goes_on ≡ false
+        → HasRound Asks Ends net i m o old new (record { log = []; heard = at; begun = begun; goes_on = false }) c
+    from_forgotten m o old new b at begun c r log heard began off =
+        let P : List Event → Type 0 = λ (l : List Event). HasRound Asks Ends net i m o old new (record { log = l; heard = b.heard; begun = b.begun; goes_on = b.goes_on }) c in
+        let Q : ℕ → Type 0 = λ (n : ℕ). HasRound Asks Ends net i m o old new (record { log = []; heard = n; begun = b.begun; goes_on = b.goes_on }) c in
+        let S : ℕ → Type 0 = λ (n : ℕ). HasRound Asks Ends net i m o old new (record { log = []; heard = at; begun = n; goes_on = b.goes_on }) c in
+        let T : Bool → Type 0 = λ (x : Bool). HasRound Asks Ends net i m o old new (record { log = []; heard = at; begun = begun; goes_on = x }) c in
+        subst T off (subst S began (subst Q heard (subst P log r)))

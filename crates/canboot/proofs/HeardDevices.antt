@@ -1,6 +1,6 @@
 -- A device each of whose values was heard.
-use Rattle.std.proofs.Common.{◌≡◌, ◌≢◌, ◌∙◌, ℕ, ◌≤◌, List, Option, refl, sym, subst, inl, inr}
-use Rattle.std.specs.Prelude.{All, Some}
+use Rattle.std.proofs.Common.{◌≡◌, ◌≢◌, ◌∙◌, ℕ, ◌≤◌, List, Option, refl, sym, subst, inl, inr, arith}
+use Rattle.std.specs.Prelude.{All, IsFalse, IsTrue, Some}
 use Rattle.std.proofs.lemmas.List.Elements.{All-contains}
 use Rattle.cm_nmt.specs.declared.terms.Terms.{Terms}
 use Rattle.cm_netlist.specs.Network.{Network, terms}
@@ -11,7 +11,8 @@ use Rattle.cm_boot.specs.declared.question.Question.{Question}
 use Rattle.cm_boot.specs.declared.question.Question.TheVariants as ask
 use Rattle.cm_boot.specs.declared.question.Answer.{Answer}
 use Rattle.cm_boot.specs.declared.question.Answer.TheVariants as answer
-use Rattle.cm_live.specs.Receiving.{BusView, HasHeardIdentity, IsGiven, IsHeard, IsHeardAs}
+use Rattle.cm_live.specs.Receiving.{BusView, HasHeardIdentity, IsGiven, IsHeard, IsHeardAs, IsPut}
+use Rattle.canboot.proofs.ReceivedRounds.{within_given}
 use Rattle.cm_live.specs.Talk.{IsAsked}
 use Rattle.cm_live.specs.declared.outlet.Format.{Format}
 use Rattle.canboot_tools.specs.Compared.{HasExpected, IsAsListed, IsFoundAsListed}
@@ -21,52 +22,66 @@ use Rattle.canboot.specs.Scanning.{AreHeardAsListed, IsHeardAsListed, IsHeardDev
 
 module _ (format : Format) (text : Option (List ℕ)) (node : ℕ) where
   -- a value that was read was heard, where it isn't 0
-  heard_as : (q : Question) (v from upto : ℕ) (x : Answer) → v ≡ value_in x → IsGiven format text node q x from upto → IsHeardAs format text node q v from upto
-  heard_as q v from upto (answer.Value w) is given = record {
+  heard_as : (q : Question) (v begun from upto : ℕ) (x : Answer) → v ≡ value_in x → IsGiven format text node q x begun from upto → IsHeardAs format text node q v begun from upto
+  heard_as q v begun from upto (answer.Value w) is given = record {
     on = given.on;
     heard = λ some. elim given.given [
       | inl silent ↦ absurd (cc)
-      | inr heard ↦ subst (λ (n : ℕ). IsHeard format text node q (answer.Value n) from upto) (sym is) heard
+      | inr heard ↦ subst (λ (n : ℕ). IsHeard format text node q (answer.Value n) begun from upto) (sym is) heard
     ];
   }
-  heard_as q v from upto answer.Acked is given = record { on = given.on; heard = λ some. absurd (some is) }
-  heard_as q v from upto (answer.Abort c) is given = record { on = given.on; heard = λ some. absurd (some is) }
-  heard_as q v from upto answer.Silent is given = record { on = given.on; heard = λ some. absurd (some is) }
-  heard_as q v from upto (answer.State s) is given = record { on = given.on; heard = λ some. absurd (some is) }
+  heard_as q v begun from upto answer.Acked is given = record { on = given.on; heard = λ some. absurd (some is) }
+  heard_as q v begun from upto (answer.Abort c) is given = record { on = given.on; heard = λ some. absurd (some is) }
+  heard_as q v begun from upto answer.Silent is given = record { on = given.on; heard = λ some. absurd (some is) }
+  heard_as q v begun from upto (answer.State s) is given = record { on = given.on; heard = λ some. absurd (some is) }
 
   -- the steps of a live bus
   abbrev Step : BusView → Question → Answer → BusView → Type 0
-  Step b q x c = IsAsked node q x b.log c.log × IsGiven format text node q x b.heard c.heard
+  Step b q x c = IsAsked node q x b.log c.log × IsPut format text node q x b c
 
-  read_as : (b c : BusView) (index sub v : ℕ) → Reads Step b index sub v c → IsHeardAs format text node (ask.Read index sub) v b.heard c.heard
-  read_as b c index sub v r = heard_as (ask.Read index sub) v b.heard c.heard r.x r.is r.stepped.1
+  read_as : (begun : ℕ) (b c : BusView) (index sub v : ℕ) → IsTrue b.goes_on → b.begun ≡ begun → Reads Step b index sub v c
+      → IsHeardAs format text node (ask.Read index sub) v begun b.heard c.heard × IsTrue c.goes_on × (c.begun ≡ begun)
+  read_as begun b c index sub v on at r =
+      let p = r.stepped.1 in
+      let same : c.begun ≡ begun = p.goes_on on ∙ at in (
+        heard_as (ask.Read index sub) v begun b.heard c.heard r.x r.is (within_given format text node (ask.Read index sub) r.x c.begun begun b.heard p.from c.heard (omega (arith, same)) p.on p.given),
+        p.still,
+        same,
+      )
 
-  -- a device that said what it is was heard
-  pub heard_device : (b c : BusView) (i : Identity) → Identifies Step b i c → IsHeardDevice format text (found_of node i)
-  heard_device b c i said = (
-    b.heard,
-    c.heard,
-    record {
-      first = said.one.heard;
-      second = said.two.heard;
-      third = said.three.heard;
-      fourth = said.four.heard;
-      device_type = heard_as (ask.Read 4096 0) i.device_type b.heard said.one.heard (answer.Value i.device_type) refl said.device_type.1;
-      vendor = read_as said.one said.two 4120 1 i.vendor said.vendor;
-      product = read_as said.two said.three 4120 2 i.product said.product;
-      revision = read_as said.three said.four 4120 3 i.revision said.revision;
-      serial = read_as said.four c 4120 4 i.serial said.serial;
-    },
-  )
+  -- a device that said what it is was heard, over a bus over which no boot went on
+  pub heard_device : (b c : BusView) (i : Identity) → IsFalse b.goes_on → Identifies Step b i c → IsHeardDevice format text (found_of node i)
+  heard_device b c i off said =
+      let p = said.device_type.1 in
+      let same : said.one.begun ≡ p.from = p.begins off in
+      let first = within_given format text node (ask.Read 4096 0) (answer.Value i.device_type) said.one.begun p.from p.from p.from said.one.heard (omega (arith, same)) (omega arith) p.given in
+      let vendor = read_as p.from said.one said.two 4120 1 i.vendor p.still same said.vendor in
+      let product = read_as p.from said.two said.three 4120 2 i.product vendor.1 vendor.2 said.product in
+      let revision = read_as p.from said.three said.four 4120 3 i.revision product.1 product.2 said.revision in
+      let serial = read_as p.from said.four c 4120 4 i.serial revision.1 revision.2 said.serial in (
+        p.from,
+        c.heard,
+        record {
+          first = said.one.heard;
+          second = said.two.heard;
+          third = said.three.heard;
+          fourth = said.four.heard;
+          device_type = heard_as (ask.Read 4096 0) i.device_type p.from p.from said.one.heard (answer.Value i.device_type) refl first;
+          vendor = vendor.0;
+          product = product.0;
+          revision = revision.0;
+          serial = serial.0;
+        },
+      )
 
   -- ---- what that says of a network list
 
   -- a value that was found was heard, and so the one that is expected
-  expected_heard : (q : Question) (found expected from upto : ℕ) → (expected ≢ 0 → found ≡ expected)
-      → IsHeardAs format text node q found from upto → IsHeardAs format text node q expected from upto
-  expected_heard q found expected from upto same h = record {
+  expected_heard : (q : Question) (found expected begun from upto : ℕ) → (expected ≢ 0 → found ≡ expected)
+      → IsHeardAs format text node q found begun from upto → IsHeardAs format text node q expected begun from upto
+  expected_heard q found expected begun from upto same h = record {
     on = h.on;
-    heard = λ some. subst (λ (n : ℕ). IsHeard format text node q (answer.Value n) from upto) (same some)
+    heard = λ some. subst (λ (n : ℕ). IsHeard format text node q (answer.Value n) begun from upto) (same some)
         (h.heard (λ none. some (sym (same some) ∙ none)));
   }
 
@@ -75,7 +90,7 @@ has_expected : (format : Format) (text : Option (List ℕ)) (net : Network) (t :
     → HasExpected t f → IsHeardDevice format text f → IsHeardAsListed format text net f.id
 has_expected format text net t f listed has heard = let h = heard.2 in record {
   t = t;
-  from = heard.0;
+  begun = heard.0;
   upto = heard.1;
   listed = listed;
   heard = record {
@@ -83,11 +98,11 @@ has_expected format text net t f listed has heard = let h = heard.2 in record {
     second = h.second;
     third = h.third;
     fourth = h.fourth;
-    device_type = expected_heard format text f.id device_type f.device_type t.device_type heard.0 h.first has.device_type h.device_type;
-    vendor = expected_heard format text f.id vendor_id f.vendor t.vendor h.first h.second has.vendor h.vendor;
-    product = expected_heard format text f.id product_code f.product t.product h.second h.third has.product h.product;
-    revision = expected_heard format text f.id revision_number f.revision t.revision h.third h.fourth has.revision h.revision;
-    serial = expected_heard format text f.id serial_number f.serial t.serial h.fourth heard.1 has.serial h.serial;
+    device_type = expected_heard format text f.id device_type f.device_type t.device_type heard.0 heard.0 h.first has.device_type h.device_type;
+    vendor = expected_heard format text f.id vendor_id f.vendor t.vendor heard.0 h.first h.second has.vendor h.vendor;
+    product = expected_heard format text f.id product_code f.product t.product heard.0 h.second h.third has.product h.product;
+    revision = expected_heard format text f.id revision_number f.revision t.revision heard.0 h.third h.fourth has.revision h.revision;
+    serial = expected_heard format text f.id serial_number f.serial t.serial heard.0 h.fourth heard.1 has.serial h.serial;
   };
 }
 

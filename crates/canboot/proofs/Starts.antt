@@ -28,55 +28,55 @@ use Rattle.canboot.proofs.ReceivedRounds.{call_on, given_on}
 module _ (format : Format) (text : Option (List ℕ)) where
   -- ---- the answers of one boot
 
-  split_given : (node : ℕ) (xs ys : List (Question × Answer)) (from upto : ℕ) → AreGiven format text node (xs ++ ys) from upto
-      → (mid : ℕ) × AreGiven format text node xs from mid × AreGiven format text node ys mid upto
-  split_given node [] ys from upto h = (from, omega arith, h)
-  split_given node (x ∷ xs) ys from upto h = let r = split_given node xs ys h.0 upto h.2 in (r.0, (h.0, h.1, r.1), r.2)
+  split_given : (node begun : ℕ) (xs ys : List (Question × Answer)) (from upto : ℕ) → AreGiven format text node begun (xs ++ ys) from upto
+      → (mid : ℕ) × AreGiven format text node begun xs from mid × AreGiven format text node begun ys mid upto
+  split_given node begun [] ys from upto h = (from, omega arith, h)
+  split_given node begun (x ∷ xs) ys from upto h = let r = split_given node begun xs ys h.0 upto h.2 in (r.0, (h.0, h.1, r.1), r.2)
 
-  wider : (node : ℕ) (q : Question) (x : Answer) (from mid upto : ℕ) → mid ≤ upto → IsHeard format text node q x from mid → IsHeard format text node q x from upto
-  wider node q x from mid upto le h = record { place = h.place; frame = h.frame; behind = h.behind; within = omega (arith, le, h.within); stands = h.stands; answers = h.answers }
+  wider : (node : ℕ) (q : Question) (x : Answer) (begun from mid upto : ℕ) → mid ≤ upto → IsHeard format text node q x begun from mid → IsHeard format text node q x begun from upto
+  wider node q x begun from mid upto le h = record { place = h.place; frame = h.frame; behind = h.behind; within = omega (arith, le, h.within); stands = h.stands; answers = h.answers; same = h.same }
 
-  of_value : (node : ℕ) (q : Question) (v from mid upto : ℕ) → mid ≤ upto → (answer.Value v ≡ answer.Silent) ⊎ IsHeard format text node q (answer.Value v) from mid → IsHeard format text node q (answer.Value v) from upto
-  of_value node q v from mid upto le (inl s) = absurd (cc s)
-  of_value node q v from mid upto le (inr h) = wider node q (answer.Value v) from mid upto le h
+  of_value : (node : ℕ) (q : Question) (v begun from mid upto : ℕ) → mid ≤ upto → (answer.Value v ≡ answer.Silent) ⊎ IsHeard format text node q (answer.Value v) begun from mid → IsHeard format text node q (answer.Value v) begun from upto
+  of_value node q v begun from mid upto le (inl s) = absurd (cc s)
+  of_value node q v begun from mid upto le (inr h) = wider node q (answer.Value v) begun from mid upto le h
 
-  value_given : (node : ℕ) (q : Question) (g : Got) (v from upto : ℕ) → g ≡ got.Value v → AreGiven format text node (each_of (Some q) (given g)) from upto → IsHeard format text node q (answer.Value v) from upto
-  value_given node q g v from upto e h =
-      let P : Got → Type 0 = λ (k : Got). AreGiven format text node (each_of (Some q) (given k)) from upto in
-      let k = subst P e h in of_value node q v from k.0 upto k.2 k.1.given
+  value_given : (node : ℕ) (q : Question) (g : Got) (v begun from upto : ℕ) → g ≡ got.Value v → AreGiven format text node begun (each_of (Some q) (given g)) from upto → IsHeard format text node q (answer.Value v) begun from upto
+  value_given node q g v begun from upto e h =
+      let P : Got → Type 0 = λ (k : Got). AreGiven format text node begun (each_of (Some q) (given k)) from upto in
+      let k = subst P e h in of_value node q v begun from k.0 upto k.2 k.1.given
 
-  heard_as : (node : ℕ) (q : Question) (g : Got) (expected from mid upto : ℕ) → mid ≤ upto → IsAsExpected expected g → AreGiven format text node (each_of (Some q) (given g)) from mid → IsHeardAs format text node q expected from upto
-  heard_as node q g expected from mid upto le h k = record {
-    on = omega (arith, le, given_on format text node (each_of (Some q) (given g)) from mid k);
-    heard = λ n. wider node q (answer.Value expected) from mid upto le (value_given node q g expected from mid (h n) k);
+  heard_as : (node : ℕ) (q : Question) (g : Got) (expected begun from mid upto : ℕ) → mid ≤ upto → IsAsExpected expected g → AreGiven format text node begun (each_of (Some q) (given g)) from mid → IsHeardAs format text node q expected begun from upto
+  heard_as node q g expected begun from mid upto le h k = record {
+    on = omega (arith, le, given_on format text node begun (each_of (Some q) (given g)) from mid k);
+    heard = λ n. wider node q (answer.Value expected) begun from mid upto le (value_given node q g expected begun from mid (h n) k);
   }
 
-  of_fields : (node : ℕ) (e : SlaveEntry) (t : Terms) (a : Answers) (from upto : ℕ) → HasIdentity t a → AreGiven format text node (flat_map (asked_of e a) fields) from upto → HasHeardIdentity format text t node from upto
+  of_fields : (node begun : ℕ) (e : SlaveEntry) (t : Terms) (a : Answers) (from upto : ℕ) → HasIdentity t a → AreGiven format text node begun (flat_map (asked_of e a) fields) from upto → HasHeardIdentity format text t node begun from upto
   unfolding fields asked_of question
-  of_fields node e t a from upto h k =
-      let s1 = split_given node (each_of (Some device_type) (given a.device)) _ from upto k in
-      let s2 = split_given node (each_of (Some vendor_id) (given (id_of a 0))) _ s1.0 upto s1.2 in
-      let s3 = split_given node (each_of (Some product_code) (given (id_of a 1))) _ s2.0 upto s2.2 in
-      let s4 = split_given node (each_of (Some revision_number) (given (id_of a 2))) _ s3.0 upto s3.2 in
-      let s5 = split_given node (each_of (Some serial_number) (given (id_of a 3))) _ s4.0 upto s4.2 in
+  of_fields node begun e t a from upto h k =
+      let s1 = split_given node begun (each_of (Some device_type) (given a.device)) _ from upto k in
+      let s2 = split_given node begun (each_of (Some vendor_id) (given (id_of a 0))) _ s1.0 upto s1.2 in
+      let s3 = split_given node begun (each_of (Some product_code) (given (id_of a 1))) _ s2.0 upto s2.2 in
+      let s4 = split_given node begun (each_of (Some revision_number) (given (id_of a 2))) _ s3.0 upto s3.2 in
+      let s5 = split_given node begun (each_of (Some serial_number) (given (id_of a 3))) _ s4.0 upto s4.2 in
       record {
         first = s1.0;
         second = s2.0;
         third = s3.0;
         fourth = s4.0;
-        device_type = heard_as node device_type a.device t.device_type from s1.0 s1.0 (omega arith) h.device_type s1.1;
-        vendor = heard_as node vendor_id (id_of a 0) t.vendor s1.0 s2.0 s2.0 (omega arith) h.vendor s2.1;
-        product = heard_as node product_code (id_of a 1) t.product s2.0 s3.0 s3.0 (omega arith) h.product s3.1;
-        revision = heard_as node revision_number (id_of a 2) t.revision s3.0 s4.0 s4.0 (omega arith) h.revision s4.1;
-        serial = heard_as node serial_number (id_of a 3) t.serial s4.0 s5.0 upto (given_on format text node _ s5.0 upto s5.2) h.serial s5.1;
+        device_type = heard_as node device_type a.device t.device_type begun from s1.0 s1.0 (omega arith) h.device_type s1.1;
+        vendor = heard_as node vendor_id (id_of a 0) t.vendor begun s1.0 s2.0 s2.0 (omega arith) h.vendor s2.1;
+        product = heard_as node product_code (id_of a 1) t.product begun s2.0 s3.0 s3.0 (omega arith) h.product s3.1;
+        revision = heard_as node revision_number (id_of a 2) t.revision begun s3.0 s4.0 s4.0 (omega arith) h.revision s4.1;
+        serial = heard_as node serial_number (id_of a 3) t.serial begun s4.0 s5.0 upto (given_on format text node begun _ s5.0 upto s5.2) h.serial s5.1;
       }
 
-  pub of_entry : (o : Option SlaveEntry) (node : ℕ) (t : Terms) (a : Answers) (from upto : ℕ) → option_map terms_of o ≡ Some t → HasIdentity t a → AreGiven format text node (asked o a) from upto → HasHeardIdentity format text t node from upto
-  of_entry None node t a from upto e h k = absurd (nothing e)
+  pub of_entry : (o : Option SlaveEntry) (node begun : ℕ) (t : Terms) (a : Answers) (from upto : ℕ) → option_map terms_of o ≡ Some t → HasIdentity t a → AreGiven format text node begun (asked o a) from upto → HasHeardIdentity format text t node begun from upto
+  of_entry None node begun t a from upto e h k = absurd (nothing e)
     where
       nothing : None ≡ Some t → ⊥
       nothing d = cc
-  of_entry (Some s) node t a from upto e h k = of_fields node s t a from upto h k
+  of_entry (Some s) node begun t a from upto e h k = of_fields node begun s t a from upto h k
 
   -- ---- the entries of a history
 
@@ -108,7 +108,8 @@ module _ (format : Format) (text : Option (List ℕ)) where
     start_heard : (e : Entry) (from upto : ℕ) → Rightly e → IsReceivedCall format text net e.call from upto → IsHeardStart format text net e from upto
     start_heard e from upto r h = λ i number a c s.
         let k = r.1 i number a c s in
-        (k.terms, k.listed, of_entry (entry net i) i k.terms a from upto k.listed k.identity (subst (λ (d : Call). IsReceivedCall format text net d from upto) c h))
+        let w = subst (λ (d : Call). IsReceivedCall format text net d from upto) c h in
+        (k.terms, k.listed, w.0, w.1, of_entry (entry net i) i w.0 k.terms a w.0 upto k.listed k.identity w.2, w.2)
 
     by_seat : (b : Bool) (seat : ℕ) (e : Entry) (m : Made) (rest : List Made) (es : List Entry) (from upto : ℕ) → m.call ≡ e.call → Rightly e → AreReceived format text net (if b then m ∷ rest else rest) from upto
         → ((at : ℕ) → AreReceived format text net rest at upto → AreHeardStarts format text net seat es at)

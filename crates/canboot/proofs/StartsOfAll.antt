@@ -56,7 +56,8 @@ module _ (format : Format) (text : Option (List ℕ)) (net : Network) where
   stands_heard i t [] listed r s = absurd s
   stands_heard i t (e ∷ past) listed r (inl s) =
       let k = r.0 in
-      inl (s, k.0, k.1, k.2, of_entry format text (entry net i) i t s.answers k.0 k.1 listed s.identity (subst (λ (c : Call). IsReceivedCall format text net c k.0 k.1) s.call k.2))
+      let w = subst (λ (c : Call). IsReceivedCall format text net c k.0 k.1) s.call k.2 in
+      inl (s, k.0, k.1, k.2, (w.0, w.1, of_entry format text (entry net i) i w.0 t s.answers w.0 k.1 listed s.identity w.2))
   stands_heard i t (e ∷ past) listed r (inr s) = inr (s.0, stands_heard i t past listed r.1 s.1)
 
   pub starts_of_all : (past : List Entry) → EachReceived past → AtEach (BecomesOperationalRightly (listing net)) past → AtEach (StartsAllHeard format text net) past

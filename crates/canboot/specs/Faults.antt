@@ -9,3 +9,4 @@ abbrev pub fault_of : Last → Option CallFault
 fault_of (last.Status s) = None
 fault_of (last.Refused r) = None
 fault_of (last.Fault f) = Some f
+fault_of last.Left = None

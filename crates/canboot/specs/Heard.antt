@@ -1,5 +1,5 @@
 -- What was received of the reports in a history, whose oldest entry comes first (own).
-use Rattle.std.specs.Prelude.{◌≡◌, ℕ, List, ◌∷◌, Option, Some, IsTrue, reverse, true}
+use Rattle.std.specs.Prelude.{◌≡◌, ◌≤◌, ℕ, List, ◌∷◌, Option, Some, IsTrue, reverse, true}
 use Rattle.cm_nmt.specs.Bits.{has_bit}
 use Rattle.cm_nmt.specs.Listing.{is_mandatory}
 use Rattle.cm_nmt.specs.NodeId.{IsNodeId}
@@ -18,11 +18,13 @@ abbrev pub WasReceived : Format → Option (List ℕ) → Network → Entry → 
 WasReceived format text net e = (from : ℕ) × (upto : ℕ) × IsReceivedCall format text net e.call from upto
 
 -- the entry is a report of slave i that was granted and shows the identity that is expected, its answers were received, and
--- each set value of 1F84h to 1F88h was heard between the same places
+-- each set value of 1F84h to 1F88h was heard between the same places; from where the boot began to each of them no boot-up message of
+-- the slave stands
 abbrev pub HasShownHeard : Format → Option (List ℕ) → Network → Terms → ℕ → Entry → Type 0
 HasShownHeard format text net t i e =
     ShowsIdentity t i e × (from : ℕ) × (upto : ℕ)
-    × IsReceivedCall format text net e.call from upto × HasHeardIdentity format text t i from upto
+    × IsReceivedCall format text net e.call from upto
+    × ((begun : ℕ) × (from ≤ begun) × HasHeardIdentity format text t i begun begun upto)
 
 -- where the entry's orders start all, each mandatory slave that is to be booted, 1F81h bit 2, has made such a report since it
 -- was last cleared

@@ -14,9 +14,10 @@ abbrev pub found_of : ℕ → Identity → Found
 found_of id i =
     record { id = id; device_type = i.device_type; vendor = i.vendor; product = i.product; revision = i.revision; serial = i.serial }
 
--- each value of the device that isn't 0 was heard from it among the bytes received, each behind the one before
+-- each value of the device that isn't 0 was heard from it among the bytes received, each behind the one before, with no boot-up message
+-- of its node-ID between where it was asked first and them
 abbrev pub IsHeardDevice : Format → Option (List ℕ) → Found → Type 0
-IsHeardDevice format received f = (from upto : ℕ) × HasHeardIdentity format received (listed_as f) f.id from upto
+IsHeardDevice format received f = (begun upto : ℕ) × HasHeardIdentity format received (listed_as f) f.id begun begun upto
 
 -- the text is the network list of devices that were heard so, and of no others
 pub record IsListHeard (format : Format) (received : Option (List ℕ)) (own : ℕ) (text : List ℕ) : Type 0 where
@@ -34,13 +35,13 @@ pub record Scans (format : Format) (received : Option (List ℕ)) (own : ℕ) (o
 abbrev pub FailsToScan : Format → Option (List ℕ) → ℕ → Option (List ℕ) → Option (List ℕ) → Type 0
 FailsToScan format received own output output' = (output' ≡ output) ⊎ ((text : List ℕ) × IsListHeard format received own text)
 
--- each value that is expected of this listed slave was heard from it among the bytes received, each behind the one before
+-- each value that is expected of this listed slave was heard so from it
 pub record IsHeardAsListed (format : Format) (received : Option (List ℕ)) (net : Network) (i : ℕ) : Type 0 where
   pub t : Terms
-  pub from : ℕ
+  pub begun : ℕ
   pub upto : ℕ
   pub listed : terms net i ≡ Some t
-  pub heard : HasHeardIdentity format received t i from upto
+  pub heard : HasHeardIdentity format received t i begun begun upto
 
 -- and so of each listed slave
 abbrev pub AreHeardAsListed : Format → Option (List ℕ) → Network → Type 0

@@ -33,7 +33,7 @@ pub use importing::{ImportWords, LONGEST_DEVICE_FILE, import_text};
 pub use json::{check_as_json, replay_as_json};
 pub use live::{
     Followed, HostFiles, LONGEST_LIVE, LiveEnds, LiveOptions, NoFiles, ReplaceFile, StatusFile,
-    live_round, live_text,
+    UntilOver, live_round, live_text,
 };
 pub use picture::picture_text;
 pub use program::{run, run_words};

@@ -6,7 +6,7 @@ use crate::explain::explain_file;
 use crate::importing::{ImportWords, import_file};
 use crate::json::{check_file_as_json, replay_as_json};
 use crate::live::ReplaceFile;
-use crate::live::files::live_file;
+use crate::live::told_lines::live_told;
 use crate::picture::picture_text;
 use crate::replaying::replay_explained;
 use crate::scan::files::scan_file;
@@ -27,7 +27,8 @@ use std::thread::Threads;
 use std::time::Clock;
 
 /// Runs canboot on the words of its command line and its standard input and output, with `err` for
-/// what goes to standard error, and gives its exit status.
+/// what goes to standard error, and gives its exit status. What a live run tells goes there by a thread of its own, since whoever reads
+/// there may keep it waiting.
 pub fn run<
     R: Env
         + Files<File = File>
@@ -42,7 +43,7 @@ pub fn run<
         + Sync
         + Drop
         + 'static,
-    E: Write + IsTerminal,
+    E: Write + IsTerminal + Copy + Send + Drop + 'static,
     F: ReplaceFile + Send + Drop + 'static,
 >(rt: &R, err: &mut E, files: F) -> ExitCode {
     ExitCode::from(run_here(rt, err, files))
@@ -62,7 +63,7 @@ fn run_here<
         + Sync
         + Drop
         + 'static,
-    E: Write + IsTerminal,
+    E: Write + IsTerminal + Copy + Send + Drop + 'static,
     F: ReplaceFile + Send + Drop + 'static,
 >(rt: &R, err: &mut E, files: F) -> u8
     ensures statuses { result ≤ 3 }
@@ -84,6 +85,7 @@ fn run_here<
         &mut rt.reader(),
         &mut out,
         err,
+        Some(*err),
         files,
         is_coloured,
     )
@@ -101,7 +103,9 @@ fn has_no_color<R: Env + AllocGlobal>(rt: &R) -> bool {
 /// [`check_file`], [`explain_text`](crate::explain_text), [`import_text`](crate::import_text), [`scan_text`](crate::scan_text),
 /// [`scan_check`](crate::scan_check), [`run_file`](canboot_run::run_file), [`live_text`](crate::live_text), [`replay_text`],
 /// [`replay_explained`], [`mend_text`], [`tell_text`] or [`picture_text`], 0 for help and the version, 2 for wrong words, 3 for a file that can't be opened or made. Where `err` is a
-/// terminal, a live run says the time with each line there.
+/// terminal, a live run says the time with each line there. Where there is `told`, a live run tells there what it tells, and not on
+/// `err`: a thread of its own writes it, which isn't joined; where nobody takes it, 16,384 lines wait at most, and more are left out
+/// and counted.
 pub fn run_words<
     R: Files<File = File>
         + Input<Reader = StdinLock<'static>>
@@ -117,6 +121,7 @@ pub fn run_words<
     I: Read,
     W: Write,
     E: Write,
+    S: Write + Send + Drop + 'static,
     F: ReplaceFile + Send + Drop + 'static,
 >(
     rt: &R,
@@ -124,6 +129,7 @@ pub fn run_words<
     input: &mut I,
     out: &mut W,
     err: &mut E,
+    told: Option<S>,
     files: F,
     is_coloured: bool,
 ) -> u8
@@ -156,11 +162,7 @@ pub fn run_words<
             let status = scan_file(rt, &words, out, &mut err);
             err.end(status)
         }
-        Ok(Action::Live(words)) => {
-            let mut err = FaultObjects::new(rt.alloc(), words.report, err);
-            let status = live_file(rt, &words, files, out, &mut err, is_coloured);
-            err.end(status)
-        }
+        Ok(Action::Live(words)) => live_told(rt, &words, files, out, err, told, is_coloured),
         Ok(Action::Replay(output)) => replay_as(rt.alloc(), output, input, out, err),
         Ok(Action::Mend) => mend_text(rt.alloc(), input, out, err),
         Ok(Action::Tell { node, is_explained }) => {

@@ -16,7 +16,7 @@ use Rattle.cm_seat.specs.declared.made.Receipt.{Receipt}
 use Rattle.cm_run.specs.Buses.{Steps, put_on, slave_at}
 use Rattle.cm_run.specs.Operating.{with_receipts}
 use Rattle.cm_run.specs.declared.bus.SimBus.{SimBus}
-use Rattle.cm_run.specs.Rounds.{AreRounds}
+use Rattle.cm_run.specs.Rounds.{AllReported, AreRounds}
 use Rattle.cm_run.specs.Running.{id_of}
 use Rattle.cm_run.specs.Shares.{share}
 use Rattle.cm_run.specs.declared.outcome.Last.{Last}
@@ -33,6 +33,7 @@ is_booted outcome = comes_good outcome.last
     comes_good (last.Status s) = is_good s
     comes_good (last.Refused n) = false
     comes_good (last.Fault f) = false
+    comes_good last.Left = false
 
 -- the slave of the outcome is booted, and dies then
 abbrev pub is_lost : SlaveFaults → Outcome → Bool
@@ -70,6 +71,7 @@ abbrev pub WasMade : Last → Type 0
 WasMade (last.Status s) = Unit {0}
 WasMade (last.Refused r) = Unit {0}
 WasMade (last.Fault f) = ⊥
+WasMade last.Left = ⊥
 
 -- and so for the last attempt at a slave, behind which a round ends
 abbrev pub AreMade : Outcome → Type 0
@@ -81,7 +83,7 @@ pub record BootsSlaves (net : Network) (w attempts k : ℕ) (outcomes : List Out
   pub slaves : map id_of outcomes ≡ share w k (listed_ids net)
   pub made : All AreMade outcomes
   pub after : SimBus
-  pub rounds : AreRounds Steps net attempts outcomes bus calls after
+  pub rounds : AreRounds Steps AllReported net attempts outcomes bus calls after
 
 -- worker k of w, who has seat k + 2, has made just the calls by which it boots its slaves over a bus of its slaves, to its outcomes
 pub record HasWorked (net : Network) (w attempts : ℕ) (faults : SlaveFaults) (outcomes : List Outcome) (entries : List Entry) (k : ℕ) : Type 0 where

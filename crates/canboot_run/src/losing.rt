@@ -17,7 +17,7 @@ fn is_booted(outcome: &Outcome) -> bool
 {
     match outcome.last {
         Last::Status(status) => status.is_good(),
-        Last::Refused(_) | Last::Fault(_) => false,
+        Last::Refused(_) | Last::Fault(_) | Last::Left => false,
     }
 }
 

@@ -321,12 +321,14 @@ fn status_of<
         writes: 0,
         flushes: true,
     };
+    let told: Option<Vec<u8>> = None;
     Ok(run_words(
         rt,
         line.as_slice(),
         &mut input,
         &mut out,
         &mut err,
+        told,
         NoFiles,
         false,
     ))

@@ -81,9 +81,13 @@ back_words i =
 abbrev pub unwatched_words : ℕ → List ℕ
 unwatched_words i = codes "node " ++ (decimal i ++ codes " isn't watched: it has no heartbeat time and no guard time")
 
+-- changes of state, so many, behind their number (own)
+abbrev pub change_words : ℕ → List ℕ
+change_words count = if count == 1 then codes "change of state" else codes "changes of state"
+
 -- so many changes of state of a node were left out (own)
 abbrev pub left_out_words : ℕ → ℕ → List ℕ
-left_out_words i count = node_words i (decimal count ++ codes " changes of state, left out")
+left_out_words i count = node_words i (decimal count ++ (codes " " ++ (change_words count ++ codes ", left out")))
 
 -- why a slave isn't booted though its operator asks for it (own)
 abbrev pub no_boot_words : ℕ → NoBoot → List ℕ

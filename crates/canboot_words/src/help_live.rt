@@ -205,9 +205,10 @@ input, where that is given (a FIFO of --operator has none); or where no more
 frames can be received or sent. Without an operator and --for it goes on.
 
 At its end standard error says which nodes run on: they do, unless 'stop' was
-typed before 'quit'. The workers finish, and canboot prints the report on
-standard output and writes the last line of the journal, if --journal names a
-FILE. 'canboot replay < FILE' accepts the journal, and prints the same report.
+typed before 'quit'. A boot that is under way is left without a report, and
+starts no slave. canboot prints the report on standard output and writes the
+last line of the journal, if --journal names a FILE. 'canboot replay < FILE'
+accepts the journal, and prints the same report.
 
 canboot writes the journal while the run goes on: the line of each call before
 it sends the frames that follow from it. So where the run is killed, FILE has

@@ -2,7 +2,7 @@
 use Rattle.std.proofs.Common.{◌≡◌, ℕ, zero, suc, ◌+◌, List, [], ◌∷◌, ◌++◌, length, take, drop, refl, sym, ap, subst, ◌∙◌, arith}
 use Rattle.std.specs.Prelude.{Option, Some, None, slice_get}
 use Rattle.std.specs.Io.KnownBytes.{Consumes}
-use Rattle.std.proofs.lemmas.List.{take_more, drop_more, take-append-drop, length-take-le, drop-drop, drop_at}
+use Rattle.std.proofs.lemmas.List.{take_more, drop_more, take-append-drop, length-take-le, drop-drop, drop_at, take_at}
 use Rattle.std.proofs.lemmas.Option.{slice_get_within, get_or_from_slice_get}
 use Rattle.cm_live.specs.Places.{EndsLine, EndsWithLine, HasLineAt, LineStandsIn}
 use Rattle.cm_live.specs.Cutting.{ComeNext, IsCounting, IsCutting, IsLeft}
@@ -35,6 +35,21 @@ line_at t n b line e ends last = record {
   ends = ends;
   last = last;
 }
+
+get_seam : (front : List ℕ) (b : ℕ) (rest : List ℕ) → slice_get (front ++ b ∷ rest) (length front) ≡ Some b
+get_seam [] b rest = refl
+get_seam (x ∷ front) b rest = get_seam front b rest
+
+pub same_some : (a b : ℕ) → Some a ≡ Some b → a ≡ b
+same_some a b e = cc
+
+-- a line that stands at a place is the end of the bytes before it
+pub line_before : (t : List ℕ) (n b : ℕ) (line : List ℕ) → slice_get t n ≡ Some b → HasLineAt t n line → EndsLine b × EndsWithLine (take n t) line
+line_before t n b line at h =
+    let ending : slice_get t n ≡ Some h.ending = ap (λ (l : List ℕ). slice_get l n) h.parts
+    ∙ subst (λ (k : ℕ). slice_get (h.taken ++ h.ending ∷ h.rest) k ≡ Some h.ending) h.place_is (get_seam h.taken h.ending h.rest) in
+    let front : take n t ≡ h.taken = ap (λ (l : List ℕ). take n l) h.parts ∙ take_at h.taken (h.ending ∷ h.rest) n h.place_is in
+    (subst EndsLine (sym (same_some b h.ending (sym at ∙ ending))) h.ends, subst (λ (l : List ℕ). EndsWithLine l line) (sym front) h.last)
 
 -- ---- bytes that come next
 

@@ -1,14 +1,15 @@
 -- How the bytes that are received are cut into lines (own).
-use Rattle.std.specs.Prelude.{◌≡◌, ◌+◌, ℕ, List, Option, Some, IsTrue, IsFalse, slice_get, drop, take}
+use Rattle.std.specs.Prelude.{◌≡◌, ◌<◌, ◌+◌, ℕ, List, Option, Some, IsTrue, IsFalse, length, slice_get, drop, take}
 use Rattle.cm_live.specs.Places.{IsLineStart, EndsWithLine}
 use Rattle.cm_live.specs.declared.line_counter.LineCounter.{LineCounter}
 use Rattle.cm_live.specs.declared.line_cutter.LineCutter.{LineCutter}
 
 -- how a cutter is that has taken these bytes: the last of them ended a line; or it is in a line, which it has whole unless it is
--- too long
+-- too long, of more than 128 bytes
 pub record IsCutting (taken : List ℕ) (c : LineCutter) : Type 0 where
   pub ended : IsTrue c.is_ended → IsLineStart taken
   pub going : IsFalse c.is_ended → IsFalse c.is_too_long → EndsWithLine taken c.line.items
+  pub long : IsFalse c.is_ended → IsTrue c.is_too_long → (line : List ℕ) → EndsWithLine taken line → 128 < length line
 
 -- how a cutter is that has taken the first bytes of this text, as many as it counts
 abbrev pub IsCounting : List ℕ → LineCounter → Type 0

@@ -1,5 +1,5 @@
 -- Which frames may answer a question to a node, by their identifiers (CiA 301, pre-defined connection set).
-use Rattle.std.specs.Prelude.{◌≡◌, ◌⊎◌, ◌+◌, ◌-◌, ◌==◌, ◌&&◌, ℕ, Bool, false, Option, None}
+use Rattle.std.specs.Prelude.{◌≡◌, ◌⊎◌, ◌+◌, ◌-◌, ℕ, Option, None}
 use Rattle.cm_nmt.specs.NodeId.{IsNodeId}
 use Rattle.cm_boot.specs.declared.question.Question.{Question}
 use Rattle.cm_boot.specs.declared.question.Question.TheVariants.{Read, Write}
@@ -14,11 +14,6 @@ abbrev pub id_of_answer : ℕ → Question → ℕ
 id_of_answer node (Read index sub) = 0x0580 + node
 id_of_answer node (Write w) = 0x0580 + node
 id_of_answer node _ = 0x0700 + node
-
--- whether a boot begins with the question: that of the device type is the first, where it is asked at all (CiA 302-2, boot slave)
-abbrev pub begins_boot : Question → Bool
-begins_boot (Read index sub) = index == 0x1000 && sub == 0
-begins_boot _ = false
 
 -- the node that sends data frames with this identifier, of which it may answer a question: n where it is 580h + n or 700h + n,
 -- with n from 1 to 127 (CiA 301, pre-defined connection set)

@@ -5,6 +5,7 @@ pub mod Outlets
 pub mod Hearing
 pub mod Places
 pub mod Cutting
+pub mod BootUps
 pub mod Receiving
 pub mod Console
 pub mod Identifiers

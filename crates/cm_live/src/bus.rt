@@ -1,8 +1,8 @@
 //! The bus of one worker.
-ghost use Rattle.std.specs.Prelude.{◌≡◌, ◌+◌, ◌<◌, ◌≤◌, ◌++◌, ◌∷◌, [], ℕ, IfNone, IfOk, IfSome, None, vec_capacity, vec_len};
+ghost use Rattle.std.specs.Prelude.{◌≡◌, ◌+◌, ◌<◌, ◌≤◌, ◌++◌, ◌∷◌, [], ℕ, if◌then◌else◌, IfNone, IfOk, IfSome, None, false, vec_capacity, vec_len};
 ghost use Rattle.cm_netlist.specs.Network.{entry};
 ghost use Rattle.cm_live.specs.Talk.{HasAsked, HasPut, HasWaited, IsAbort, IsAbortCode, IsAsking, IsClosing, answer_in, frame_in};
-ghost use Rattle.cm_live.specs.Receiving.{IsGiven};
+ghost use Rattle.cm_live.specs.Receiving.{EndsBoot, IsGiven};
 ghost use Rattle.cm_live.specs.Waits.{beat_ms, behind, wait_ms};
 
 use crate::bus_name::BusName;
@@ -29,8 +29,10 @@ const MOST_OF_ONE: usize = 67;
 const MOST_EVENTS: usize = 27_470;
 
 /// A CAN bus on which slaves are asked, over a port. Its log has what went over the port for each question since
-/// the log was emptied; a log that is full is emptied for the next question, and no round of a worker fills one.
-/// Contracts see the log.
+/// the log was emptied; a log that is full is emptied for the next question, and no round of a worker fills one. A boot
+/// begins with its first question, and goes on until its end is told: of a slave that has booted up since it began, nothing
+/// more is heard in it, since what comes then may be another device's. Contracts see the log, the places behind which
+/// frames are heard, and whether a boot goes on.
 #[derive(Drop)]
 pub struct LiveBus<'n, B: BusName, P: Port<B>> {
     network: &'n Network,
@@ -39,6 +41,11 @@ pub struct LiveBus<'n, B: BusName, P: Port<B>> {
     /// The place of the frame that was heard last, or behind it of the last byte that was read before the last
     /// question: other frames are heard behind it alone.
     last: u64,
+    /// The place behind which the answers of the boot that goes on are heard: none of them comes behind a boot-up
+    /// message of its slave that stands behind this place, since it may be another device's.
+    begun: u64,
+    /// A question of the boot was asked, and its end wasn't told yet.
+    goes_on: bool,
     log: Vec<Event>,
     of: PhantomData<B>,
 }
@@ -49,7 +56,7 @@ impl<'n, B: BusName, P: Port<B>> Model for LiveBus<'n, B, P> {
 
     ghost Value = { BusView };
 
-    ghost view = { λ b. record { log = b.log.items; heard = b.last } };
+    ghost view = { λ b. record { log = b.log.items; heard = b.last; begun = b.begun; goes_on = b.goes_on } };
 
     ghost invariant = { λ b. 27470 ≤ vec_capacity b.log };
 }
@@ -97,18 +104,20 @@ fn expire(log: &mut Vec<Event>) -> Option<Reply>
     None
 }
 
-/// Waits for the first frame behind the last place that answers the question. Others are passed over; of them, those
-/// up to that place don't stand in the log. `None` once the time is over, or where too many others came.
+/// Waits for the first frame behind the last place that answers the question, and whose node hasn't booted up since the
+/// boot that goes on began. Others are passed over; of them, those up to the last place, and those of a node that has
+/// booted up, don't stand in the log. `None` once the time is over, or where too many others came.
 fn wait_for<B: BusName, P: Port<B>>(
     port: &mut P,
     last: &mut u64,
+    begun: u64,
     log: &mut Vec<Event>,
     id: NodeId,
     question: &Question,
 ) -> Option<Reply>
     requires room { vec_len log.old + 65 ≤ vec_capacity log.old }
     ensures waited { HasWaited id question.now result log.old.items log.new.items }
-    ensures given { IsGiven B.format B.text id question.now (answer_in result) last.old last.new }
+    ensures given { IsGiven B.format B.text id question.now (answer_in result) begun last.old last.new }
     ensures capacity { vec_capacity log.new ≡ vec_capacity log.old }
 {
     for passed in 0..MOST_PASSED {
@@ -116,7 +125,7 @@ fn wait_for<B: BusName, P: Port<B>>(
             return expire(log);
         };
         let place = received.place();
-        if place <= *last {
+        if place <= *last || received.since() > begun {
             continue;
         }
         *last = place;
@@ -204,24 +213,30 @@ fn raise(last: &mut u64, read: u64)
     }
 }
 
-/// Asks a question, when so many bytes were read: sends its request, waits for an answer that was read behind them,
+/// The place at which the boot of the next question began: the last place, where none goes on.
+fn begun_at(goes_on: bool, begun: u64, last: u64) -> u64
+    ensures { result ≡ (if goes_on then begun else last) }
+{
+    if goes_on { begun } else { last }
+}
+
+/// Asks a question of the boot that began at this place: sends its request, waits for an answer behind the last place,
 /// and aborts the transfer where it is to be aborted.
 fn ask_by<B: BusName, P: Port<B>>(
     port: &mut P,
     last: &mut u64,
+    begun: u64,
     log: &mut Vec<Event>,
     id: NodeId,
     question: &Question,
-    read: u64,
 ) -> Answer
     requires room { vec_len log.old + 67 ≤ vec_capacity log.old }
     ensures asked { HasAsked id question.now result log.old.items log.new.items }
-    ensures given { IsGiven B.format B.text id question.now result (behind last.old read) last.new }
+    ensures given { IsGiven B.format B.text id question.now result begun last.old last.new }
     ensures capacity { vec_capacity log.new ≡ vec_capacity log.old }
 {
-    raise(last, read);
     send_request(port, log, id, question);
-    let reply = wait_for(port, last, log, id, question);
+    let reply = wait_for(port, last, begun, log, id, question);
     close_transfer(port, log, id, question, &reply);
     answer_in(reply)
 }
@@ -248,7 +263,7 @@ impl<'n, B: BusName, P: Port<B>> LiveBus<'n, B, P> {
         answer_ms: u32,
         port: P,
     ) -> Result<LiveBus<'n, B, P>, AllocError>
-        ensures { IfOk result (λ b. (b.log ≡ []) × (b.heard ≡ 0)) }
+        ensures { IfOk result (λ b. (b.log ≡ []) × (b.heard ≡ 0) × (b.goes_on ≡ false)) }
     {
         let log = Vec::with_capacity(alloc, MOST_EVENTS)?;
         Ok(LiveBus {
@@ -256,17 +271,35 @@ impl<'n, B: BusName, P: Port<B>> LiveBus<'n, B, P> {
             answer_ms,
             port,
             last: 0,
+            begun: 0,
+            goes_on: false,
             log,
             of: PhantomData,
         })
     }
 
-    /// Empties the log.
+    /// Empties the log. A boot that goes on has ended.
     pub fn forget(&mut self)
         ensures log { self.new.log ≡ [] }
         ensures heard { self.new.heard ≡ self.old.heard }
+        ensures begun { self.new.begun ≡ self.old.begun }
+        ensures ended { self.new.goes_on ≡ false }
     {
         self.log.clear();
+        self.goes_on = false;
+    }
+
+    /// A boot that goes on has ended: the next question begins another one.
+    pub fn end_boot(&mut self)
+        ensures { EndsBoot self.old self.new }
+    {
+        self.goes_on = false;
+    }
+
+    /// Whether the node of the boot that goes on has booted up since it began, by what its port has read. No clause says what
+    /// that is.
+    pub fn has_booted_up(&self, id: NodeId) -> bool {
+        self.goes_on && self.port.last_boot_up(id) > self.begun
     }
 
     /// Talks with a device beside the questions, where an answer is waited for as long as theirs. Nothing of it stands in the log.
@@ -312,23 +345,25 @@ fn wait_of(network: &Network, answer_ms: u32, id: NodeId, question: &Question) -
 
 impl<'n, B: BusName, P: Port<B>> Bus for LiveBus<'n, B, P> {
     ghost use Rattle.cm_live.specs.Talk.{IsAsked};
-    ghost use Rattle.cm_live.specs.Receiving.{IsGiven};
+    ghost use Rattle.cm_live.specs.Receiving.{IsPut};
 
-    ghost step = { λ b id q x c. IsAsked id q x b.log c.log
-        × IsGiven B.format B.text id q x b.heard c.heard };
+    ghost step = { λ b id q x c. IsAsked id q x b.log c.log × IsPut B.format B.text id q x b c };
 
     fn ask(&mut self, id: NodeId, question: Question) -> Answer {
         make_room(&mut self.log);
         let wait = wait_of(self.network, self.answer_ms, id, &question);
         self.port.listen(id, &question, wait);
         let read = self.port.received();
+        raise(&mut self.last, read);
+        self.begun = begun_at(self.goes_on, self.begun, self.last);
+        self.goes_on = true;
         ask_by(
             &mut self.port,
             &mut self.last,
+            self.begun,
             &mut self.log,
             id,
             &question,
-            read,
         )
     }
 }

@@ -13,6 +13,7 @@
 //! told to the one that watches the network ([`Happening`]).
 #![tactic(auto)]
 
+mod boot_ups;
 mod bus;
 mod bus_name;
 mod console;

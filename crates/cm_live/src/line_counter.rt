@@ -1,4 +1,4 @@
-ghost use Rattle.std.specs.Prelude.{◌≡◌, ◌+◌, ◌<◌, ◌^◌, ℕ, List, [], IfSome, Some, slice_get};
+ghost use Rattle.std.specs.Prelude.{◌≡◌, ◌+◌, ◌<◌, ◌≤◌, ◌^◌, ℕ, List, [], IfNone, IfSome, Some, length, slice_get};
 ghost use Rattle.cm_live.specs.Places.{HasLineAt};
 ghost use Rattle.cm_live.specs.Cutting.{IsCounting};
 
@@ -23,15 +23,22 @@ impl LineCounter {
         }
     }
 
-    /// Takes the next byte of what is read. Where it ends a line that is to be read, with [`LineCounter::line`], the
-    /// answer is the line's place.
+    /// Takes the next byte of what is read. Where it ends a line of 1 to 128 bytes, which is to be read with
+    /// [`LineCounter::line`], the answer is the line's place. No other line stands there.
     pub(crate) fn take(&mut self, byte: u8) -> Option<u64>
         requires { self.old.taken < 2 ^ 63 }
         ensures taken { self.new.taken ≡ self.old.taken + 1 }
         ensures counting { (t : List ℕ) → slice_get t self.old.taken ≡ Some byte
             → IsCounting t self.old → IsCounting t self.new }
+        ensures place { IfSome result (λ place. place ≡ self.old.taken) }
         ensures line { IfSome result (λ place. (t : List ℕ) → slice_get t self.old.taken ≡ Some byte
             → IsCounting t self.old → HasLineAt t place self.new.lines.line.items) }
+        ensures only { IfSome result (λ place. (t : List ℕ) → slice_get t self.old.taken ≡ Some byte
+            → IsCounting t self.old → (line : List ℕ) → HasLineAt t place line
+            → line ≡ self.new.lines.line.items) }
+        ensures none { IfNone result ((t : List ℕ) → slice_get t self.old.taken ≡ Some byte
+            → IsCounting t self.old → (line : List ℕ) → HasLineAt t self.old.taken line
+            → length line ≤ 128 → line ≡ []) }
     {
         let place = self.taken;
         let is_line = self.lines.take(byte);

@@ -1,4 +1,4 @@
-ghost use Rattle.std.specs.Prelude.{◌≡◌, ◌++◌, ◌∷◌, ◌⊎◌, [], ℕ, List, IsTrue, IsFalse};
+ghost use Rattle.std.specs.Prelude.{◌≡◌, ◌<◌, ◌≤◌, ◌++◌, ◌∷◌, ◌⊎◌, [], ℕ, List, IsTrue, IsFalse, length};
 ghost use Rattle.cm_live.specs.Places.{EndsLine, EndsWithLine};
 ghost use Rattle.cm_live.specs.Cutting.{IsCutting};
 
@@ -29,6 +29,8 @@ impl LineCutter {
         ensures going { IsFalse self.new.is_ended }
         ensures line { (taken : List ℕ) → IsCutting taken self.old → IsFalse self.new.is_too_long
             → EndsWithLine taken self.new.line.items }
+        ensures long { (taken : List ℕ) → IsCutting taken self.old → IsTrue self.new.is_too_long
+            → (line : List ℕ) → EndsWithLine taken line → 128 < length line }
     {
         if self.is_ended {
             self.line.clear();
@@ -42,6 +44,7 @@ impl LineCutter {
         ensures ended { IsTrue self.new.is_ended }
         ensures line { self.new.line.items ≡ self.old.line.items }
         ensures whole { IsTrue result → IsFalse self.old.is_too_long }
+        ensures passed { IsFalse result → IsFalse self.old.is_too_long → self.old.line.items ≡ [] }
     {
         self.is_ended = true;
         !self.is_too_long && !self.line.is_empty()
@@ -52,6 +55,8 @@ impl LineCutter {
         ensures going { self.new.is_ended ≡ self.old.is_ended }
         ensures added { IsFalse self.new.is_too_long → IsFalse self.old.is_too_long
             × (self.new.line.items ≡ self.old.line.items ++ byte ∷ []) }
+        ensures long { IsTrue self.new.is_too_long → IsFalse self.old.is_too_long
+            → 128 ≤ length self.old.line.items }
     {
         match self.line.try_push(byte) {
             Ok(()) => {}
@@ -60,12 +65,14 @@ impl LineCutter {
     }
 
     /// Takes the next byte. The answer is whether it ends a line that is read with [`LineCutter::line`]: a line
-    /// feed and a carriage return do.
+    /// feed and a carriage return do, where the line has 1 to 128 bytes.
     pub fn take(&mut self, byte: u8) -> bool
         ensures cutting { (taken : List ℕ) → IsCutting taken self.old
             → IsCutting (taken ++ byte ∷ []) self.new }
         ensures line { IsTrue result → (taken : List ℕ) → IsCutting taken self.old
             → EndsLine byte × EndsWithLine taken self.new.line.items }
+        ensures none { IsFalse result → (taken : List ℕ) → IsCutting taken self.old → EndsLine byte
+            → (line : List ℕ) → EndsWithLine taken line → length line ≤ 128 → line ≡ [] }
     {
         self.begin();
         if byte == b'\n' || byte == b'\r' {

@@ -1,17 +1,17 @@
-ghost use Rattle.std.specs.Prelude.{◌≡◌, ◌==◌, ◌&&◌, ◌<◌, ◌-◌, ◌↔◌, ℕ, IfOk, IsTrue, Some, not, vec_len};
+ghost use Rattle.std.specs.Prelude.{◌≡◌, ◌==◌, ◌<◌, ◌-◌, ◌↔◌, ℕ, IfOk, IsTrue, Some, vec_len};
 ghost use Rattle.cm_nmt.specs.NodeId.{IsNodeId};
 ghost use Rattle.cm_boot.specs.declared.question.Answer.{Answer};
 ghost use Rattle.cm_boot.specs.declared.question.Question.{Question as Asked};
 ghost use Rattle.cm_can.specs.declared.frame.CanFrame.{CanFrame as Frame};
 ghost use Rattle.cm_can.specs.Questions.{IsAnswer};
 ghost use Rattle.cm_live.specs.Console.{within};
-ghost use Rattle.cm_live.specs.Identifiers.{IsOfNode, begins_boot, id_of_answer, node_by, node_in};
+ghost use Rattle.cm_live.specs.Identifiers.{IsOfNode, id_of_answer, node_by, node_in};
 
 use cm_boot::Question;
 use cm_can::{CanFrame, Kind};
 use cm_nmt::NodeId;
 use std::alloc::{AllocError, Global};
-use std::sync::atomic::{AtomicBool, AtomicU64, Ordering};
+use std::sync::atomic::{AtomicU64, Ordering};
 
 /// The identifier of a node's SDO server, less the node-ID.
 const FROM_SERVER: u16 = 0x580;
@@ -20,17 +20,14 @@ const FROM_SERVER: u16 = 0x580;
 const ERROR_CONTROL: u16 = 0x700;
 
 /// Which frames each worker listens to: those of one identifier, or none. The reader of the bus gives a worker no
-/// others, so that none are kept for one who doesn't ask; and none of a node that has booted up since its boot began,
-/// since what comes then may be another device's. Beside that, how many bytes the reader has read.
+/// others, so that none are kept for one who doesn't ask. Beside that, how many bytes the reader has read, and where each
+/// node has booted up last among them.
 #[derive(Drop)]
 pub struct Listening {
     ids: Vec<AtomicU64>,
     received: AtomicU64,
-    /// Of each node-ID, and one that is unused: whether a boot of it has begun.
-    begun: Vec<AtomicBool>,
-    /// Of each: whether it has booted up since its last boot began.
-    gone: Vec<AtomicBool>,
-    ghost each: { (vec_len begun ≡ 128) × (vec_len gone ≡ 128) },
+    /// Of each node-ID, and one that is unused.
+    boot_ups: Vec<AtomicU64>,
 }
 
 /// The identifier of the frames that may answer a question: each that answers it has this one.
@@ -79,49 +76,33 @@ pub(crate) fn sender_of(frame: &CanFrame) -> Option<NodeId>
     }
 }
 
-/// Whether a boot begins with this question: that of the device type is the first, where it is asked at all.
-fn begins_boot(question: &Question) -> bool
-    ensures { result ≡ begins_boot question.now }
+/// Whether a worker that listens to this identifier listens to the frame.
+fn is_heard(id: u64, frame: &CanFrame) -> bool
+    ensures { result ≡ (id == frame.now.id.number) }
 {
-    match question {
-        Question::Read(0x1000, 0) => true,
-        _ => false,
-    }
+    id == u64::from(frame.id.number)
 }
 
-/// One flag for each node-ID, and one that is unused, none of which is set.
-fn no_flags(alloc: Global) -> Result<Vec<AtomicBool>, AllocError>
-    ensures { IfOk result (λ flags. vec_len flags ≡ 128) }
+/// So many numbers that threads share, each 0.
+fn zeros(alloc: Global, count: u8) -> Result<Vec<AtomicU64>, AllocError>
+    ensures { IfOk result (λ numbers. vec_len numbers ≡ count) }
 {
-    let mut flags = Vec::with_capacity(alloc, 128)?;
-    for _node in 0..128u8 {
-        flags.push(AtomicBool::new(false))?;
+    let mut numbers = Vec::with_capacity(alloc, usize::from(count))?;
+    for _number in 0..count {
+        numbers.push(AtomicU64::new(0))?;
     }
-    Ok(flags)
-}
-
-/// Whether a worker that listens to this identifier listens to the frame, whose node has or hasn't booted up since its
-/// boot began.
-fn is_heard(id: u64, has_gone: bool, frame: &CanFrame) -> bool
-    ensures { result ≡ (id == frame.now.id.number && not has_gone) }
-{
-    id == u64::from(frame.id.number) && !has_gone
+    Ok(numbers)
 }
 
 impl Listening {
-    /// Nobody listens yet. Refused where memory is.
+    /// Nobody listens yet, and nothing was read. Refused where memory is.
     pub fn new(alloc: Global, workers: u8) -> Result<Listening, AllocError>
         ensures { IfOk result (λ l. vec_len l.ids ≡ workers) }
     {
-        let mut ids = Vec::with_capacity(alloc, usize::from(workers))?;
-        for _worker in 0..workers {
-            ids.push(AtomicU64::new(0))?;
-        }
         Ok(Listening {
-            ids,
+            ids: zeros(alloc, workers)?,
             received: AtomicU64::new(0),
-            begun: no_flags(alloc)?,
-            gone: no_flags(alloc)?,
+            boot_ups: zeros(alloc, 128)?,
         })
     }
 
@@ -135,34 +116,23 @@ impl Listening {
         self.received.load(Ordering::SeqCst)
     }
 
-    /// A boot of the node begins.
-    fn begin(&self, node: NodeId) {
-        let place = usize::from(node.get());
-        self.gone[place].store(false, Ordering::SeqCst);
-        self.begun[place].store(true, Ordering::SeqCst);
-    }
-
-    /// The node has booted up: if a boot of it has begun, nothing more of it is heard until the next one begins.
-    pub(crate) fn note_boot_up(&self, node: NodeId) {
-        let place = usize::from(node.get());
-        if self.begun[place].load(Ordering::SeqCst) {
-            self.gone[place].store(true, Ordering::SeqCst);
+    /// The node has booted up, by the message at this place.
+    pub(crate) fn note_boot_up(&self, node: NodeId, place: u64) {
+        if let Some(last) = self.boot_ups.get(usize::from(node.get())) {
+            last.store(place, Ordering::SeqCst);
         }
     }
 
-    /// Whether the frame's node has booted up since its boot began.
-    pub(crate) fn has_gone(&self, frame: &CanFrame) -> bool {
-        match sender_of(frame) {
-            Some(node) => self.gone[usize::from(node.get())].load(Ordering::SeqCst),
-            None => false,
+    /// The place of the node's last boot-up message that was read by now; 0 where none was.
+    pub(crate) fn last_boot_up(&self, node: NodeId) -> u64 {
+        match self.boot_ups.get(usize::from(node.get())) {
+            Some(last) => last.load(Ordering::SeqCst),
+            None => 0,
         }
     }
 
     /// From now on the worker listens to what may answer this question to the node.
     pub(crate) fn listen(&self, worker: usize, node: NodeId, question: &Question) {
-        if begins_boot(question) {
-            self.begin(node);
-        }
         if let Some(id) = self.ids.get(worker) {
             id.store(u64::from(id_of_answer(node, question)), Ordering::SeqCst);
         }
@@ -173,7 +143,7 @@ impl Listening {
         ensures { IsTrue result → worker < vec_len self.now.ids }
     {
         match self.ids.get(worker) {
-            Some(id) => is_heard(id.load(Ordering::SeqCst), self.has_gone(frame), frame),
+            Some(id) => is_heard(id.load(Ordering::SeqCst), frame),
             None => false,
         }
     }

@@ -20,7 +20,7 @@ use std::sync::{Arc, Wait};
 use std::time::{Clock, Duration, Instant};
 
 /// The port of one worker: its frames are written through an outlet, and those for it come from the reader of the
-/// bus.
+/// bus. A wait ends at the latest 10 ms behind the end of the run.
 #[derive(Drop)]
 pub struct LivePort<R: Wait + Clock + Drop, B: BusName, W: Write + Drop> {
     pub rt: R,
@@ -31,6 +31,8 @@ pub struct LivePort<R: Wait + Clock + Drop, B: BusName, W: Write + Drop> {
     pub outlet: Outlet<W>,
     /// Set once a write has failed.
     pub broken: Arc<AtomicBool>,
+    /// Set once the run is over: nothing is waited for any more.
+    pub over: Arc<AtomicBool>,
     /// How much longer an answer is waited for.
     pub patience: Patience,
 }
@@ -47,15 +49,10 @@ fn ms_since<R: Clock>(rt: &R, then: Option<Instant>) -> u64 {
 }
 
 impl<R: Wait + Clock + Drop, B: BusName, W: Write + Drop> LivePort<R, B, W> {
-    /// What is heard within so many ms, but of a node that has booted up since its boot began.
+    /// What is heard within so many ms.
     fn hear_in(&self, part_ms: u32) -> Option<Received<B>> {
         let part = Duration::from_millis(u64::from(part_ms));
-        let received = self.heard.recv_timeout(&self.rt, part).ok()?;
-        if self.listening.has_gone(&received.frame()) {
-            None
-        } else {
-            Some(received)
-        }
+        self.heard.recv_timeout(&self.rt, part).ok()
     }
 }
 
@@ -76,6 +73,10 @@ impl<R: Wait + Clock + Drop, B: BusName, W: Write + Drop> Port<B> for LivePort<R
         self.listening.received()
     }
 
+    fn last_boot_up(&self, node: NodeId) -> u64 {
+        self.listening.last_boot_up(node)
+    }
+
     fn send(&mut self, frame: &CanFrame)
         ensures written { IsFalse self.new.outlet.failed → Writes self.old.outlet.format frame.now
             (W.contents self.old.outlet.writer) (W.contents self.new.outlet.writer) }
@@ -92,6 +93,9 @@ impl<R: Wait + Clock + Drop, B: BusName, W: Write + Drop> Port<B> for LivePort<R
         ensures over { IfNone (next_part self.old.patience) (result ≡ None) }
     {
         while let Some(part_ms) = self.patience.next_part() {
+            if self.over.load(Ordering::SeqCst) {
+                break;
+            }
             let began = Instant::now(&self.rt).ok();
             let heard = self.hear_in(part_ms);
             let took_ms = ms_since(&self.rt, began);

@@ -1,38 +1,47 @@
-ghost use Rattle.std.specs.Prelude.{◌≡◌};
-ghost use Rattle.cm_live.specs.Places.{StandsIn};
+ghost use Rattle.std.specs.Prelude.{◌≡◌, ℕ};
+ghost use Rattle.cm_live.specs.Identifiers.{IsOfNode};
+ghost use Rattle.cm_live.specs.Places.{NoBootUp, StandsIn};
 
 use crate::bus_name::BusName;
 use cm_can::CanFrame;
 use std::marker::{Model, PhantomData};
 
 /// A frame that was received: it stands, as a line, in what the reader of received frames holds, at its place. Only who
-/// has read that line can make one. Contracts see the frame and the place.
+/// has read that line can make one. It knows the place of the last boot-up message of the node of which the frame may
+/// answer a question: behind that, and up to its own place, none of this node stands. Contracts see the frame and both
+/// places.
 #[derive(Drop)]
 pub struct Received<B: BusName> {
     frame: CanFrame,
     place: u64,
+    since: u64,
     of: PhantomData<B>,
 }
 
 impl<B: BusName> Model for Received<B> {
-    ghost use Rattle.cm_live.specs.Places.{Placed, StandsIn};
+    ghost use Rattle.std.specs.Prelude.{ℕ};
+    ghost use Rattle.cm_live.specs.Identifiers.{IsOfNode};
+    ghost use Rattle.cm_live.specs.Places.{NoBootUp, Placed, StandsIn};
 
     ghost Value = { Placed };
 
-    ghost view = { λ r. record { place = r.place; frame = r.frame } };
+    ghost view = { λ r. record { place = r.place; frame = r.frame; since = r.since } };
 
-    ghost invariant = { λ r. StandsIn B.format B.text r.place r.frame };
+    ghost invariant = { λ r. StandsIn B.format B.text r.place r.frame
+        × ((n : ℕ) → IsOfNode n r.frame → NoBootUp B.format B.text n r.since r.place) };
 }
 
 impl<B: BusName> Received<B> {
-    /// The frame at this place.
-    pub(crate) fn new(place: u64, frame: CanFrame) -> Received<B>
-        requires { StandsIn B.format B.text place frame }
-        ensures { result ≡ record { place = place; frame = frame } }
+    /// The frame at this place, with that of the last boot-up message of its node.
+    pub(crate) fn new(place: u64, frame: CanFrame, since: u64) -> Received<B>
+        requires stands { StandsIn B.format B.text place frame }
+        requires same { (n : ℕ) → IsOfNode n frame → NoBootUp B.format B.text n since place }
+        ensures { result ≡ record { place = place; frame = frame; since = since } }
     {
         Received {
             frame,
             place,
+            since,
             of: PhantomData,
         }
     }
@@ -50,5 +59,15 @@ impl<B: BusName> Received<B> {
         ensures { result ≡ self.now.place }
     {
         self.place
+    }
+
+    /// The place of the last boot-up message of the node of which the frame may answer a question: its own, where it is
+    /// that message; 0 where none was, and where it is a frame of no node.
+    pub fn since(&self) -> u64
+        ensures since { result ≡ self.now.since }
+        ensures same { (n : ℕ) → IsOfNode n self.now.frame
+            → NoBootUp B.format B.text n self.now.since self.now.place }
+    {
+        self.since
     }
 }

@@ -1,9 +1,13 @@
 //! What is received of a bus.
 ghost use Rattle.std.specs.Prelude.{◌≡◌, ◌+◌, ◌<◌, ◌^◌, ◌∷◌, [], IfNone, IfSome, length};
+ghost use Rattle.cm_can.specs.declared.frame.CanFrame.{CanFrame as Frame};
+ghost use Rattle.cm_can.specs.Frames.{data_of};
+ghost use Rattle.cm_can.specs.Lines.{AreBytes};
 ghost use Rattle.cm_can.specs.declared.can_error.CanError.{CanError as Error};
 ghost use Rattle.cm_live.specs.Places.{IsErrorIn, IsFrameLine};
 ghost use Rattle.cm_live.specs.Cutting.{ComeNext, IsLeft};
 
+use crate::boot_ups::BootUps;
 use crate::bus_name::BusName;
 use crate::happening::Happening;
 use crate::line_counter::LineCounter;
@@ -22,7 +26,8 @@ pub(crate) const MOST_READS: u64 = 1 << 50;
 
 /// Reads a line as a frame.
 fn read_line(format: Format, line: &[u8]) -> Option<CanFrame>
-    ensures { IfSome result (IsFrameLine format line.now) }
+    ensures some { IfSome result (IsFrameLine format line.now) }
+    ensures none { IfNone result ((f : Frame) → AreBytes (data_of f) → IsFrameLine format line.now f → ⊥) }
 {
     match format {
         Format::CanUtils => read_log_line(line),
@@ -50,10 +55,12 @@ pub enum Heard<B: BusName> {
     Error(CanError),
 }
 
-/// Cuts what is received into frames, each with its place. Contracts see how many bytes it has taken.
+/// Cuts what is received into frames, each with its place and that of the last boot-up message of its node. Contracts see
+/// how many bytes it has taken.
 #[derive(Drop)]
 pub struct FrameCutter<B: BusName> {
     lines: LineCounter,
+    boot_ups: BootUps<B>,
     format: Format,
     of: PhantomData<B>,
 }
@@ -67,6 +74,7 @@ impl<B: BusName> Model for FrameCutter<B> {
     ghost view = { λ c. c.lines.taken };
 
     ghost invariant = { λ c. (c.format ≡ B.format)
+        × (c.boot_ups ≡ c.lines.taken)
         × ((t : List ℕ) → B.text ≡ Some t → IsCounting t c.lines) };
 }
 
@@ -78,6 +86,7 @@ impl<B: BusName> FrameCutter<B> {
     {
         FrameCutter {
             lines: LineCounter::new(),
+            boot_ups: BootUps::new(),
             format,
             of: PhantomData,
         }
@@ -89,14 +98,18 @@ impl<B: BusName> FrameCutter<B> {
         requires next { ComeNext B.text self.old (byte ∷ []) }
         ensures { self.new ≡ self.old + 1 }
     {
-        let place = self.lines.take(byte)?;
-        match read_line(self.format, self.lines.line()) {
-            Some(frame) => Some(Heard::Frame(Received::new(place, frame))),
-            None => {
-                let error = read_error(self.format, self.lines.line())?;
-                Some(Heard::Error(error))
-            }
-        }
+        let Some(place) = self.lines.take(byte) else {
+            self.boot_ups.pass();
+            return None;
+        };
+        let Some(frame) = read_line(self.format, self.lines.line()) else {
+            self.boot_ups.pass();
+            let error = read_error(self.format, self.lines.line())?;
+            return Some(Heard::Error(error));
+        };
+        self.boot_ups.hear(&frame);
+        let since = self.boot_ups.since(&frame);
+        Some(Heard::Frame(Received::new(place, frame, since)))
     }
 }
 

@@ -64,14 +64,14 @@ impl<B: BusName> Routes<B> {
         }
     }
 
-    /// Notes when a listed node was heard, and whether it has booted up, and gives what is news of it.
-    fn news_in<R: Clock>(&self, rt: &R, frame: &CanFrame) -> Option<Happening>
+    /// Notes when a listed node was heard, and where it has booted up, and gives what is news of it.
+    fn news_in<R: Clock>(&self, rt: &R, frame: &CanFrame, place: u64) -> Option<Happening>
         ensures { IfSome result (IsNewsIn self.now.listed.items frame.now) }
     {
         let message = error_control(frame)?;
         let _listed = place_of(self.listed.as_slice(), message.node)?;
         if message.byte % 128 == 0 {
-            self.listening.note_boot_up(message.node);
+            self.listening.note_boot_up(message.node, place);
         }
         let Ok(time) = self.start.elapsed(rt) else {
             return None;
@@ -89,12 +89,13 @@ impl<B: BusName> Routes<B> {
     /// Gives a frame to all that it is for.
     pub(crate) fn take<R: Wait + Clock>(&self, rt: &R, received: Received<B>) {
         let frame = received.frame();
+        let place = received.place();
         if let Some(worker) = self.worker_that_hears(&frame) {
             if let Some(hears) = self.workers.get(worker) {
                 let _ = hears.send(rt, received);
             }
         }
-        if let Some(news) = self.news_in(rt, &frame) {
+        if let Some(news) = self.news_in(rt, &frame, place) {
             let _ = self.happenings.send(rt, news);
         }
         if let Some(remark) = read_remark(&frame) {

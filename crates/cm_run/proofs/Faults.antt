@@ -16,6 +16,7 @@ module _ (net : Listing) (seats limit : ℕ) where
   cause_behind i first seat (last.Fault f) m c = record { then = c.then; made = more_made first seat c.then m c.made; call = c.call; boots = c.boots; cause = c.cause }
   cause_behind i first seat (last.Status s) m c = tt
   cause_behind i first seat (last.Refused r) m c = tt
+  cause_behind i first seat last.Left m c = tt
 
   pub causes_more : (first seat : SeatView) (os : List Outcome) (o : Outcome) → HasMadeCalls first seat → All (FailsForCause net seats limit first) os → FailsForCause net seats limit seat o
       → All (FailsForCause net seats limit first) (os ++ o ∷ [])

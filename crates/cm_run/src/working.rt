@@ -3,7 +3,7 @@ ghost use Rattle.std.specs.Prelude.{◌≡◌, ◌≤◌, All, length, map, vec_
 ghost use Rattle.cm_netlist.specs.Network.{listed_ids, listing};
 ghost use Rattle.cm_seat.specs.Reads.{HasMadeCalls};
 ghost use Rattle.cm_run.specs.Faults.{FailsForCause};
-ghost use Rattle.cm_run.specs.Rounds.{HasRounds};
+ghost use Rattle.cm_run.specs.Rounds.{AllReported, HasRounds};
 ghost use Rattle.cm_run.specs.Jobs.{IsDone};
 ghost use Rattle.cm_run.specs.Running.{id_of};
 ghost use Rattle.cm_run.specs.Shares.{share};
@@ -31,7 +31,7 @@ fn make_rounds<K: RunName, R: Wait, M: SharedManager<K, R>, B: Bus>(
     ensures slaves { map id_of outcomes.new.items ≡ share plan.workers worker (listed_ids K.net) }
     ensures number { seat.new.number ≡ seat.old.number }
     ensures calls { HasMadeCalls seat.old seat.new }
-    ensures rounds { HasRounds B.step K.net plan.attempts outcomes.new.items seat.old.list
+    ensures rounds { HasRounds B.step AllReported K.net plan.attempts outcomes.new.items seat.old.list
         seat.new.list bus.old bus.new }
     ensures faults { All (FailsForCause (listing K.net) K.seats K.limit seat.old) outcomes.new.items }
     ensures capacity { vec_capacity outcomes.new ≡ vec_capacity outcomes.old }

@@ -11,6 +11,7 @@ use crate::in_order::{InOrder, Placed};
 use crate::telling::Told;
 use cm_history::MOST_ENTRIES;
 use std::alloc::{AllocError, Global};
+use std::collections::VecDeque;
 
 /// What is to be told once its frames were handed to the wire (own).
 #[derive(Drop)]
@@ -31,7 +32,7 @@ pub struct Untold<T> {
 pub struct Waiting<T> {
     order: InOrder<T>,
     /// The oldest first.
-    untold: Vec<Untold<T>>,
+    untold: VecDeque<Untold<T>>,
     /// How many frames the values so far have, at most 2^64 - 1.
     frames: u64,
 }
@@ -46,7 +47,7 @@ impl<T: Drop> Waiting<T> {
     {
         Waiting {
             order: InOrder::new(alloc),
-            untold: Vec::new(alloc),
+            untold: VecDeque::new(alloc),
             frames: 0,
         }
     }
@@ -118,7 +119,7 @@ impl<T: Drop> Waiting<T> {
         ensures order { self.new.order ≡ self.old.order }
     {
         let sum = self.frames.saturating_add(frames);
-        self.untold.push(Untold {
+        self.untold.push_back(Untold {
             value,
             told,
             is_halted,
@@ -143,12 +144,13 @@ impl<T: Drop> Waiting<T> {
         ensures order { self.new.order ≡ self.old.order }
         ensures frames { self.new.frames ≡ self.old.frames }
     {
-        let is_handed = match self.untold.first() {
+        let is_handed = match self.untold.front() {
             Some(first) => first.frames <= handed,
             None => return None,
         };
         if is_handed || is_end {
-            Some((self.untold.remove(0), is_handed))
+            let untold = self.untold.pop_front()?;
+            Some((untold, is_handed))
         } else {
             None
         }

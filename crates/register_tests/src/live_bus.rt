@@ -26,6 +26,10 @@ impl Port<Brand> for Written {
         self.read
     }
 
+    fn last_boot_up(&self, _node: NodeId) -> u64 {
+        0
+    }
+
     fn send(&mut self, _frame: &CanFrame) {}
 
     fn hear(&mut self) -> Option<Received<Brand>> {
@@ -190,12 +194,12 @@ fn a_segmented_upload_is_aborted(rt: HostRuntime) {
 #[test]
 fn a_heartbeat_is_waited_for(rt: HostRuntime) {
     let beat = "702#05";
-    // nothing is sent; a boot-up message tells no state
+    // nothing is sent
     is_answered(
         &rt,
         rt.alloc(),
         Question::Beat,
-        &["702#00", "703#7F", beat],
+        &["704#05", "703#7F", beat],
         Answer::State(NmtState::Operational),
         2,
         Event::Heard(frame_of(&rt, beat)),
@@ -209,6 +213,71 @@ fn a_heartbeat_is_waited_for(rt: HostRuntime) {
         0,
         Event::Expired,
     );
+}
+
+#[test]
+fn a_boot_up_message_from_before_the_boot_ends_nothing(rt: HostRuntime) {
+    let beat = "702#05";
+    let before = lines_of(&rt, rt.alloc(), &["702#00"]);
+    let lines = lines_of(&rt, rt.alloc(), &["702#00", beat]);
+    let heard = Outcome {
+        answer: Answer::State(NmtState::Operational),
+        before: 0,
+        last: Event::Heard(frame_of(&rt, beat)),
+    };
+    let read = before.len() as u64;
+    comes_to(
+        &rt,
+        rt.alloc(),
+        Question::Beat,
+        lines.as_slice(),
+        read,
+        heard,
+    );
+    // behind its request it does, and stands in no log
+    let silent = Outcome {
+        answer: Answer::Silent,
+        before: 0,
+        last: Event::Expired,
+    };
+    comes_to(&rt, rt.alloc(), Question::Beat, lines.as_slice(), 0, silent);
+}
+
+/// Node 2 says its device type; another message comes, and then its vendor-ID: to which that question comes.
+fn comes_behind(rt: &impl Abort, alloc: Global, message: &str, outcome: Outcome) {
+    let (first, second) = ("582#4300100092010200", "582#4318100123010000");
+    let lines = lines_of(rt, alloc, &[first, message, second]);
+    let network = Network::new(alloc, node(rt, 1), Startup(1), 0);
+    let frames = frames_in(alloc, lines.as_slice());
+    let frames = frames.ok().expect(rt, "memory");
+    let bus = LiveBus::new(alloc, &network, 300, Written { frames, read: 0 });
+    let mut bus = bus.ok().expect(rt, "memory");
+    let begun = Outcome {
+        answer: Answer::Value(0x20192),
+        before: 1,
+        last: Event::Heard(frame_of(rt, first)),
+    };
+    gives(rt, &mut bus, Question::Read(0x1000, 0), begun);
+    gives(rt, &mut bus, Question::Read(0x1018, 1), outcome);
+}
+
+#[test]
+fn behind_its_boot_up_message_no_node_is_heard(rt: HostRuntime) {
+    let silent = Outcome {
+        answer: Answer::Silent,
+        before: 4,
+        last: Event::Sent(frame_of(&rt, "602#8018100100000405")),
+    };
+    comes_behind(&rt, rt.alloc(), "702#00", silent);
+    // the toggle bit of node guarding is no part of it
+    comes_behind(&rt, rt.alloc(), "702#80", silent);
+    // that of another node ends no boot
+    let heard = Outcome {
+        answer: Answer::Value(0x123),
+        before: 3,
+        last: Event::Heard(frame_of(&rt, "582#4318100123010000")),
+    };
+    comes_behind(&rt, rt.alloc(), "703#00", heard);
 }
 
 #[test]

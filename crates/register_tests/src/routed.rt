@@ -34,10 +34,10 @@ impl Read for Lines {
     }
 }
 
-/// Whether the bus is broken, which it isn't.
-fn unbroken(rt: &impl Abort, alloc: Global) -> Arc<AtomicBool> {
-    let broken = Arc::new(alloc, AtomicBool::new(false));
-    broken.ok().expect(rt, "memory")
+/// A flag that isn't set: the bus isn't broken, the run isn't over.
+fn unset(rt: &impl Abort, alloc: Global) -> Arc<AtomicBool> {
+    let flag = Arc::new(alloc, AtomicBool::new(false));
+    flag.ok().expect(rt, "memory")
 }
 
 /// The port of this worker, and by what it gets frames.
@@ -55,7 +55,8 @@ fn make_port<R: Wait + Clock + Clone + Drop + Abort>(
         heard,
         listening: Arc::try_clone(listening).ok().expect(rt, "memory"),
         outlet: Outlet::new(Vec::new(alloc), Format::CanUtils),
-        broken: unbroken(rt, alloc),
+        broken: unset(rt, alloc),
+        over: unset(rt, alloc),
         patience: Patience::none(),
     };
     (port, hears)
@@ -209,54 +210,22 @@ fn what_came_late_is_forgotten(rt: HostRuntime) {
     wait_there(&rt, &first.heard, &[]);
 }
 
-/// Node 2 says its device type, boots up, and says its vendor-ID and its state; so does node 5, but for the boot-up.
-const EXCHANGED: &[u8] = b"(0.0) can0 582#4300100092010200\n\
+/// Node 2 says its device type, boots up twice, and says its vendor-ID; so does node 5, but for the boot-up.
+const BOOTED_UP: &[u8] = b"(0.0) can0 582#4300100092010200\n\
     (0.0) can0 585#4300100092010200\n\
     (0.0) can0 702#00\n\
+    (0.0) can0 702#80\n\
     (0.0) can0 582#4318100123010000\n\
-    (0.0) can0 585#4318100123010000\n\
-    (0.0) can0 702#7F\n";
+    (0.0) can0 585#4318100123010000\n";
 
 #[test]
-fn behind_its_boot_up_message_no_node_is_heard(rt: HostRuntime) {
-    let asks = [(0, 2, Question::Read(0x1000, 0))];
-    let (first, _second) = receive(&rt, rt.alloc(), &asks, EXCHANGED);
-    wait_there(&rt, &first.heard, &["582#4300100092010200"]);
-}
-
-#[test]
-fn whatever_it_is_asked_just_then(rt: HostRuntime) {
-    let boot = Question::Read(0x1000, 0);
-    let asks = [(0, 2, boot), (0, 2, Question::Beat)];
-    let (first, _second) = receive(&rt, rt.alloc(), &asks, EXCHANGED);
-    // the message itself answers nothing
-    wait_there(&rt, &first.heard, &["702#00"]);
-}
-
-#[test]
-fn the_boot_up_message_of_another_ends_no_boot(rt: HostRuntime) {
+fn where_a_node_has_booted_up_is_noted(rt: HostRuntime) {
     let asks = [(0, 5, Question::Read(0x1000, 0))];
-    let (first, _second) = receive(&rt, rt.alloc(), &asks, EXCHANGED);
+    let (first, second) = receive(&rt, rt.alloc(), &asks, BOOTED_UP);
     let answers = ["585#4300100092010200", "585#4318100123010000"];
     wait_there(&rt, &first.heard, &answers);
-}
-
-#[test]
-fn a_node_is_heard_again_in_its_next_boot(rt: HostRuntime) {
-    let alloc = rt.alloc();
-    let boot = Question::Read(0x1000, 0);
-    let listening = listening_of(&rt, alloc);
-    let shared = Arc::try_clone(&listening).ok().expect(&rt, "memory");
-    let (mut first, to_first) = make_port(&rt, alloc, &listening, 0);
-    let (_second, to_second) = make_port(&rt, alloc, &listening, 1);
-    let again = to_first.clone().ok().expect(&rt, "memory");
-    let also = to_second.clone().ok().expect(&rt, "memory");
-    first.listen(node(&rt, 2), &boot, 10);
-    let workers = both(&rt, alloc, to_first, to_second);
-    give(&rt, alloc, shared, workers, EXCHANGED);
-    first.listen(node(&rt, 2), &boot, 10);
-    let workers = both(&rt, alloc, again, also);
-    give(&rt, alloc, listening, workers, HEARD);
-    let answers = ["582#4300100092010200", "582#4318100123010000"];
-    wait_there(&rt, &first.heard, &answers);
+    // two lines of 32 bytes, then two of 18: the last byte of the fourth
+    sure(&rt, first.last_boot_up(node(&rt, 2)) == 99);
+    sure(&rt, second.last_boot_up(node(&rt, 2)) == 99);
+    sure(&rt, first.last_boot_up(node(&rt, 5)) == 0);
 }

@@ -4,6 +4,7 @@ ghost use Rattle.cm_seat.specs.Reads.{HasMadeCalls};
 ghost use Rattle.canboot.specs.Workers.{seat_of as seat_in};
 
 use crate::live::heard_seat::HeardSeat;
+use crate::live::lookout::UntilOver;
 use crate::live::rounds::live_round;
 use cm_live::{BusName, LiveBus, Port};
 use cm_netlist::worker_of;
@@ -12,6 +13,7 @@ use cm_register::{RunName, Seat, SharedManager};
 use cm_run::Outcome;
 use std::marker::Model;
 use std::sync::Wait;
+use std::sync::atomic::AtomicBool;
 
 /// A worker's seat with its bus. Each report of the seat has its answers among the frames that the bus has heard, in
 /// their order, and is on a slave of this worker; it makes no request. Contracts see the seat.
@@ -59,13 +61,15 @@ impl<'n, K: RunName, B: BusName, P: Port<B>> Booth<'n, K, B, P> {
         Booth { seat, bus, workers }
     }
 
-    /// The attempts at one slave, `most` at most. `None` where it is another worker's; nothing is done then.
+    /// The attempts at one slave, `most` at most; no boot is reported once `over` is set. `None` where it is another worker's;
+    /// nothing is done then.
     pub fn boot<R: Wait, M: SharedManager<K, R>>(
         &mut self,
         rt: &R,
         register: &M,
         id: NodeId,
         most: u8,
+        over: &AtomicBool,
     ) -> Option<Outcome>
         requires { (0 < most) × (most ≤ 10) }
         ensures own { IfSome result (λ o. (o.id ≡ id) × (seat_in K.net K.seats id ≡ Some self.old.number)) }
@@ -77,7 +81,15 @@ impl<'n, K: RunName, B: BusName, P: Port<B>> Booth<'n, K, B, P> {
         if seat_of(listed.as_slice(), self.workers, id) != Some(usize::from(self.seat.number())) {
             return None;
         }
-        Some(live_round(rt, register, &mut self.seat, &mut self.bus, id, most))
+        Some(live_round(
+            rt,
+            register,
+            &mut self.seat,
+            &mut self.bus,
+            &mut UntilOver::new(over),
+            id,
+            most,
+        ))
     }
 
     /// The seat.

@@ -185,7 +185,8 @@ impl<'w, 'a, 'n, R: Wait + Clock + Drop, K: RunName, B: BusName, M: LiveRegister
         }
     }
 
-    /// Does what this line of the operator asks for.
+    /// Does what this line of the operator asks for. The end of the run is asked for behind what happened before: no step is made
+    /// any more, and no other line obeyed.
     fn carry_out<E: Write>(
         &mut self,
         err: &mut E,
@@ -210,7 +211,8 @@ impl<'w, 'a, 'n, R: Wait + Clock + Drop, K: RunName, B: BusName, M: LiveRegister
                 self.is_report_due = true;
                 Ok(())
             }
-            Command::Boot(_) | Command::Help | Command::Quit => Ok(()),
+            Command::Boot(_) | Command::Help => Ok(()),
+            Command::Quit => Err(Ending::Asked),
         }
     }
 

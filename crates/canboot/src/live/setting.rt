@@ -24,6 +24,8 @@ pub(crate) struct Setting<'a, 'n, R> {
     pub(crate) heartbeats: Arc<Heartbeats>,
     /// Set once a frame couldn't be written.
     pub(crate) broken: Arc<AtomicBool>,
+    /// Set once the run is over: no boot is reported any more, and no answer waited for.
+    pub(crate) over: Arc<AtomicBool>,
     /// Set once a line of the journal couldn't be written.
     pub(crate) unrecorded: Arc<AtomicBool>,
     /// Set once the file of the status couldn't be written.
@@ -69,6 +71,7 @@ pub(crate) fn set_up<'a, 'n, R: Clock>(
         listening: Arc::new(alloc, Listening::new(alloc, options.workers)?)?,
         heartbeats: Arc::new(alloc, Heartbeats::new(alloc)?)?,
         broken: Arc::new(alloc, AtomicBool::new(false))?,
+        over: Arc::new(alloc, AtomicBool::new(false))?,
         unrecorded: Arc::new(alloc, AtomicBool::new(false))?,
         unshown: Arc::new(alloc, AtomicBool::new(false))?,
         untold: Arc::new(alloc, AtomicBool::new(false))?,

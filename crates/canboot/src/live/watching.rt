@@ -17,6 +17,7 @@ use crate::live::publishing::Batches;
 use crate::live::register::LiveRegister;
 use crate::live::saying::running;
 use crate::live::setting::Setting;
+use crate::live::typing::Typing;
 use cm_history::Call;
 use cm_live::{BusName, Happening, Outlet, TypedLine};
 use cm_nmt::NodeId;
@@ -35,6 +36,12 @@ const TURN_MS: u64 = 5;
 /// How many happenings are taken at most before the time is looked at.
 pub(crate) const MOST_TAKEN: u32 = 65_536;
 
+/// How many typed lines are obeyed at most before the time is looked at.
+const MOST_OBEYED: u32 = 256;
+
+/// For how long typed lines are obeyed before the time is looked at, in ms: less than a look at the input may be late.
+const MOST_OBEYED_MS: u64 = 10;
+
 /// What a live run is watched with.
 #[derive(Drop)]
 pub(crate) struct Watcher<
@@ -51,6 +58,8 @@ pub(crate) struct Watcher<
     pub(crate) operator: OperatorSeat<K, B>,
     /// The lines that the operator types.
     pub(crate) typed: Receiver<TypedLine<B>>,
+    /// What of these is put off until all else was taken.
+    typing: Typing,
     /// The slaves that each worker is to boot.
     pub(crate) jobs: Vec<Sender<NodeId>>,
     /// Who reads versions of the history.
@@ -114,6 +123,7 @@ impl<'w, 'a, 'n, R: Wait + Clock + Drop, K: RunName, B: BusName, M: LiveRegister
             register,
             operator,
             typed,
+            typing: Typing::new(),
             jobs,
             versions,
             batches: Batches::new(setting.alloc),
@@ -160,9 +170,22 @@ impl<'w, 'a, 'n, R: Wait + Clock + Drop, K: RunName, B: BusName, M: LiveRegister
         }
     }
 
+    /// Takes one thing that has happened; one of typing is put off.
+    fn hear<E: Write>(&mut self, err: &mut E, happening: Happening) -> Result<(), Ending>
+        ensures goes_on { IfOk result (λ _. GoesOn self.old.course.network.now self.old.course.progress
+            self.new.course.network.now self.new.course.progress) }
+    {
+        let now = self.course.setting.now();
+        let Some(happening) = self.typing.put_off(happening) else {
+            return Ok(());
+        };
+        self.take(err, happening, now)?;
+        Ok(())
+    }
+
     /// Takes what has happened, if something has within a turn's time, and then all else that has. What is received is taken before
-    /// another is received, so that none is lost where the turn ends.
-    fn take_all<E: Write>(
+    /// another is received, so that none is lost where the turn ends. What is typed is put off.
+    fn hear_all<E: Write>(
         &mut self,
         err: &mut E,
         happenings: &Receiver<Happening>,
@@ -171,14 +194,51 @@ impl<'w, 'a, 'n, R: Wait + Clock + Drop, K: RunName, B: BusName, M: LiveRegister
             self.new.course.network.now self.new.course.progress) }
     {
         let setting = self.course.setting;
-        let mut wait = Duration::from_millis(TURN_MS);
+        let mut wait = if self.typing.is_empty() {
+            Duration::from_millis(TURN_MS)
+        } else {
+            Duration::ZERO
+        };
         for _ in 0..MOST_TAKEN {
             let Ok(happening) = happenings.recv_timeout(setting.rt, wait) else {
                 return Ok(());
             };
-            self.take(err, happening, setting.now())?;
+            self.hear(err, happening)?;
             wait = Duration::ZERO;
         }
+        Ok(())
+    }
+
+    /// Takes what was typed, so long and so much that a turn doesn't last.
+    fn obey_some<E: Write>(&mut self, err: &mut E) -> Result<(), Ending>
+        ensures goes_on { IfOk result (λ _. GoesOn self.old.course.network.now self.old.course.progress
+            self.new.course.network.now self.new.course.progress) }
+    {
+        let began = self.course.setting.now();
+        for _ in 0..MOST_OBEYED {
+            let now = self.course.setting.now();
+            if MOST_OBEYED_MS <= now.saturating_sub(began) {
+                return Ok(());
+            }
+            let Some(happening) = self.typing.next() else {
+                return Ok(());
+            };
+            self.take(err, happening, now)?;
+        }
+        Ok(())
+    }
+
+    /// Takes what has happened: what is typed behind all else, and not so much that the network isn't watched meanwhile.
+    fn take_all<E: Write>(
+        &mut self,
+        err: &mut E,
+        happenings: &Receiver<Happening>,
+    ) -> Result<(), Ending>
+        ensures goes_on { IfOk result (λ _. GoesOn self.old.course.network.now self.old.course.progress
+            self.new.course.network.now self.new.course.progress) }
+    {
+        self.hear_all(err, happenings)?;
+        self.obey_some(err)?;
         Ok(())
     }
 
@@ -226,8 +286,8 @@ impl<'w, 'a, 'n, R: Wait + Clock + Drop, K: RunName, B: BusName, M: LiveRegister
         Ok(())
     }
 
-    /// Tells what was recorded by now and wasn't told yet, at the end of the run, and which nodes run on.
-    fn tell_rest<E: Write>(
+    /// Tells what was recorded by now and wasn't told yet, at the end of the run, and which nodes run on. The workers have ended.
+    pub(crate) fn tell_rest<E: Write>(
         &mut self,
         err: &mut E,
         happenings: &Receiver<Happening>,
@@ -255,7 +315,6 @@ impl<'w, 'a, 'n, R: Wait + Clock + Drop, K: RunName, B: BusName, M: LiveRegister
     ) -> Ending {
         for _ in self.course.setting.rt.forever() {
             if let Err(ending) = self.turn(err, happenings, outlet, publisher) {
-                self.tell_rest(err, happenings, publisher);
                 return ending;
             }
         }

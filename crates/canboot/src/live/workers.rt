@@ -32,12 +32,13 @@ fn fault_of(outcome: &Outcome) -> Option<CallFault>
     ensures { result ≡ fault_of outcome.now.last }
 {
     match outcome.last {
-        Last::Status(_) | Last::Refused(_) => None,
+        Last::Status(_) | Last::Refused(_) | Last::Left => None,
         Last::Fault(fault) => Some(fault),
     }
 }
 
-/// Boots the slaves that are handed to a worker, and tells what came of each, until the run is over.
+/// Boots the slaves that are handed to a worker, and tells what came of each, until the run is over: a boot that is under way
+/// then is left without a report.
 fn boot_handed<
     'n,
     R: Wait + Clock + Drop,
@@ -65,7 +66,7 @@ fn boot_handed<
             return;
         }
         // Another worker's slave never comes: the watcher hands out each to its own.
-        let fault = match booth.boot(rt, register, id, attempts) {
+        let fault = match booth.boot(rt, register, id, attempts, over) {
             Some(outcome) => fault_of(&outcome),
             None => None,
         };
@@ -121,6 +122,7 @@ pub(crate) fn make_bus<'a, 'n, R: Wait + Clock + Clone + Drop, B: BusName, W: Wr
         listening: Arc::try_clone(&setting.listening)?,
         outlet: Outlet::new(writer, setting.options.format),
         broken: Arc::try_clone(&setting.broken)?,
+        over: Arc::try_clone(&setting.over)?,
         patience: Patience::none(),
     };
     let answer_ms = setting.options.answer_ms;

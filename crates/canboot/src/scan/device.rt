@@ -96,6 +96,7 @@ pub(crate) fn hear_device<'n, B: BusName, P: Port<B>>(
 ) -> Option<HeardDevice<B>>
     ensures { IfSome result (λ d. d.id ≡ id) }
 {
+    bus.end_boot();
     let identity = identify(bus, id)?;
     let mut talk = NameTalk {
         node: id,

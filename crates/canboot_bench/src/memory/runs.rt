@@ -102,7 +102,7 @@ fn is_told<R: Print>(rt: &R, outcome: &Outcome) -> Option<()> {
             surely(fault == CallFault::OutOfMemory)?;
             refused_at(rt, "outcome", u32::from(outcome.id.get()))
         }
-        Last::Refused(_) => None,
+        Last::Refused(_) | Last::Left => None,
     }
 }
 

@@ -148,12 +148,14 @@ pub fn run_case<
         run_story(alloc, &mut input, &mut out)?
     } else {
         let words = words_of(alloc, case)?;
+        let told: Option<Vec<u8>> = None;
         run_words(
             rt,
             words.as_slice(),
             &mut input,
             &mut out,
             &mut err,
+            told,
             NoFiles,
             false,
         )

@@ -1,7 +1,7 @@
 //! The lines that a live run tells beside those of entries.
 
 ghost use Rattle.std.specs.Prelude.{◌≡◌, Some, option_map};
-ghost use Rattle.canboot_words.specs.ToldLines.{back_words, bad_words, ends_words, given_up_words, halted_by, halted_words, last_words, lost_by};
+ghost use Rattle.canboot_words.specs.ToldLines.{back_words, bad_words, change_words, ends_words, given_up_words, halted_by, halted_words, last_words, lost_by};
 ghost use Rattle.canboot_words.specs.ToldLines.{left_out_words, mandatory_words, nearly_full_words, no_boot_words};
 ghost use Rattle.canboot_words.specs.ToldLines.{no_frames_words, running_words, stopped_words, time_over_words, times_words, unwatched_words};
 
@@ -122,6 +122,17 @@ impl Display for Unwatched {
     }
 }
 
+/// Changes of state, so many, behind their number.
+fn change_words(count: u32) -> &'static str
+    ensures { result.now ≡ change_words count }
+{
+    if count == 1 {
+        "change of state"
+    } else {
+        "changes of state"
+    }
+}
+
 /// That so many changes of state of a node were left out.
 #[derive(Drop)]
 pub struct LeftOut(NodeId, u32);
@@ -142,7 +153,8 @@ impl Display for LeftOut {
     fn fmt<W: fmt::Write>(&self, f: &mut fmt::Formatter<W>) -> fmt::Result {
         let number = self.0.get();
         let count = self.1;
-        write!(f, "node {number}: {count} changes of state, left out")
+        let changes = change_words(count);
+        write!(f, "node {number}: {count} {changes}, left out")
     }
 }
 

@@ -15,13 +15,14 @@ returns-in-Some-answered_by-clause-waited g c =
 
 pub returns-in-Some-answered_by-clause-given : goal.returns-in-Some-answered_by-clause-given
 returns-in-Some-answered_by-clause-given g c =
-    given_frame g.B.BusName.format g.B.BusName.text c.args.id c.args.question.now c.in-Some-answered_by.answer c.args.last.now c.loop-passed.last c.place-place.result
+    given_frame g.B.BusName.format g.B.BusName.text c.args.id c.args.question.now c.in-Some-answered_by.answer c.args.begun c.args.last.now c.loop-passed.last c.place-place.result
     c.in-Some.received c.frame-frame.result c.loop-passed.invariant.2 (omega (arith, c.if-place-last.false, c.place-place.ensures), c.place-place.ensures) c.frame-frame.ensures.frame c.frame-frame.ensures.stands ((c.answered_by.ensures c.in-Some-answered_by.answer).0 c.in-Some-answered_by.is)
+    (omega (arith, c.if-since-begun.false, c.since.ensures.since)) c.since.ensures.same
 
 pub returns-clause-given : goal.returns-clause-given
 returns-clause-given g c =
-    subst (λ (r : Option Reply). IsGiven g.B.BusName.format g.B.BusName.text c.args.id c.args.question.now (answer_in r) c.args.last.now c.loop-passed.last) (sym c.expire-2.ensures.none)
-    (given_silent g.B.BusName.format g.B.BusName.text c.args.id c.args.question.now c.args.last.now c.loop-passed.last c.loop-passed.last c.loop-passed.invariant.2 refl)
+    subst (λ (r : Option Reply). IsGiven g.B.BusName.format g.B.BusName.text c.args.id c.args.question.now (answer_in r) c.args.begun c.args.last.now c.loop-passed.last) (sym c.expire-2.ensures.none)
+    (given_silent g.B.BusName.format g.B.BusName.text c.args.id c.args.question.now c.args.begun c.args.last.now c.loop-passed.last c.loop-passed.last c.loop-passed.invariant.2 refl)
 
 pub loop-passed-preserved : goal.loop-passed-preserved
 loop-passed-preserved g c = (
@@ -33,5 +34,5 @@ loop-passed-preserved g c = (
 
 pub returns-in_default-clause-given : goal.returns-in_default-clause-given
 returns-in_default-clause-given g c =
-    subst (λ (r : Option Reply). IsGiven g.B.BusName.format g.B.BusName.text c.args.id c.args.question.now (answer_in r) c.args.last.now c.loop-passed.last) (sym c.expire.ensures.none)
-    (given_silent g.B.BusName.format g.B.BusName.text c.args.id c.args.question.now c.args.last.now c.loop-passed.last c.loop-passed.last c.loop-passed.invariant.2 refl)
+    subst (λ (r : Option Reply). IsGiven g.B.BusName.format g.B.BusName.text c.args.id c.args.question.now (answer_in r) c.args.begun c.args.last.now c.loop-passed.last) (sym c.expire.ensures.none)
+    (given_silent g.B.BusName.format g.B.BusName.text c.args.id c.args.question.now c.args.begun c.args.last.now c.loop-passed.last c.loop-passed.last c.loop-passed.invariant.2 refl)

@@ -8,6 +8,6 @@ returns-clause-tells g c = λ arrived given said counts t.
     let place : c.count.result ≡ length given + 1 = c.count.ensures ∙ t.order.count ∙ length-append given (placed_at (length given) c.args.value ∷ []) in
     record {
       order = t.order;
-      kept = kept_more c.args.self.now (record { order = c.args.self.now.order; untold = c.push.new.self; frames = c.saturating_add-sum.result }) said given counts (untold_of c.args.value c.args.told c.args.is_halted c.count.result c.saturating_add-sum.result) c.args.frames t.kept
-          c.in_ok-push.ensures.items refl place c.saturating_add-sum.ensures;
+      kept = kept_more c.args.self.now (record { order = c.args.self.now.order; untold = c.push_back.new.self; frames = c.saturating_add-sum.result }) said given counts (untold_of c.args.value c.args.told c.args.is_halted c.count.result c.saturating_add-sum.result) c.args.frames t.kept
+          c.in_ok-push_back.ensures.items refl place c.saturating_add-sum.ensures;
     }

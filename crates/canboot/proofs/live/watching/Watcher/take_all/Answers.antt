@@ -1,11 +1,12 @@
-use Rattle.std.proofs.Common.{ap}
-use Rattle.canboot.proofs.Going.{happened_on, on_and_on}
+use Rattle.canboot.proofs.Going.{on_and_on}
 use Rattle.canboot.proofs.live.watching.Watcher.take_all.Goals as goal
 
-pub loop-preserved : goal.loop-preserved
-loop-preserved g c =
-    let before = c.loop.self in
-    let after = c.take.new.self in
-    on_and_on c.args.self.now.course.network.now c.args.self.now.course.progress before.course.network.now before.course.progress after.course.network.now after.course.progress c.loop.invariant
-    (happened_on c.in-Ok.happening before.course.setting.now.options.seconds g.B.BusName.typed before.course.network.now before.course.progress after.course.network.now after.course.progress c.now.result
-    before.operator after.operator (ap (λ n. n.now) c.in_ok-take.ensures.network) c.in_ok-take.ensures.told)
+pub returns : goal.returns
+returns g c =
+    let began = c.args.self.now.course in
+    let heard = c.hear_all.new.self.course in
+    let obeyed = c.obey_some.new.self.course in
+    record {
+      goes_on = on_and_on began.network.now began.progress heard.network.now heard.progress obeyed.network.now obeyed.progress
+          c.in_ok-hear_all.ensures.goes_on c.in_ok-obey_some.ensures.goes_on;
+    }
