@@ -1,5 +1,5 @@
 -- A device each of whose values was heard.
-use Rattle.std.proofs.Common.{◌≡◌, ◌≢◌, ◌∙◌, ℕ, ◌≤◌, List, Option, refl, sym, subst, inl, inr, arith}
+use Rattle.std.proofs.Common.{◌≡◌, ◌≢◌, ◌∙◌, ℕ, List, Option, refl, sym, subst, inl, inr, arith}
 use Rattle.std.specs.Prelude.{All, IsFalse, IsTrue, Some}
 use Rattle.std.proofs.lemmas.List.Elements.{All-contains}
 use Rattle.cm_nmt.specs.declared.terms.Terms.{Terms}
@@ -11,12 +11,11 @@ use Rattle.cm_boot.specs.declared.question.Question.{Question}
 use Rattle.cm_boot.specs.declared.question.Question.TheVariants as ask
 use Rattle.cm_boot.specs.declared.question.Answer.{Answer}
 use Rattle.cm_boot.specs.declared.question.Answer.TheVariants as answer
-use Rattle.cm_live.specs.Receiving.{BusView, HasHeardIdentity, IsGiven, IsHeard, IsHeardAs, IsPut}
+use Rattle.cm_live.specs.Receiving.{BusView, IsGiven, IsHeard, IsHeardAs, IsPut}
 use Rattle.canboot.proofs.ReceivedRounds.{within_given}
 use Rattle.cm_live.specs.Talk.{IsAsked}
 use Rattle.cm_live.specs.declared.outlet.Format.{Format}
 use Rattle.canboot_tools.specs.Compared.{HasExpected, IsAsListed, IsFoundAsListed}
-use Rattle.canboot.specs.Scans.{listed_as}
 use Rattle.canboot_tools.specs.declared.found.Found.{Found}
 use Rattle.canboot.specs.Scanning.{AreHeardAsListed, IsHeardAsListed, IsHeardDevice, found_of}
 
