@@ -12,11 +12,13 @@ use std::collections::VecDeque;
 use std::marker::Brand;
 use std::process::Abort;
 
-/// A port that hears these frames, in order, once a question is asked. So many bytes of their lines were read before.
+/// A port that hears these frames, in order, once a question is asked. So many bytes of their lines were read before. Each
+/// node has booted up at this place.
 #[derive(Drop)]
 struct Written {
     frames: VecDeque<Received<Brand>>,
     read: u64,
+    booted_up: u64,
 }
 
 impl Port<Brand> for Written {
@@ -27,7 +29,7 @@ impl Port<Brand> for Written {
     }
 
     fn last_boot_up(&self, _node: NodeId) -> u64 {
-        0
+        self.booted_up
     }
 
     fn send(&mut self, _frame: &CanFrame) {}
@@ -105,7 +107,12 @@ fn comes_to(
 ) {
     let network = Network::new(alloc, node(rt, 1), Startup(1), 0);
     let frames = frames_in(alloc, lines).ok().expect(rt, "memory");
-    let bus = LiveBus::new(alloc, &network, 300, Written { frames, read });
+    let port = Written {
+        frames,
+        read,
+        booted_up: 0,
+    };
+    let bus = LiveBus::new(alloc, &network, 300, port);
     let mut bus = bus.ok().expect(rt, "memory");
     gives(rt, &mut bus, question, outcome);
 }
@@ -250,7 +257,12 @@ fn comes_behind(rt: &impl Abort, alloc: Global, message: &str, outcome: Outcome)
     let network = Network::new(alloc, node(rt, 1), Startup(1), 0);
     let frames = frames_in(alloc, lines.as_slice());
     let frames = frames.ok().expect(rt, "memory");
-    let bus = LiveBus::new(alloc, &network, 300, Written { frames, read: 0 });
+    let port = Written {
+        frames,
+        read: 0,
+        booted_up: 0,
+    };
+    let bus = LiveBus::new(alloc, &network, 300, port);
     let mut bus = bus.ok().expect(rt, "memory");
     let begun = Outcome {
         answer: Answer::Value(0x20192),
@@ -278,6 +290,36 @@ fn behind_its_boot_up_message_no_node_is_heard(rt: HostRuntime) {
         last: Event::Heard(frame_of(&rt, "582#4318100123010000")),
     };
     comes_behind(&rt, rt.alloc(), "703#00", heard);
+}
+
+/// Whether node 2 has booted up since its boot began, behind 10 bytes that were read, where it did at this place: before the
+/// boot, in it, and behind its end.
+fn has_booted_up_at(rt: &impl Abort, alloc: Global, booted_up: u64) -> [bool; 3] {
+    let network = Network::new(alloc, node(rt, 1), Startup(1), 0);
+    let port = Written {
+        frames: VecDeque::new(alloc),
+        read: 10,
+        booted_up,
+    };
+    let bus = LiveBus::new(alloc, &network, 300, port);
+    let mut bus = bus.ok().expect(rt, "memory");
+    let two = node(rt, 2);
+    let before = bus.has_booted_up(two);
+    let _ = bus.ask(two, Question::Beat);
+    let in_boot = bus.has_booted_up(two);
+    bus.end_boot();
+    [before, in_boot, bus.has_booted_up(two)]
+}
+
+#[test]
+fn a_node_that_boots_up_in_its_boot_is_known(rt: HostRuntime) {
+    let alloc = rt.alloc();
+    sure(
+        &rt,
+        has_booted_up_at(&rt, alloc, 10) == [false, true, false],
+    );
+    // the last byte that was read before
+    sure(&rt, has_booted_up_at(&rt, alloc, 9) == [false; 3]);
 }
 
 #[test]
