@@ -20,6 +20,8 @@ pub enum Remark {
     Message(Frame),
     /// The interface says this of the bus.
     Error(CanError),
+    /// Two answers to one question came from this node-ID, and they differ: two devices have it.
+    Doubled(NodeId),
 }
 
 /// The NMT message of a frame: identifier 000h and the two bytes of one. `None` exactly where the frame is none.
