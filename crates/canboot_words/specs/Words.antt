@@ -172,6 +172,12 @@ unbooted_words (Some (Some s)) = codes "; started though it isn't booted (" ++ (
 unbooted_words (Some None) = codes "; started though it isn't booted"
 unbooted_words None = []
 
+-- that a slave runs which isn't booted, behind its state, with the status of its last boot, if there was one (own)
+abbrev pub runs_words : Option (Option Status) → List ℕ
+runs_words (Some (Some s)) = codes "; it runs though it isn't booted (" ++ (status_letter s ++ codes ")")
+runs_words (Some None) = codes "; it runs though it isn't booted"
+runs_words None = []
+
 -- a call and its reply behind their place in the history, and that a slave was started which isn't booted (own)
 abbrev pub called_words : ℕ → Call → Bool → Reply → Option (Option Status) → List ℕ
 called_words place c halted r unbooted =
@@ -200,7 +206,8 @@ told_words net handed halted place unbooted o (call.Report i n a) (reply.Reporte
 told_words net handed halted place unbooted o call.StartNetwork reply.Started = codes "network started"
 told_words net handed halted place unbooted o (call.Begin i) r = node_words i (replied_words halted r)
 told_words net handed halted place unbooted o (call.Signal i b) reply.BootAgain = node_words i (signal_words_of b)
-told_words net handed halted place unbooted o (call.Signal i b) reply.Noted = node_words i (signal_words_of b)
+told_words net handed halted place unbooted o (call.Signal i b) reply.Noted =
+    node_words i (signal_words_of b ++ runs_words unbooted)
 told_words net handed halted place unbooted o (call.Lost i) reply.Handled = node_words i (lost_words handed o)
 told_words net handed halted place unbooted o c r = called_words place c halted r unbooted
 

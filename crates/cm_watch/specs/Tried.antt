@@ -7,6 +7,10 @@ use Rattle.cm_history.specs.declared.call.Call.TheVariants as call
 use Rattle.cm_history.specs.declared.call.Entry.{Entry}
 use Rattle.cm_history.specs.declared.call.Reply.{Reply}
 use Rattle.cm_history.specs.declared.call.Reply.TheVariants as reply
+use Rattle.cm_nmt.specs.Codes.{signal_of}
+use Rattle.cm_nmt.specs.declared.signal.Signal.{Signal}
+use Rattle.cm_nmt.specs.declared.signal.Signal.TheVariants as signal
+use Rattle.cm_nmt.specs.declared.state.NmtState.TheVariants as state
 use Rattle.cm_nmt.specs.declared.status.Status.{Status}
 use Rattle.cm_watch.specs.Kept.{node_at}
 use Rattle.cm_watch.specs.Pasts.{Past, entries_in}
@@ -60,23 +64,35 @@ may_change_boots (moment.Gave (step.Boot j)) = true
 may_change_boots (moment.Happened (happening.Called e)) = true
 may_change_boots _ = false
 
--- ---- a slave that is started though it isn't booted
+-- ---- a slave that runs though it isn't booted
 
 -- the reply is Done
 abbrev pub is_done : Reply → Bool
 is_done reply.Done = true
 is_done _ = false
 
--- the node that a request starts by itself: one of the value 5, start, that was carried out (CiA 302-2, request NMT)
-abbrev pub started_node : Call → Reply → Option ℕ
-started_node (call.Request t v) r = if v == 5 && is_done r then node_at t else None
-started_node _ r = None
+-- an error control message says that its node is operational (CiA 301, heartbeat)
+abbrev pub is_operational : Option Signal → Bool
+is_operational (Some (signal.State state.Operational)) = true
+is_operational _ = false
+
+-- the reply is Noted
+abbrev pub is_noted : Reply → Bool
+is_noted reply.Noted = true
+is_noted _ = false
+
+-- the node that runs by this entry alone: a request of the value 5, start, to it was carried out (CiA 302-2, request NMT), or its error
+-- control message, which was noted, says so
+abbrev pub running_node : Call → Reply → Option ℕ
+running_node (call.Request t v) r = if v == 5 && is_done r then node_at t else None
+running_node (call.Signal i b) r = if is_operational (signal_of b) && is_noted r then Some i else None
+running_node _ r = None
 
 -- the status of the last report on the node, where it isn't booted; none where it is, or where there is no node
 abbrev pub unbooted_of : Past → Option ℕ → Option (Option Status)
 unbooted_of past None = None
 unbooted_of past (Some i) = if is_some (booted_since past i) then None else Some (status_in past i)
 
--- the same, of the node that the entry starts
+-- the same, of the node that runs by the entry
 abbrev pub unbooted_by : Past → Entry → Option (Option Status)
-unbooted_by past e = unbooted_of past (started_node e.call e.reply)
+unbooted_by past e = unbooted_of past (running_node e.call e.reply)

@@ -3,7 +3,8 @@
 ghost use Rattle.std.specs.Prelude.{◌≡◌, ℕ, ◌<◌, ◌≤◌, ◌==◌, if◌then◌else◌, [], ◌∷◌};
 ghost use Rattle.cm_netlist.specs.Network.{Network as NetworkList};
 ghost use Rattle.cm_watch.specs.Pasts.{Past};
-ghost use Rattle.cm_watch.specs.Tried.{Tries, attempts_in, boots_at, started_node, status_in, unbooted_by};
+ghost use Rattle.cm_nmt.specs.Codes.{signal_of};
+ghost use Rattle.cm_watch.specs.Tried.{Tries, attempts_in, boots_at, is_operational, running_node, status_in, unbooted_by};
 ghost use Rattle.cm_watch.specs.Watches.{Watches};
 ghost use Rattle.cm_watch.specs.declared.happening.Happening.TheVariants.{Called};
 ghost use Rattle.cm_watch.specs.declared.happening.Moment.TheVariants.{Gave, Happened};
@@ -12,7 +13,7 @@ ghost use Rattle.cm_watch.specs.declared.settings.Settings.{Settings as WatchSet
 use crate::happening::Step;
 use crate::watch::Watch;
 use cm_history::{Call, Entry, Reply};
-use cm_nmt::{NodeId, Status};
+use cm_nmt::{NmtState, NodeId, Signal, Status};
 
 /// What came of the boots of a slave.
 #[derive(Clone, Copy)]
@@ -30,12 +31,24 @@ pub struct Tried {
     boots: [Boots; 128],
 }
 
-/// The node that a call starts alone: a request of the value 5 that was carried out (CiA 302-2, request NMT).
-fn started_node(call: &Call, reply: Reply) -> Option<NodeId>
-    ensures { result ≡ started_node call.now reply }
+/// Whether an error control message with this byte says that its node is operational (CiA 301, heartbeat).
+fn is_operational(byte: u8) -> bool
+    ensures { result ≡ is_operational (signal_of byte) }
+{
+    matches!(
+        Signal::read(byte),
+        Some(Signal::State(NmtState::Operational))
+    )
+}
+
+/// The node that runs by this call alone: a request of the value 5 to it was carried out (CiA 302-2, request NMT), or its error control
+/// message, which was noted, says so.
+fn running_node(call: &Call, reply: Reply) -> Option<NodeId>
+    ensures { result ≡ running_node call.now reply }
 {
     match (call, reply) {
         (Call::Request(target, 5), Reply::Done) => NodeId::new(*target),
+        (Call::Signal(id, byte), Reply::Noted) if is_operational(*byte) => Some(*id),
         _ => None,
     }
 }
@@ -128,12 +141,12 @@ impl Tried {
         }
     }
 
-    /// Where the entry starts a slave that the watch doesn't have as booted: the status of the last report on it, if there was one.
+    /// Where a slave runs by the entry that the watch doesn't have as booted: the status of the last report on it, if there was one.
     pub fn unbooted(&self, entry: &Entry, watch: &Watch) -> Option<Option<Status>>
         ensures { (net : NetworkList) (s : WatchSettings) (past : Past) → Tries self.now past
             → Watches watch.now net s past → result ≡ unbooted_by past entry.now }
     {
-        let id = started_node(&entry.call, entry.reply)?;
+        let id = running_node(&entry.call, entry.reply)?;
         if watch.is_booted(id) {
             None
         } else {

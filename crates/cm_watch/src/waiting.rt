@@ -98,6 +98,13 @@ impl<T: Drop> Waiting<T> {
         }
     }
 
+    /// How many values [`Waiting::next`] has given: the place of the last of them, counted from 1.
+    pub fn count(&self) -> u64
+        ensures { result ≡ self.now.order.next }
+    {
+        self.order.count()
+    }
+
     /// The value, with what is told with it, waits behind the others for so many frames more. Its place is the number of values
     /// that [`Waiting::next`] has given. Where memory is refused it doesn't wait.
     pub fn wait(

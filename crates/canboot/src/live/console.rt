@@ -110,7 +110,7 @@ impl<'w, 'a, 'n, R: Wait + Clock> Course<'w, 'a, 'n, R> {
     {
         match no_boot(self.network, &self.progress.watch, id) {
             Some(none) => self.teller.tell_no_boot(err, self.setting.rt, id, none),
-            None => self.note(err, &Watched::Asked(id), now),
+            None => self.note(&Watched::Asked(id), now),
         }
     }
 
@@ -128,7 +128,7 @@ impl<'w, 'a, 'n, R: Wait + Clock> Course<'w, 'a, 'n, R> {
                 let _in_range = id.get();
                 self.boot_now(err, *id, now);
             }
-            Command::Quit => self.note(err, &Watched::Ends(now), now),
+            Command::Quit => self.note(&Watched::Ends(now), now),
             Command::Help => {
                 let _ = say(err, &TYPING);
             }

@@ -16,10 +16,12 @@ ghost use Rattle.cm_watch.specs.declared.settings.Settings.{Settings as WatchSet
 
 use crate::live::ending::{Ending, can_go_on};
 use crate::live::events::Events;
+use crate::live::given_up::Boots;
 use crate::live::hearing::count_sent;
 use crate::live::saying::Teller;
 use crate::live::setting::Setting;
 use crate::live::watching::{MOST_TAKEN, is_set};
+use canboot_words::given_up;
 use cm_history::Entry;
 use cm_live::{Happening as Heard, Heartbeats, Outlet};
 use cm_netlist::Network;
@@ -178,8 +180,8 @@ impl<'w, 'a, 'n, R: Wait + Clock> Course<'w, 'a, 'n, R> {
         }
     }
 
-    /// What the watch is told beside entries, and what an operator is told with it.
-    pub(crate) fn note<E: Write>(&mut self, err: &mut E, happening: &Happening, now: u64)
+    /// What the watch is told beside entries. A slave that is given up with it is told behind the entries that came by now.
+    pub(crate) fn note(&mut self, happening: &Happening, now: u64)
         requires time { now < 2 ^ 63 }
         requires other { may_change_boots (Happened happening.now) ≡ false }
         ensures told { (s : WatchSettings) (past : Past) → Follows self.old.progress self.old.network.now s past
@@ -187,16 +189,19 @@ impl<'w, 'a, 'n, R: Wait + Clock> Course<'w, 'a, 'n, R> {
         ensures network { self.new.network ≡ self.old.network }
     {
         if let Some(id) = self.progress.note(self.network, happening, now) {
-            let rt = self.setting.rt;
-            let tried = &self.progress.tried;
-            self.teller.tell_given_up(err, rt, self.network, tried, id);
+            let told = given_up(&self.progress.tried, self.network, id);
+            let boots = Boots {
+                attempts: told.attempts,
+                status: told.status,
+                place: self.progress.waiting.count(),
+            };
+            self.teller.given_up.put_off(id, boots);
         }
     }
 
     /// A worker's attempts at a slave have ended; where a call couldn't be made, the run does.
-    fn end<E: Write>(
+    fn end(
         &mut self,
-        err: &mut E,
         id: NodeId,
         fault: Option<CallFault>,
         now: u64,
@@ -209,12 +214,12 @@ impl<'w, 'a, 'n, R: Wait + Clock> Course<'w, 'a, 'n, R> {
         if let Some(fault) = fault {
             return Err(Ending::NotCalled(fault));
         }
-        self.note(err, &Happening::Ended(id), now);
+        self.note(&Happening::Ended(id), now);
         Ok(())
     }
 
     /// The operator types no more: the run is to end so many seconds later, if it was said how many.
-    fn end_behind<E: Write>(&mut self, err: &mut E, now: u64)
+    fn end_behind(&mut self, now: u64)
         requires { now < 2 ^ 63 }
         ensures told { (s : WatchSettings) (past : Past) → Follows self.old.progress self.old.network.now s past
             → Follows self.new.progress self.old.network.now s
@@ -224,7 +229,7 @@ impl<'w, 'a, 'n, R: Wait + Clock> Course<'w, 'a, 'n, R> {
         match self.setting.options.seconds {
             Some(seconds) => {
                 let rest_ms = u64::from(seconds) * 1000;
-                self.note(err, &Happening::Ends(now + rest_ms), now);
+                self.note(&Happening::Ends(now + rest_ms), now);
             }
             None => {}
         }
@@ -249,13 +254,13 @@ impl<'w, 'a, 'n, R: Wait + Clock> Course<'w, 'a, 'n, R> {
                 count_sent(&mut self.teller.notices, self.network, &entry);
                 self.progress.enter(rt, self.network, position, entry, now)?;
             }
-            Heard::Ended(id, fault) => self.end(err, id, fault, now)?,
+            Heard::Ended(id, fault) => self.end(id, fault, now)?,
             Heard::Told(id, byte) => self.progress.hear(self.network, id, byte, now),
             Heard::Said(remark) => {
                 let _ = self.teller.tell_remark(err, rt, self.network, &remark, now);
             }
             Heard::Typed => {}
-            Heard::NoMoreTyped => self.end_behind(err, now),
+            Heard::NoMoreTyped => self.end_behind(now),
             Heard::NoFrames => self
                 .teller
                 .tell_no_frames(err, rt, self.setting.options.format),

@@ -7,6 +7,7 @@ ghost use Rattle.canboot.specs.Going.{Follows};
 ghost use Rattle.canboot.specs.Running.{AreRunningOn};
 
 use crate::live::events::Events;
+use crate::live::given_up::GivenUps;
 use crate::live::progress::Course;
 use crate::live::setting::Setting;
 use crate::live::versions::manager_seen;
@@ -30,6 +31,7 @@ use std::time::Clock;
 pub(crate) struct Teller {
     pub(crate) events: Events,
     pub(crate) notices: Notices,
+    pub(crate) given_up: GivenUps,
     /// It was told that a line of the journal couldn't be written.
     is_unrecorded_told: bool,
     /// It was told that the file of the status couldn't be written.
@@ -42,6 +44,7 @@ impl Teller {
         Teller {
             events,
             notices: Notices::new(),
+            given_up: GivenUps::new(),
             is_unrecorded_told: false,
             is_unshown_told: false,
         }
@@ -153,6 +156,8 @@ impl<'w, 'a, 'n, R: Wait + Clock> Course<'w, 'a, 'n, R> {
         self.teller
             .events
             .tell_untold(rt, self.network, untold, is_handed, &too, running);
+        self.teller.given_up.note_told(untold.place);
+        self.teller.tell_given_up(err, rt, self.network);
     }
 
     /// Tells the next entry that waits, if its frames were handed to the wire; at the end of the run, also if not. Whether
@@ -195,6 +200,8 @@ impl<'w, 'a, 'n, R: Wait + Clock> Course<'w, 'a, 'n, R> {
                 break;
             }
         }
+        self.teller
+            .tell_given_up(err, self.setting.rt, self.network);
         self.teller.tell_unwritten(err, self.setting);
     }
 }

@@ -2,34 +2,42 @@
 
 use crate::live::saying::Teller;
 use canboot_words::{
-    Bad, Event, LeftOut, NoBoot, NoBootOf, NoFrames, TimeOver, given_up, open_nodes,
+    Bad, Event, GivenUp, LeftOut, NoBoot, NoBootOf, NoFrames, TimeOver, open_nodes,
 };
 use cm_live::{BadLine, Format};
 use cm_netlist::Network;
 use cm_nmt::NodeId;
-use cm_watch::{Tried, Watch};
+use cm_watch::Watch;
 use std::io::Write;
 use std::sync::Wait;
 use std::time::Clock;
 
 impl Teller {
-    /// Tells that a slave is given up.
+    /// Tells which slaves are given up, each behind the entries that came before it.
     pub(crate) fn tell_given_up<R: Wait + Clock, E: Write>(
         &mut self,
         err: &mut E,
         rt: &R,
         network: &Network,
-        tried: &Tried,
-        id: NodeId,
     ) {
-        let told = given_up(tried, network, id);
-        let event = Event::GivenUp {
-            id,
-            is_mandatory: network.mandatory(id),
-            attempts: told.attempts,
-            status: told.status,
-        };
-        self.tell(err, rt, &told, &event);
+        for id in network.listed_ids().as_slice() {
+            let Some(boots) = self.given_up.take(*id) else {
+                continue;
+            };
+            let words = GivenUp {
+                network,
+                id: *id,
+                attempts: boots.attempts,
+                status: boots.status,
+            };
+            let event = Event::GivenUp {
+                id: *id,
+                is_mandatory: network.mandatory(*id),
+                attempts: boots.attempts,
+                status: boots.status,
+            };
+            self.tell(err, rt, &words, &event);
+        }
     }
 
     /// Tells that so many changes of state of a node were left out.
