@@ -16,7 +16,7 @@ import termios
 import time
 
 from live_parts import BUILT, TOLD_AT, Differs, read_report, told, want
-from pipe_devices import ANSWER, Device, Devices
+from pipe_devices import ANSWER, HEARTBEAT, OPERATIONAL, Device, Devices
 
 CANBOOT = os.environ.get('CANBOOT') or str(BUILT)
 # how many seconds a run may take, and how long the operator waits for what he expects
@@ -78,6 +78,19 @@ class OtherProduct(Counted):
     def restore(self):
         super().restore()
         self.objects[0x1018, 2] = ANOTHER
+
+
+class Running(OtherProduct):
+    """A device of another product that runs, whatever it is told, and sends its heartbeat."""
+
+    def __init__(self, slave, send):
+        super().__init__(slave, send)
+        self.state = OPERATIONAL
+        self.objects[HEARTBEAT] = BEAT
+        self.later(BEAT / 1000, self.beat)
+
+    def nmt(self, command):
+        pass
 
 
 class Silent(Counted):
