@@ -1,5 +1,5 @@
 -- What a live run tells of what the bus says, in words; but for the last, without line feeds (own).
-use Rattle.std.specs.Prelude.{ℕ, Bool, true, false, List, [], ◌∷◌, ◌++◌, Option, Some, None, codes, decimal}
+use Rattle.std.specs.Prelude.{ℕ, Bool, true, false, ◌==◌, if◌then◌else◌, List, [], ◌∷◌, ◌++◌, Option, Some, None, codes, decimal}
 use Rattle.std.specs.List.{flat_map}
 use Rattle.cm_text.specs.Hex.{hex_four, hex_two}
 use Rattle.cm_nmt.specs.Codes.{specifier_code}
@@ -69,17 +69,55 @@ state_words state.Passive = codes "error passive"
 state_words state.Off = codes "off"
 state_words state.Restarted = codes "restarted"
 
+-- ---- what was left out
+
+-- messages, so many, behind their number (own)
+abbrev pub messages_words : ℕ → List ℕ
+messages_words count = if count == 1 then codes "message" else codes "messages"
+
+-- so many emergency messages of a node (own)
+abbrev pub emergencies_left_out_words : ℕ → ℕ → List ℕ
+emergencies_left_out_words i count =
+    node_words i (decimal count ++ (codes " emergency " ++ (messages_words count ++ codes ", left out")))
+
+-- so many messages of other masters (own)
+abbrev pub masters_left_out_words : ℕ → List ℕ
+masters_left_out_words count =
+    codes "another NMT master: " ++ (decimal count ++ (codes " " ++ (messages_words count ++ codes ", left out")))
+
+-- changes of the bus, so many, behind their number (own)
+abbrev pub change_words : ℕ → List ℕ
+change_words count = if count == 1 then codes "change" else codes "changes"
+
+-- the state of the controller now, if it was said (own)
+abbrev pub state_now_words : Option BusState → List ℕ
+state_now_words None = []
+state_now_words (Some s) = codes "; it is " ++ (state_words s ++ codes " now")
+
+-- so many changes of the bus, and the state of its controller now (own)
+abbrev pub bus_left_out_words : ℕ → Option BusState → List ℕ
+bus_left_out_words count state =
+    codes "bus: " ++ (decimal count ++ (codes " " ++ (change_words count ++ (codes ", left out" ++ state_now_words state))))
+
+-- ---- all of them
+
+-- two devices have this node-ID (own)
+abbrev pub doubled_words : ℕ → List ℕ
+doubled_words i = node_words i (codes "two devices have this node-ID: their answers to one question differ")
+
 -- what is told (own)
 abbrev pub notice_words : Network → Notice → List ℕ
 notice_words net (notice.Emergency i e) = emergency_words net i e
-notice_words net (notice.EmergenciesLeftOut i count) = node_words i (decimal count ++ codes " emergency messages, left out")
+notice_words net (notice.EmergenciesLeftOut i count) = emergencies_left_out_words i count
 notice_words net (notice.Master m) = codes "another NMT master: " ++ message_words m
-notice_words net (notice.MastersLeftOut count) = codes "another NMT master: " ++ (decimal count ++ codes " messages, left out")
+notice_words net (notice.MastersLeftOut count) = masters_left_out_words count
 notice_words net (notice.Unlisted i) = codes "node " ++ (decimal i ++ codes " isn't listed, and has booted up")
 notice_words net (notice.OwnNodeId i) =
     codes "another device has the manager's own node-ID " ++ (decimal i ++ codes ", and has booted up")
 notice_words net (notice.Bus error.Unacknowledged) = codes "bus: no other node acknowledges"
 notice_words net (notice.Bus (error.State s)) = codes "bus: " ++ state_words s
+notice_words net (notice.BusLeftOut count state) = bus_left_out_words count state
+notice_words net (notice.Doubled i) = doubled_words i
 
 -- its line, with the line feed, if something is told (own)
 abbrev pub notice_line : Network → Option Notice → List ℕ

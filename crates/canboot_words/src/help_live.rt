@@ -174,9 +174,11 @@ It says too what else the bus says, and no call follows from it:
     lines of a node in a second, and then how many were left out
   a message of another NMT master, as often
   a node that isn't listed and boots up, once
+  that two devices have one node-ID: two answers to one question differ, once
   with 'candump -L can0,0:0,#FFFFFFFF', which hears error frames too: that no
     other node acknowledges, and how the interface is (error warning, error
-    passive, off, restarted, error active), each once until it changes
+    passive, off, restarted, error active), each once until it changes, and as
+    often as above
 
 With --names FILE nodes have names, which stand in brackets behind a node's
 number in what is told, as in 'node 5 (hoist): lost, reset'. FILE is TOML,

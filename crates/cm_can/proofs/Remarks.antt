@@ -14,3 +14,4 @@ no_remark f no_emergency no_boot_up no_message (remark.Emergency node e) says = 
 no_remark f no_emergency no_boot_up no_message (remark.BootUp node) says = no_boot_up node says
 no_remark f no_emergency no_boot_up no_message (remark.Message m) says = no_message m says
 no_remark f no_emergency no_boot_up no_message (remark.Error e) says = says
+no_remark f no_emergency no_boot_up no_message (remark.Doubled node) says = says

@@ -3,12 +3,12 @@ ghost use Rattle.cm_watch.specs.BusErrors.{behind_error, error_notice, is_other_
 
 use cm_can::{BusState, CanError};
 
-/// What was told of the errors of the bus.
+/// What was said last of the errors of the bus, whether it was told or left out.
 #[derive(Clone, Copy)]
 pub struct BusTold {
-    /// It was told that nobody acknowledges, and not since that the bus is well.
+    /// It was said that nobody acknowledges, and not since that the bus is well.
     is_unacknowledged: bool,
-    /// The state of the controller that was told last.
+    /// The state of the controller that was said last.
     state: Option<BusState>,
 }
 
@@ -21,12 +21,12 @@ pub enum ErrorNotice {
     State(BusState),
 }
 
-/// Whether it isn't the state that was told last.
-fn is_other_state(told: Option<BusState>, state: BusState) -> bool
-    ensures { result ≡ is_other_state told state }
+/// Whether it isn't the state that was said last.
+fn is_other_state(last: Option<BusState>, state: BusState) -> bool
+    ensures { result ≡ is_other_state last state }
 {
-    match told {
-        Some(told) => told != state,
+    match last {
+        Some(last) => last != state,
         None => true,
     }
 }
@@ -39,7 +39,7 @@ fn is_well(state: BusState) -> bool
 }
 
 impl BusTold {
-    /// Nothing was told.
+    /// Nothing was said.
     pub(crate) fn new() -> BusTold
         ensures { result ≡ nothing_told }
     {
@@ -49,7 +49,14 @@ impl BusTold {
         }
     }
 
-    /// The interface says this. What is told of it: another state of the controller than the one told last; else that nobody
+    /// The state of the controller that was said last, if one was.
+    pub(crate) fn state(&self) -> Option<BusState>
+        ensures { result ≡ self.now.state }
+    {
+        self.state
+    }
+
+    /// The interface says this. What is to be told of it: another state of the controller than the one said last; else that nobody
     /// acknowledges, once until the bus is well.
     pub(crate) fn take(&mut self, error: &CanError) -> Option<ErrorNotice>
         ensures told { result ≡ error_notice self.old error.now }

@@ -8,7 +8,8 @@
 //! which babbles causes at most one step in 10 s, are laws of every past. What an operator is told behind a happening is
 //! [`Told`]; in the order of the history it comes by [`InOrder`]; and when the time may be looked at, [`Pace`] says. What waits
 //! until its frames were handed to the wire is [`Waiting`], and what came of the boots so far [`Tried`]. Which of the remarks of a
-//! bus are told, emergency messages, other masters, errors of the bus and nodes that aren't listed, decide [`Notices`].
+//! bus are told, emergency messages, other masters, errors of the bus, nodes that aren't listed and node-IDs that two devices have,
+//! decide [`Notices`].
 //!
 //! What is told of an entry of the history has one definition for words and events: [`BootFault`], what a boot's status says is
 //! wrong, with the value that was expected and the one found; and [`Starts`], what a report starts.

@@ -1,21 +1,26 @@
 //! What is told of what a bus says, beside the answers and the states of slaves.
 
 ghost use Rattle.std.specs.Prelude.{◌≡◌, ◌<◌, ◌+◌, ◌%◌, ℕ, false, true};
-ghost use Rattle.cm_watch.specs.BusErrors.{nothing_told};
+ghost use Rattle.cm_watch.specs.BusErrors.{behind_error, nothing_told};
 ghost use Rattle.cm_watch.specs.Echoes.{behind_sent_all, count_at};
 ghost use Rattle.cm_watch.specs.Limiting.{behind_message, behind_turn, is_told, none_told};
-ghost use Rattle.cm_watch.specs.Notices.{boot_up_notice, bus_by, count_by, if_place, is_stranger_told, left_out_by, left_out_notice};
-ghost use Rattle.cm_watch.specs.Notices.{limit_at, limit_by, notice_by, own_out_by, own_out_behind, place_of_turn, stranger_by, strangers_by};
+ghost use Rattle.cm_watch.specs.Notices.{boot_up_notice, bus_by, bus_notice, count_by, double_by, double_notice, if_place, is_stranger_told};
+ghost use Rattle.cm_watch.specs.Notices.{left_out_by, left_out_notice, limit_at, limit_behind_error, limit_by, notice_by, own_out_by};
+ghost use Rattle.cm_watch.specs.Notices.{own_out_behind, place_of_turn, stranger_by, strangers_by};
 
 use crate::bus_told::{BusTold, ErrorNotice};
 use crate::limit::Limit;
 use crate::sent::Sent;
-use cm_can::{Emergency, Remark};
+use cm_can::{BusState, CanError, Emergency, Remark};
 use cm_netlist::Network;
 use cm_nmt::{Frame, NodeId};
 
 /// The place of the limit of messages of other masters; each node's is at the place of its node-ID.
 const MASTERS: u8 = 0;
+/// The place of the limit of what the interface says of the bus, behind those of the nodes.
+const BUS: u8 = 128;
+/// How many limits there are.
+const LIMITS: u8 = 129;
 
 /// What is told of what a bus says.
 #[derive(Clone, Copy, Debug, PartialEq, Eq)]
@@ -34,30 +39,37 @@ pub enum Notice {
     OwnNodeId(NodeId),
     /// The interface said this of the bus.
     Bus(ErrorNotice),
+    /// So many changes of the bus were left out; this is the state of its controller now, if it was said.
+    BusLeftOut(u32, Option<BusState>),
+    /// Two answers to one question came from this node-ID, and they differ: two devices have it. This is told once of each.
+    Doubled(NodeId),
 }
 
 /// What decides which of the remarks of a bus are told (own): of one node at most ten emergency messages in any second, and of
-/// other masters as many messages; each error of the bus once until it changes; each node that isn't listed once, and once
-/// another device with the manager's own node-ID.
+/// other masters as many messages; each error of the bus once until it changes, and of these changes as many; each node that
+/// isn't listed once, or that two devices have its node-ID, and once another device with the manager's own node-ID.
 #[derive(Clone, Copy)]
 pub struct Notices {
-    /// How often what is told, of other masters at first, and then of each node.
-    limits: [Limit; 128],
-    /// The place of the limit that is looked at in the next turn, modulo 128.
+    /// How often what is told: of other masters at first, then of each node, and at last of the bus.
+    limits: [Limit; 129],
+    /// The place of the limit that is looked at in the next turn, modulo 129.
     next: u8,
     sent: Sent,
     /// Our own boot-up message was sent, and hasn't come back.
     is_own_out: bool,
-    /// Of each node, whether it was told that it isn't listed, or is another device with our node-ID.
+    /// Of each node, whether it was told that it isn't listed, or that another device has its node-ID, which may be ours.
     strangers: [bool; 128],
     bus: BusTold,
 }
 
-/// What is told of a count of what was left out, by the place of its limit.
-fn left_out_notice(place: u8, count: u32) -> Notice
-    requires { place < 128 }
-    ensures { result ≡ left_out_notice place count }
+/// What is told of a count of what was left out, by the place of its limit. `state` is the controller's.
+fn left_out_notice(place: u8, count: u32, state: Option<BusState>) -> Notice
+    requires { place < 129 }
+    ensures { result ≡ left_out_notice place count state }
 {
+    if place == BUS {
+        return Notice::BusLeftOut(count, state);
+    }
     match NodeId::new(place) {
         Some(id) => Notice::EmergenciesLeftOut(id, count),
         None => Notice::MastersLeftOut(count),
@@ -67,7 +79,7 @@ fn left_out_notice(place: u8, count: u32) -> Notice
 impl Notices {
     /// Nothing was heard, sent or told.
     pub fn new() -> Notices
-        ensures limits { (i : ℕ) → i < 128 → limit_at result i ≡ none_told }
+        ensures limits { (i : ℕ) → i < 129 → limit_at result i ≡ none_told }
         ensures next { result.next ≡ 0 }
         ensures sent { (k : ℕ) → k < 640 → count_at result.sent k ≡ 0 }
         ensures own { result.is_own_out ≡ false }
@@ -75,7 +87,7 @@ impl Notices {
         ensures bus { result.bus ≡ nothing_told }
     {
         Notices {
-            limits: [Limit::new(); 128],
+            limits: [Limit::new(); 129],
             next: 0,
             sent: Sent::new(),
             is_own_out: false,
@@ -86,9 +98,9 @@ impl Notices {
 
     /// A message of the limit at this place comes: whether it is told.
     fn take(&mut self, place: u8, now: u64) -> bool
-        requires { place < 128 }
+        requires { place < 129 }
         ensures told { result ≡ is_told (limit_at self.old place) now }
-        ensures limits { (i : ℕ) → i < 128
+        ensures limits { (i : ℕ) → i < 129
             → limit_at self.new i ≡ if_place place i (behind_message (limit_at self.old i) now) (limit_at self.old i) }
         ensures next { self.new.next ≡ self.old.next }
         ensures sent { self.new.sent ≡ self.old.sent }
@@ -130,6 +142,45 @@ impl Notices {
         }
     }
 
+    /// Two devices have this node-ID: what is told of it.
+    fn meet_double(&mut self, id: NodeId) -> Option<Notice>
+        ensures told { result ≡ double_notice self.old id }
+        ensures strangers { (i : ℕ) → i < 128
+            → is_stranger_told self.new i ≡ double_by id i (is_stranger_told self.old i) }
+        ensures limits { self.new.limits ≡ self.old.limits }
+        ensures next { self.new.next ≡ self.old.next }
+        ensures sent { self.new.sent ≡ self.old.sent }
+        ensures own { self.new.is_own_out ≡ self.old.is_own_out }
+        ensures bus { self.new.bus ≡ self.old.bus }
+    {
+        let place = usize::from(id.get());
+        if self.strangers[place] {
+            return None;
+        }
+        self.strangers[place] = true;
+        Some(Notice::Doubled(id))
+    }
+
+    /// The interface says this of the bus, at this time in ms: what is told of it.
+    fn hear_error(&mut self, now: u64, error: &CanError) -> Option<Notice>
+        ensures told { result ≡ bus_notice self.old now error.now }
+        ensures limits { (i : ℕ) → i < 129
+            → limit_at self.new i ≡ limit_behind_error self.old error.now now i (limit_at self.old i) }
+        ensures bus { self.new.bus ≡ behind_error self.old.bus error.now }
+        ensures next { self.new.next ≡ self.old.next }
+        ensures sent { self.new.sent ≡ self.old.sent }
+        ensures own { self.new.is_own_out ≡ self.old.is_own_out }
+        ensures strangers { self.new.strangers ≡ self.old.strangers }
+    {
+        match self.bus.take(error) {
+            Some(notice) => {
+                let is_told = self.take(BUS, now);
+                is_told.then_some(Notice::Bus(notice))
+            }
+            None => None,
+        }
+    }
+
     /// We send our own boot-up message: it comes back at most once.
     pub fn boot_up(&mut self)
         ensures own { self.new.is_own_out ≡ true }
@@ -162,7 +213,7 @@ impl Notices {
     /// The bus says this, at this time in ms: what is told of it.
     pub fn hear(&mut self, network: &Network, now_ms: u64, remark: &Remark) -> Option<Notice>
         ensures told { result ≡ notice_by self.old network.now now_ms remark.now }
-        ensures limits { (i : ℕ) → i < 128
+        ensures limits { (i : ℕ) → i < 129
             → limit_at self.new i ≡ limit_by self.old remark.now now_ms i (limit_at self.old i) }
         ensures sent { (k : ℕ) → k < 640
             → count_at self.new.sent k ≡ count_by remark.now k (count_at self.old.sent k) }
@@ -185,32 +236,30 @@ impl Notices {
                     Some(Notice::Master(*message))
                 }
             }
-            Remark::Error(error) => match self.bus.take(error) {
-                Some(notice) => Some(Notice::Bus(notice)),
-                None => None,
-            },
+            Remark::Error(error) => self.hear_error(now_ms, error),
+            Remark::Doubled(id) => self.meet_double(*id),
         }
     }
 
     /// A turn, at this time in ms: the next limit is looked at, and what was left out of it is told, if it may be. So each is within
-    /// 128 turns.
+    /// 129 turns.
     pub fn turn(&mut self, now_ms: u64) -> Option<Notice>
         ensures told { result ≡ left_out_by self.old now_ms }
-        ensures limits { (i : ℕ) → i < 128
+        ensures limits { (i : ℕ) → i < 129
             → limit_at self.new i ≡ if_place (place_of_turn self.old) i (behind_turn (limit_at self.old i) now_ms) (limit_at self.old i) }
-        ensures next { self.new.next ≡ (place_of_turn self.old + 1) % 128 }
+        ensures next { self.new.next ≡ (place_of_turn self.old + 1) % 129 }
         ensures sent { self.new.sent ≡ self.old.sent }
         ensures own { self.new.is_own_out ≡ self.old.is_own_out }
         ensures strangers { self.new.strangers ≡ self.old.strangers }
         ensures bus { self.new.bus ≡ self.old.bus }
     {
-        let place = self.next % 128;
-        self.next = (place + 1) % 128;
+        let place = self.next % LIMITS;
+        self.next = (place + 1) % LIMITS;
         let mut limit = self.limits[usize::from(place)];
         let count = limit.turn(now_ms);
         self.limits[usize::from(place)] = limit;
         match count {
-            Some(count) => Some(left_out_notice(place, count)),
+            Some(count) => Some(left_out_notice(place, count, self.bus.state())),
             None => None,
         }
     }

@@ -37,7 +37,7 @@ enum Line {
 }
 
 /// How many turns a round has.
-const TURNS: u8 = 128;
+const TURNS: u8 = 129;
 
 /// What a frame says, or an error frame.
 fn read_said(text: &[u8]) -> Option<Remark> {
@@ -79,6 +79,7 @@ impl<'a> Story<'a> {
             "turn" => Some(Line::Turn),
             "round" => Some(Line::Round),
             "said" => Some(Line::Said(read_said(first?.as_bytes()))),
+            "doubled" => Some(Line::Said(Some(Remark::Doubled(story_node(first)?)))),
             "entry" => Some(Line::Happened(Happening::Called(self.next_entry()?))),
             "ended" => Some(Line::Happened(Happening::Ended(story_node(first)?))),
             "asked" => Some(Line::Happened(Happening::Asked(story_node(first)?))),
@@ -188,15 +189,35 @@ fn put_step<W: Write>(now_ms: u64, step: Step, out: &mut W) -> io::Result<()> {
     }
 }
 
-/// The word of what is told of an error of the bus.
-fn error_word(error: ErrorNotice) -> &'static str {
+/// The word of a state of the controller.
+fn state_word(state: BusState) -> &'static str {
+    match state {
+        BusState::Active => "active",
+        BusState::Warning => "warning",
+        BusState::Passive => "passive",
+        BusState::Off => "off",
+        BusState::Restarted => "restarted",
+    }
+}
+
+/// Writes what is told of an error of the bus.
+fn put_error<W: Write>(now_ms: u64, error: ErrorNotice, out: &mut W) -> io::Result<()> {
     match error {
-        ErrorNotice::Unacknowledged => "unacknowledged",
-        ErrorNotice::State(BusState::Active) => "bus active",
-        ErrorNotice::State(BusState::Warning) => "bus warning",
-        ErrorNotice::State(BusState::Passive) => "bus passive",
-        ErrorNotice::State(BusState::Off) => "bus off",
-        ErrorNotice::State(BusState::Restarted) => "bus restarted",
+        ErrorNotice::Unacknowledged => writeln!(out, "{now_ms} unacknowledged"),
+        ErrorNotice::State(state) => writeln!(out, "{now_ms} bus {}", state_word(state)),
+    }
+}
+
+/// Writes how many changes of the bus were left out, and the state of its controller, where there is one.
+fn put_bus_left_out<W: Write>(
+    now_ms: u64,
+    count: u32,
+    state: Option<BusState>,
+    out: &mut W,
+) -> io::Result<()> {
+    match state {
+        Some(state) => writeln!(out, "{now_ms} bus-left-out {count} {}", state_word(state)),
+        None => writeln!(out, "{now_ms} bus-left-out {count}"),
     }
 }
 
@@ -228,7 +249,9 @@ fn put_notice<W: Write>(now_ms: u64, notice: &Notice, out: &mut W) -> io::Result
         Notice::MastersLeftOut(count) => writeln!(out, "{now_ms} masters-left-out {count}"),
         Notice::Unlisted(id) => writeln!(out, "{now_ms} unlisted {}", id.get()),
         Notice::OwnNodeId(id) => writeln!(out, "{now_ms} own-node-id {}", id.get()),
-        Notice::Bus(error) => writeln!(out, "{now_ms} {}", error_word(*error)),
+        Notice::Bus(error) => put_error(now_ms, *error, out),
+        Notice::BusLeftOut(count, state) => put_bus_left_out(now_ms, *count, *state, out),
+        Notice::Doubled(id) => writeln!(out, "{now_ms} doubled {}", id.get()),
     }
 }
 

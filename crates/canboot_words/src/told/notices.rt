@@ -3,8 +3,10 @@
 ghost use Rattle.std.specs.Prelude.{◌≡◌, Some, OnOk};
 ghost use Rattle.std.specs.Io.KnownBytes.{Appends};
 ghost use Rattle.cm_netlist.specs.Network.{is_listed};
-ghost use Rattle.canboot_words.specs.NoticeWords.{bytes_words, command_words, emergency_words, listed_words, message_words, notice_line};
-ghost use Rattle.canboot_words.specs.NoticeWords.{notice_words, state_words, target_words};
+ghost use Rattle.canboot_words.specs.NoticeWords.{bus_left_out_words, bytes_words, change_words, command_words, doubled_words};
+ghost use Rattle.canboot_words.specs.NoticeWords.{emergencies_left_out_words, emergency_words, listed_words, masters_left_out_words};
+ghost use Rattle.canboot_words.specs.NoticeWords.{message_words, messages_words, notice_line, notice_words, state_now_words, state_words};
+ghost use Rattle.canboot_words.specs.NoticeWords.{target_words};
 
 use crate::hexadecimal::{HexFour, HexTwo};
 use crate::told::telling::say;
@@ -129,6 +131,98 @@ fn state_words(state: BusState) -> &'static str
     }
 }
 
+/// Messages, so many, behind their number.
+fn messages_words(count: u32) -> &'static str
+    ensures { result.now ≡ messages_words count }
+{
+    if count == 1 { "message" } else { "messages" }
+}
+
+/// That so many emergency messages of a node were left out.
+#[derive(Drop)]
+struct EmergenciesLeftOut(NodeId, u32);
+
+impl Display for EmergenciesLeftOut {
+    ghost output = { λ l. Some (emergencies_left_out_words l.0 l.1) };
+
+    fn fmt<W: fmt::Write>(&self, f: &mut fmt::Formatter<W>) -> fmt::Result {
+        let number = self.0.get();
+        let count = self.1;
+        let messages = messages_words(count);
+        write!(f, "node {number}: {count} emergency {messages}, left out")
+    }
+}
+
+/// That so many messages of other masters were left out.
+#[derive(Drop)]
+struct MastersLeftOut(u32);
+
+impl Display for MastersLeftOut {
+    ghost output = { λ l. Some (masters_left_out_words l.0) };
+
+    fn fmt<W: fmt::Write>(&self, f: &mut fmt::Formatter<W>) -> fmt::Result {
+        let count = self.0;
+        let messages = messages_words(count);
+        write!(f, "another NMT master: {count} {messages}, left out")
+    }
+}
+
+/// Changes of the bus, so many, behind their number.
+fn change_words(count: u32) -> &'static str
+    ensures { result.now ≡ change_words count }
+{
+    if count == 1 { "change" } else { "changes" }
+}
+
+/// The state of the CAN controller now, if it was said.
+#[derive(Drop)]
+struct StateNow(Option<BusState>);
+
+impl Display for StateNow {
+    ghost output = { λ s. Some (state_now_words s.0) };
+
+    fn fmt<W: fmt::Write>(&self, f: &mut fmt::Formatter<W>) -> fmt::Result {
+        match self.0 {
+            Some(state) => {
+                let words = state_words(state);
+                write!(f, "; it is {words} now")
+            }
+            None => Ok(()),
+        }
+    }
+}
+
+/// That so many changes of the bus were left out, and the state of its controller now.
+#[derive(Drop)]
+struct BusLeftOut(u32, Option<BusState>);
+
+impl Display for BusLeftOut {
+    ghost output = { λ l. Some (bus_left_out_words l.0 l.1) };
+
+    fn fmt<W: fmt::Write>(&self, f: &mut fmt::Formatter<W>) -> fmt::Result {
+        let count = self.0;
+        let changes = change_words(count);
+        let now = StateNow(self.1);
+        write!(f, "bus: {count} {changes}, left out{now}")
+    }
+}
+
+/// That two devices have a node-ID.
+#[derive(Drop)]
+struct Doubled(NodeId);
+
+impl Display for Doubled {
+    ghost output = { λ d. Some (doubled_words d.0) };
+
+    fn fmt<W: fmt::Write>(&self, f: &mut fmt::Formatter<W>) -> fmt::Result {
+        let number = self.0.get();
+        write!(
+            f,
+            "node {number}: two devices have this node-ID: their answers to one question differ"
+        )
+    }
+}
+
 /// What is told of what the bus says.
 #[derive(Drop)]
 struct NoticeWords<'a> {
@@ -151,17 +245,12 @@ impl<'a> Display for NoticeWords<'a> {
                 };
                 words.fmt(f)
             }
-            Notice::EmergenciesLeftOut(id, count) => {
-                let number = id.get();
-                write!(f, "node {number}: {count} emergency messages, left out")
-            }
+            Notice::EmergenciesLeftOut(id, count) => EmergenciesLeftOut(*id, *count).fmt(f),
             Notice::Master(message) => {
                 let words = MessageWords(*message);
                 write!(f, "another NMT master: {words}")
             }
-            Notice::MastersLeftOut(count) => {
-                write!(f, "another NMT master: {count} messages, left out")
-            }
+            Notice::MastersLeftOut(count) => MastersLeftOut(*count).fmt(f),
             Notice::Unlisted(id) => {
                 let number = id.get();
                 write!(f, "node {number} isn't listed, and has booted up")
@@ -180,6 +269,8 @@ impl<'a> Display for NoticeWords<'a> {
                 let words = state_words(*state);
                 write!(f, "bus: {words}")
             }
+            Notice::BusLeftOut(count, state) => BusLeftOut(*count, *state).fmt(f),
+            Notice::Doubled(id) => Doubled(*id).fmt(f),
         }
     }
 }
