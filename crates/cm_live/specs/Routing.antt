@@ -4,7 +4,7 @@ use Rattle.cm_text.specs.FieldReading.{◌>>=◌}
 use Rattle.cm_can.specs.Control.{IsErrorControl}
 use Rattle.cm_can.specs.declared.frame.CanFrame.{CanFrame}
 use Rattle.cm_netlist.specs.Workers.{place_of, worker_of}
-use Rattle.cm_live.specs.Doubling.{answering, change_in}
+use Rattle.cm_live.specs.Doubling.{answering, said_in}
 use Rattle.cm_live.specs.Identifiers.{node_in}
 use Rattle.cm_live.specs.declared.happening.Happening.{Happening}
 use Rattle.cm_live.specs.declared.happening.Happening.TheVariants.{Told}
@@ -20,4 +20,4 @@ IsNewsIn listed f _ = ⊥
 
 -- the frame is an answer of the SDO server of a listed node
 abbrev pub IsAnswerOf : List ℕ → CanFrame → ℕ → Type 0
-IsAnswerOf listed f node = (answering (change_in f) ≡ Some node) × IsSome (place_of node listed)
+IsAnswerOf listed f node = (answering (said_in f) ≡ Some node) × IsSome (place_of node listed)
