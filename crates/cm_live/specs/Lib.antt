@@ -6,6 +6,7 @@ pub mod Hearing
 pub mod Places
 pub mod Cutting
 pub mod BootUps
+pub mod Doubling
 pub mod Receiving
 pub mod Console
 pub mod Identifiers

@@ -1,9 +1,10 @@
 -- Whom a frame is given to that is received, and what is told of it (own).
-use Rattle.std.specs.Prelude.{ℕ, List, Option, IsSome}
+use Rattle.std.specs.Prelude.{◌≡◌, ℕ, List, Option, IsSome, Some}
 use Rattle.cm_text.specs.FieldReading.{◌>>=◌}
 use Rattle.cm_can.specs.Control.{IsErrorControl}
 use Rattle.cm_can.specs.declared.frame.CanFrame.{CanFrame}
 use Rattle.cm_netlist.specs.Workers.{place_of, worker_of}
+use Rattle.cm_live.specs.Doubling.{answering, said_in}
 use Rattle.cm_live.specs.Identifiers.{node_in}
 use Rattle.cm_live.specs.declared.happening.Happening.{Happening}
 use Rattle.cm_live.specs.declared.happening.Happening.TheVariants.{Told}
@@ -16,3 +17,7 @@ worker_for listed workers f = node_in f.kind f.id.number >>= (λ n. worker_of li
 abbrev pub IsNewsIn : List ℕ → CanFrame → Happening → Type 0
 IsNewsIn listed f (Told node byte) = IsErrorControl node byte f × IsSome (place_of node listed)
 IsNewsIn listed f _ = ⊥
+
+-- the frame is an answer of the SDO server of a listed node
+abbrev pub IsAnswerOf : List ℕ → CanFrame → ℕ → Type 0
+IsAnswerOf listed f node = (answering (said_in f) ≡ Some node) × IsSome (place_of node listed)

@@ -1,20 +1,23 @@
-//! The boot-up messages among the bytes that are received.
+//! The boot-up messages among the bytes that are received, and the answers that contradict each other.
 ghost use Rattle.std.specs.Prelude.{◌≡◌, ◌≢◌, ◌+◌, ◌<◌, ◌^◌, ℕ, Some};
 ghost use Rattle.cm_live.specs.BootUps.{EndsNoBootUp, IsBootUp, IsLastBootUp};
 ghost use Rattle.cm_live.specs.Identifiers.{IsOfNode};
 
 use crate::bus_name::BusName;
+use crate::doubling::Answers;
 use crate::listening::sender_of;
 use cm_can::{CanFrame, error_control};
 use cm_nmt::NodeId;
 use std::marker::{Model, PhantomData};
 
-/// How many bytes were received, and of each node-ID, and one that is unused, the place of its last boot-up message
-/// among them, 0 where none was: behind it they end no boot-up message of the node. Contracts see how many bytes.
+/// How many bytes were received, and of each node-ID, and one that is unused, the last place among them from which on another
+/// device may have it, 0 where none is: that of a boot-up message, or of an answer that contradicts the one before. Behind it they
+/// end no boot-up message of the node. Contracts see how many bytes.
 #[derive(Drop)]
 pub(crate) struct BootUps<B: BusName> {
     taken: u64,
     last: [u64; 128],
+    answers: Answers,
     of: PhantomData<B>,
 }
 
@@ -50,6 +53,7 @@ impl<B: BusName> BootUps<B> {
         BootUps {
             taken: 0,
             last: [0; 128],
+            answers: Answers::new(),
             of: PhantomData,
         }
     }
@@ -63,7 +67,7 @@ impl<B: BusName> BootUps<B> {
         self.taken += 1;
     }
 
-    /// Takes the next byte, which ends a boot-up message of this node, if it ends one.
+    /// Takes the next byte, from which on another device may be this node. It ends a boot-up message of no other.
     fn note(&mut self, node: NodeId)
         requires room { self.old < 2 ^ 63 }
         requires others { (n : ℕ) → n ≢ node → EndsNoBootUp B.format B.text n self.old }
@@ -73,19 +77,24 @@ impl<B: BusName> BootUps<B> {
         self.taken += 1;
     }
 
-    /// Takes the next byte, which ends the line of this frame: a boot-up message is noted.
+    /// Takes the next byte, which ends the line of this frame: a boot-up message is noted, and so is an answer that contradicts the one
+    /// before.
     pub(crate) fn hear(&mut self, frame: &CanFrame)
         requires room { self.old < 2 ^ 63 }
         requires only { (n : ℕ) → (IsBootUp n frame.now → ⊥) → EndsNoBootUp B.format B.text n self.old }
         ensures { self.new ≡ self.old + 1 }
     {
+        let doubled = self.answers.hear(frame);
         match booted_up(frame) {
             Some(node) => self.note(node),
-            None => self.pass(),
+            None => match doubled {
+                Some(node) => self.note(node),
+                None => self.pass(),
+            },
         }
     }
 
-    /// The place of the last boot-up message of the node of which the frame may answer a question; 0 where none was, and
+    /// The last place from which on another device may be the node of which the frame may answer a question; 0 where none is, and
     /// of a frame of no node.
     pub(crate) fn since(&self, frame: &CanFrame) -> u64
         ensures { (n : ℕ) → IsOfNode n frame.now → IsLastBootUp B.format B.text n result self.now }

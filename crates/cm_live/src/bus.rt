@@ -30,9 +30,9 @@ const MOST_EVENTS: usize = 27_470;
 
 /// A CAN bus on which slaves are asked, over a port. Its log has what went over the port for each question since
 /// the log was emptied; a log that is full is emptied for the next question, and no round of a worker fills one. A boot
-/// begins with its first question, and goes on until its end is told: of a slave that has booted up since it began, nothing
-/// more is heard in it, since what comes then may be another device's. Contracts see the log, the places behind which
-/// frames are heard, and whether a boot goes on.
+/// begins with its first question, and goes on until its end is told: of a slave that has booted up since it began, or whose
+/// answers to one question contradicted each other, nothing more is heard in it, since what comes then may be another device's.
+/// Contracts see the log, the places behind which frames are heard, and whether a boot goes on.
 #[derive(Drop)]
 pub struct LiveBus<'n, B: BusName, P: Port<B>> {
     network: &'n Network,
@@ -42,7 +42,8 @@ pub struct LiveBus<'n, B: BusName, P: Port<B>> {
     /// question: other frames are heard behind it alone.
     last: u64,
     /// The place behind which the answers of the boot that goes on are heard: none of them comes behind a boot-up
-    /// message of its slave that stands behind this place, since it may be another device's.
+    /// message of its slave that stands behind this place, nor behind an answer that contradicts another, since it may be another
+    /// device's.
     begun: u64,
     /// A question of the boot was asked, and its end wasn't told yet.
     goes_on: bool,
@@ -104,9 +105,10 @@ fn expire(log: &mut Vec<Event>) -> Option<Reply>
     None
 }
 
-/// Waits for the first frame behind the last place that answers the question, and whose node hasn't booted up since the
-/// boot that goes on began. Others are passed over; of them, those up to the last place, and those of a node that has
-/// booted up, don't stand in the log. `None` once the time is over, or where too many others came.
+/// Waits for the first frame behind the last place that answers the question, and whose node can be no other device than when the
+/// boot that goes on began: it hasn't booted up, nor contradicted itself. Others are passed over; of them, those up to the last
+/// place, and those of a node that can be another device, don't stand in the log. `None` once the time is over, or where too many
+/// others came.
 fn wait_for<B: BusName, P: Port<B>>(
     port: &mut P,
     last: &mut u64,

@@ -17,6 +17,7 @@ mod boot_ups;
 mod bus;
 mod bus_name;
 mod console;
+mod doubling;
 mod event;
 mod happening;
 mod heartbeats;

@@ -14,7 +14,7 @@ use std::alloc::{AllocError, Global};
 use std::sync::atomic::{AtomicU64, Ordering};
 
 /// The identifier of a node's SDO server, less the node-ID.
-const FROM_SERVER: u16 = 0x580;
+pub(crate) const FROM_SERVER: u16 = 0x580;
 
 /// The identifier of a node's error control messages, less the node-ID.
 const ERROR_CONTROL: u16 = 0x700;
@@ -43,7 +43,7 @@ fn id_of_answer(node: NodeId, question: &Question) -> u16
 }
 
 /// The node whose node-ID an identifier has above this one.
-fn node_above(base: u16, id: u16) -> Option<NodeId>
+pub(crate) fn node_above(base: u16, id: u16) -> Option<NodeId>
     ensures { result ≡ within 1 127 (id - base) }
 {
     let above = id.saturating_sub(base);

@@ -7,9 +7,9 @@ use cm_can::CanFrame;
 use std::marker::{Model, PhantomData};
 
 /// A frame that was received: it stands, as a line, in what the reader of received frames holds, at its place. Only who
-/// has read that line can make one. It knows the place of the last boot-up message of the node of which the frame may
-/// answer a question: behind that, and up to its own place, none of this node stands. Contracts see the frame and both
-/// places.
+/// has read that line can make one. It knows the last place from which on another device may be the node of which the frame
+/// may answer a question: that of a boot-up message, or of an answer that contradicts the one before it. Behind that, and up to
+/// its own place, no boot-up message of this node stands. Contracts see the frame and both places.
 #[derive(Drop)]
 pub struct Received<B: BusName> {
     frame: CanFrame,
@@ -32,7 +32,7 @@ impl<B: BusName> Model for Received<B> {
 }
 
 impl<B: BusName> Received<B> {
-    /// The frame at this place, with that of the last boot-up message of its node.
+    /// The frame at this place, with the last from which on another device may be its node.
     pub(crate) fn new(place: u64, frame: CanFrame, since: u64) -> Received<B>
         requires stands { StandsIn B.format B.text place frame }
         requires same { (n : ℕ) → IsOfNode n frame → NoBootUp B.format B.text n since place }
@@ -61,8 +61,9 @@ impl<B: BusName> Received<B> {
         self.place
     }
 
-    /// The place of the last boot-up message of the node of which the frame may answer a question: its own, where it is
-    /// that message; 0 where none was, and where it is a frame of no node.
+    /// The last place from which on another device may be the node of which the frame may answer a question, by a boot-up
+    /// message, or an answer that contradicts the one before: its own, where it is that message or answer; 0 where none is, and
+    /// where it is a frame of no node.
     pub fn since(&self) -> u64
         ensures since { result ≡ self.now.since }
         ensures same { (n : ℕ) → IsOfNode n self.now.frame

@@ -55,8 +55,8 @@ pub enum Heard<B: BusName> {
     Error(CanError),
 }
 
-/// Cuts what is received into frames, each with its place and that of the last boot-up message of its node. Contracts see
-/// how many bytes it has taken.
+/// Cuts what is received into frames, each with its place and the last from which on another device may be its node. Contracts
+/// see how many bytes it has taken.
 #[derive(Drop)]
 pub struct FrameCutter<B: BusName> {
     lines: LineCounter,

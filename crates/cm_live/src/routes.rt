@@ -5,10 +5,11 @@ ghost use Rattle.cm_nmt.specs.NodeId.{IsNodeId};
 ghost use Rattle.cm_boot.specs.declared.question.Answer.{Answer};
 ghost use Rattle.cm_boot.specs.declared.question.Question.{Question};
 ghost use Rattle.cm_can.specs.Questions.{IsAnswer};
-ghost use Rattle.cm_live.specs.Routing.{IsNewsIn, worker_for};
+ghost use Rattle.cm_live.specs.Routing.{IsAnswerOf, IsNewsIn, worker_for};
 ghost use Rattle.cm_netlist.specs.Workers.{worker_of};
 
 use crate::bus_name::BusName;
+use crate::doubling::answering;
 use crate::happening::Happening;
 use crate::heartbeats::Heartbeats;
 use crate::listening::{Listening, sender_of};
@@ -86,10 +87,24 @@ impl<B: BusName> Routes<B> {
         }
     }
 
+    /// The listed node of which a frame is an answer that contradicts the one before: it alone of all answers stands at the last
+    /// place from which on another device may be its node.
+    fn doubled(&self, received: &Received<B>) -> Option<NodeId>
+        ensures { IfSome result (IsAnswerOf self.now.listed.items received.now.frame) }
+    {
+        if received.since() != received.place() {
+            return None;
+        }
+        let node = answering(&received.frame())?;
+        let _listed = place_of(self.listed.as_slice(), node)?;
+        Some(node)
+    }
+
     /// Gives a frame to all that it is for.
     pub(crate) fn take<R: Wait + Clock>(&self, rt: &R, received: Received<B>) {
         let frame = received.frame();
         let place = received.place();
+        let doubled = self.doubled(&received);
         if let Some(worker) = self.worker_that_hears(&frame) {
             if let Some(hears) = self.workers.get(worker) {
                 let _ = hears.send(rt, received);
@@ -99,6 +114,10 @@ impl<B: BusName> Routes<B> {
             let _ = self.happenings.send(rt, news);
         }
         if let Some(remark) = read_remark(&frame) {
+            let _ = self.happenings.send(rt, Happening::Said(remark));
+        }
+        if let Some(node) = doubled {
+            let remark = Remark::Doubled(node);
             let _ = self.happenings.send(rt, Happening::Said(remark));
         }
     }
