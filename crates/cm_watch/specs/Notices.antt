@@ -10,6 +10,7 @@ use Rattle.cm_watch.specs.BusErrors.{behind_error, error_notice}
 use Rattle.cm_watch.specs.Echoes.{behind_heard, is_ours}
 use Rattle.cm_watch.specs.Limiting.{behind_message, is_told, left_out_now, none_told}
 use Rattle.cm_watch.specs.declared.bus_told.BusTold.{BusTold}
+use Rattle.cm_watch.specs.declared.bus_told.ErrorNotice.{ErrorNotice}
 use Rattle.cm_watch.specs.declared.limit.Limit.{Limit}
 use Rattle.cm_watch.specs.declared.notices.Notice.{Notice}
 use Rattle.cm_watch.specs.declared.notices.Notice.TheVariants as notice
@@ -53,8 +54,8 @@ abbrev pub double_notice : Notices → ℕ → Option Notice
 double_notice n i = notice_if (not (is_stranger_told n i)) (notice.Doubled i)
 
 -- what is told of an error of the bus: a change of it, within the limit of the bus
-abbrev pub bus_notice : Notices → ℕ → CanError → Option Notice
-bus_notice n now e = if is_told (limit_at n 128) now then option_map (λ x. notice.Bus x) (error_notice n.bus e) else None
+abbrev pub error_told : Notices → ℕ → CanError → Option ErrorNotice
+error_told n now e = if is_told (limit_at n 128) now then error_notice n.bus e else None
 
 -- an emergency message within the limit of its node; a boot-up message of a node that isn't listed, or of another device with the
 -- manager's own node-ID, once; an NMT message that isn't
@@ -64,7 +65,7 @@ abbrev pub notice_by : Notices → Network → ℕ → Remark → Option Notice
 notice_by n net now (remark.Emergency i e) = notice_if (is_told (limit_at n i) now) (notice.Emergency i e)
 notice_by n net now (remark.BootUp i) = boot_up_notice n net i
 notice_by n net now (remark.Message m) = notice_if (not (is_ours n.sent m) && is_told (limit_at n 0) now) (notice.Master m)
-notice_by n net now (remark.Error e) = bus_notice n now e
+notice_by n net now (remark.Error e) = option_map (λ x. notice.Bus x) (error_told n now e)
 notice_by n net now (remark.Doubled i) = double_notice n i
 
 -- how many were left out, of a node or of the bus, whose controller is in this state now

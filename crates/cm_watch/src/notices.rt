@@ -4,7 +4,7 @@ ghost use Rattle.std.specs.Prelude.{◌≡◌, ◌<◌, ◌+◌, ◌%◌, ℕ, f
 ghost use Rattle.cm_watch.specs.BusErrors.{behind_error, nothing_told};
 ghost use Rattle.cm_watch.specs.Echoes.{behind_sent_all, count_at};
 ghost use Rattle.cm_watch.specs.Limiting.{behind_message, behind_turn, is_told, none_told};
-ghost use Rattle.cm_watch.specs.Notices.{boot_up_notice, bus_by, bus_notice, count_by, double_by, double_notice, if_place, is_stranger_told};
+ghost use Rattle.cm_watch.specs.Notices.{boot_up_notice, bus_by, count_by, double_by, double_notice, error_told, if_place, is_stranger_told};
 ghost use Rattle.cm_watch.specs.Notices.{left_out_by, left_out_notice, limit_at, limit_behind_error, limit_by, notice_by, own_out_by};
 ghost use Rattle.cm_watch.specs.Notices.{own_out_behind, place_of_turn, stranger_by, strangers_by};
 
@@ -162,8 +162,8 @@ impl Notices {
     }
 
     /// The interface says this of the bus, at this time in ms: what is told of it.
-    fn hear_error(&mut self, now: u64, error: &CanError) -> Option<Notice>
-        ensures told { result ≡ bus_notice self.old now error.now }
+    fn hear_error(&mut self, now: u64, error: &CanError) -> Option<ErrorNotice>
+        ensures told { result ≡ error_told self.old now error.now }
         ensures limits { (i : ℕ) → i < 129
             → limit_at self.new i ≡ limit_behind_error self.old error.now now i (limit_at self.old i) }
         ensures bus { self.new.bus ≡ behind_error self.old.bus error.now }
@@ -172,13 +172,11 @@ impl Notices {
         ensures own { self.new.is_own_out ≡ self.old.is_own_out }
         ensures strangers { self.new.strangers ≡ self.old.strangers }
     {
-        match self.bus.take(error) {
-            Some(notice) => {
-                let is_told = self.take(BUS, now);
-                is_told.then_some(Notice::Bus(notice))
-            }
-            None => None,
+        let notice = self.bus.take(error);
+        if notice.is_some() && !self.take(BUS, now) {
+            return None;
         }
+        notice
     }
 
     /// We send our own boot-up message: it comes back at most once.
@@ -236,7 +234,10 @@ impl Notices {
                     Some(Notice::Master(*message))
                 }
             }
-            Remark::Error(error) => self.hear_error(now_ms, error),
+            Remark::Error(error) => match self.hear_error(now_ms, error) {
+                Some(notice) => Some(Notice::Bus(notice)),
+                None => None,
+            },
             Remark::Doubled(id) => self.meet_double(*id),
         }
     }
