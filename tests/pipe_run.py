@@ -16,7 +16,7 @@ import termios
 import time
 
 from live_parts import BUILT, TOLD_AT, Differs, read_report, told, want
-from pipe_devices import ANSWER, HEARTBEAT, OPERATIONAL, Device, Devices
+from pipe_devices import ANSWER, BOOTING, HEARTBEAT, OPERATIONAL, PREOPERATIONAL, Device, Devices
 
 CANBOOT = os.environ.get('CANBOOT') or str(BUILT)
 # how many seconds a run may take, and how long the operator waits for what he expects
@@ -150,6 +150,47 @@ class Slow(Counted):
 
     def later(self, seconds, action):
         super().later(max(seconds, 0.02), action)
+
+
+class SlowProduct(Slow):
+    """One of another product."""
+
+    def restore(self):
+        super().restore()
+        self.objects[0x1018, 2] = ANOTHER
+
+
+class SlowVendor(Slow):
+    """One of another vendor."""
+
+    def restore(self):
+        super().restore()
+        self.objects[0x1018, 1] = ANOTHER
+
+
+def two(first, second):
+    """Two devices with one node-ID, of such kinds: each answer of the second comes five milliseconds behind the first's, and it says
+    nothing by itself."""
+    class Second(second):
+        def later(self, seconds, action):
+            if action not in (self.boot_up, self.beat):
+                super().later(seconds, action)
+
+    class Both(first):
+        def __init__(self, slave, send):
+            self.second = Second(slave, lambda seconds, action: send(seconds + 0.005, action))
+            super().__init__(slave, send)
+
+        def nmt(self, command):
+            super().nmt(command)
+            self.second.nmt(command)
+            # it has no boot-up message to end its reset
+            self.second.state = PREOPERATIONAL if self.second.state == BOOTING else self.second.state
+
+        def sdo(self, data):
+            super().sdo(data)
+            self.second.sdo(data)
+    return Both
 
 
 class Late(Counted):

@@ -12,11 +12,14 @@ use std::collections::VecDeque;
 use std::marker::Brand;
 use std::process::Abort;
 
-/// A port that hears these frames, in order, once a question is asked. So many bytes of their lines were read before. Each
-/// node has booted up at this place.
+/// What a port hears: frames, and `None` where the time of a question is over.
+type Frames = VecDeque<Option<Received<Brand>>>;
+
+/// A port that hears these frames, in order, once a question is asked. So many bytes of their lines were read, at first
+/// before. Each node has booted up at this place.
 #[derive(Drop)]
 struct Written {
-    frames: VecDeque<Received<Brand>>,
+    frames: Frames,
     read: u64,
     booted_up: u64,
 }
@@ -35,12 +38,14 @@ impl Port<Brand> for Written {
     fn send(&mut self, _frame: &CanFrame) {}
 
     fn hear(&mut self) -> Option<Received<Brand>> {
-        self.frames.pop_front()
+        let received = self.frames.pop_front()??;
+        self.read = self.read.max(received.place().saturating_add(1));
+        Some(received)
     }
 }
 
-/// The frames of these lines of can-utils, on a bus of which nothing is known.
-fn frames_in(alloc: Global, text: &[u8]) -> Result<VecDeque<Received<Brand>>, AllocError> {
+/// The frames of these lines of can-utils, on a bus of which nothing is known. A bar in a line is the end of a question's time.
+fn frames_in(alloc: Global, text: &[u8]) -> Result<Frames, AllocError> {
     let mut frames = VecDeque::new(alloc);
     if text.len() > 65_536 {
         return Err(AllocError);
@@ -48,7 +53,10 @@ fn frames_in(alloc: Global, text: &[u8]) -> Result<VecDeque<Received<Brand>>, Al
     let mut cutter = FrameCutter::<Brand>::new(Format::CanUtils);
     for byte in text {
         if let Some(Heard::Frame(received)) = cutter.take(*byte) {
-            frames.push_back(received)?;
+            frames.push_back(Some(received))?;
+        }
+        if *byte == b'|' {
+            frames.push_back(None)?;
         }
     }
     Ok(frames)
@@ -250,10 +258,16 @@ fn a_boot_up_message_from_before_the_boot_ends_nothing(rt: HostRuntime) {
     comes_to(&rt, rt.alloc(), Question::Beat, lines.as_slice(), 0, silent);
 }
 
-/// Node 2 says its device type; another message comes, and then its vendor-ID: to which that question comes.
-fn comes_behind(rt: &impl Abort, alloc: Global, message: &str, outcome: Outcome) {
-    let (first, second) = ("582#4300100092010200", "582#4318100123010000");
-    let lines = lines_of(rt, alloc, &[first, message, second]);
+/// The answers of node 2: its device type, and its vendor-ID.
+const TYPE: &str = "582#4300100092010200";
+
+const VENDOR: &str = "582#4318100123010000";
+
+/// Node 2 says its device type; other frames come, and then its vendor-ID: to which that question comes.
+fn comes_behind(rt: &impl Abort, alloc: Global, others: &[&str], outcome: Outcome) {
+    let mut lines = lines_of(rt, alloc, &[TYPE]);
+    add(rt, &mut lines, lines_of(rt, alloc, others).as_slice());
+    add(rt, &mut lines, lines_of(rt, alloc, &[VENDOR]).as_slice());
     let network = Network::new(alloc, node(rt, 1), Startup(1), 0);
     let frames = frames_in(alloc, lines.as_slice());
     let frames = frames.ok().expect(rt, "memory");
@@ -267,29 +281,103 @@ fn comes_behind(rt: &impl Abort, alloc: Global, message: &str, outcome: Outcome)
     let begun = Outcome {
         answer: Answer::Value(0x20192),
         before: 1,
-        last: Event::Heard(frame_of(rt, first)),
+        last: Event::Heard(frame_of(rt, TYPE)),
     };
     gives(rt, &mut bus, Question::Read(0x1000, 0), begun);
     gives(rt, &mut bus, Question::Read(0x1018, 1), outcome);
 }
 
-#[test]
-fn behind_its_boot_up_message_no_node_is_heard(rt: HostRuntime) {
+/// Node 2 isn't heard behind the last of these frames in the boot that goes on. The others stand in the log.
+fn silences(rt: &impl Abort, alloc: Global, others: &[&str]) {
     let silent = Outcome {
         answer: Answer::Silent,
-        before: 4,
-        last: Event::Sent(frame_of(&rt, "602#8018100100000405")),
+        before: others.len().saturating_add(3),
+        last: Event::Sent(frame_of(rt, "602#8018100100000405")),
     };
-    comes_behind(&rt, rt.alloc(), "702#00", silent);
-    // the toggle bit of node guarding is no part of it
-    comes_behind(&rt, rt.alloc(), "702#80", silent);
-    // that of another node ends no boot
+    comes_behind(rt, alloc, others, silent);
+}
+
+/// Node 2 is heard behind these frames, of which so many stand in the log.
+fn is_heard_behind(rt: &impl Abort, alloc: Global, others: &[&str], logged: usize) {
     let heard = Outcome {
         answer: Answer::Value(0x123),
-        before: 3,
-        last: Event::Heard(frame_of(&rt, "582#4318100123010000")),
+        before: logged.saturating_add(3),
+        last: Event::Heard(frame_of(rt, VENDOR)),
     };
-    comes_behind(&rt, rt.alloc(), "703#00", heard);
+    comes_behind(rt, alloc, others, heard);
+}
+
+/// Node 2 is heard behind these frames, each of which stands in the log.
+fn passes(rt: &impl Abort, alloc: Global, others: &[&str]) {
+    is_heard_behind(rt, alloc, others, others.len());
+}
+
+#[test]
+fn behind_its_boot_up_message_no_node_is_heard(rt: HostRuntime) {
+    silences(&rt, rt.alloc(), &["702#00"]);
+    // the toggle bit of node guarding is no part of it
+    silences(&rt, rt.alloc(), &["702#80"]);
+    // that of another node ends no boot
+    is_heard_behind(&rt, rt.alloc(), &["703#00"], 0);
+}
+
+/// The request for the device type of node 2, and for its vendor-ID.
+const TYPE_REQUEST: &str = "602#4000100000000000";
+
+const VENDOR_REQUEST: &str = "602#4018100100000000";
+
+#[test]
+fn behind_a_contradicting_answer_no_node_is_heard(rt: HostRuntime) {
+    let alloc = rt.alloc();
+    // another device type, one of another size, an abort, an acknowledgement
+    silences(&rt, alloc, &["582#4300100091010200"]);
+    silences(&rt, alloc, &["582#4B00100092010200"]);
+    silences(&rt, alloc, &["582#8000100000000206"]);
+    silences(&rt, alloc, &["582#6000100000000000"]);
+    // behind the next request, and behind an answer of another node
+    silences(&rt, alloc, &[VENDOR_REQUEST, "582#4300100091010200"]);
+    silences(&rt, alloc, &["583#4300100092010200", "582#4300100091010200"]);
+    // behind others that are none: remote, too short
+    silences(&rt, alloc, &["582#R", "602#R", "582#4300100091010200"]);
+}
+
+#[test]
+fn an_answer_that_comes_twice_ends_nothing(rt: HostRuntime) {
+    let alloc = rt.alloc();
+    passes(&rt, alloc, &[TYPE]);
+    passes(&rt, alloc, &[TYPE, TYPE]);
+    // the object was asked for again, or the server said something else
+    passes(&rt, alloc, &[TYPE_REQUEST, "582#4300100091010200"]);
+    passes(&rt, alloc, &["582#0000100000000000", "582#4300100091010200"]);
+    passes(&rt, alloc, &["582#430010009201", "582#4300100091010200"]);
+    // another object, another node, no data frame
+    passes(&rt, alloc, &["582#4301100092010200"]);
+    passes(&rt, alloc, &["582#4300110092010200"]);
+    passes(&rt, alloc, &["582#4300100192010200"]);
+    passes(&rt, alloc, &["583#4300100091010200"]);
+}
+
+#[test]
+fn behind_contradicting_answers_the_next_boot_hears_again(rt: HostRuntime) {
+    let alloc = rt.alloc();
+    let heard = [TYPE, "582#4300100091010200", VENDOR, "|", TYPE, VENDOR];
+    let lines = lines_of(&rt, alloc, &heard);
+    let network = Network::new(alloc, node(&rt, 1), Startup(1), 0);
+    let frames = frames_in(alloc, lines.as_slice());
+    let port = Written {
+        frames: frames.ok().expect(&rt, "memory"),
+        read: 0,
+        booted_up: 0,
+    };
+    let bus = LiveBus::new(alloc, &network, 300, port);
+    let mut bus = bus.ok().expect(&rt, "memory");
+    let two = node(&rt, 2);
+    let (device, vendor) = (Question::Read(0x1000, 0), Question::Read(0x1018, 1));
+    sure(&rt, bus.ask(two, device) == Answer::Value(0x20192));
+    sure(&rt, bus.ask(two, vendor) == Answer::Silent);
+    bus.end_boot();
+    sure(&rt, bus.ask(two, device) == Answer::Value(0x20192));
+    sure(&rt, bus.ask(two, vendor) == Answer::Value(0x123));
 }
 
 /// Whether node 2 has booted up since its boot began, behind 10 bytes that were read, where it did at this place: before the
@@ -362,8 +450,9 @@ fn so_many_other_frames_are_silence(rt: HostRuntime) {
 #[test]
 fn a_late_answer_is_none(rt: HostRuntime) {
     let value = "582#4318100123010000";
-    let late = lines_of(&rt, rt.alloc(), &["582#4318100177770000"]);
-    let lines = lines_of(&rt, rt.alloc(), &["582#4318100177770000", value]);
+    let other = "582#4318100177770000";
+    let late = lines_of(&rt, rt.alloc(), &[other, VENDOR_REQUEST]);
+    let lines = lines_of(&rt, rt.alloc(), &[other, VENDOR_REQUEST, value]);
     let (read, all) = (late.len() as u64, lines.len() as u64);
     let question = Question::Read(0x1018, 1);
     let answered = Outcome {
@@ -372,9 +461,9 @@ fn a_late_answer_is_none(rt: HostRuntime) {
         last: Event::Heard(frame_of(&rt, value)),
     };
     let lines = lines.as_slice();
-    // the first line was read before the request was sent, the second behind it
+    // the first lines were read before the request was sent, the last behind it
     comes_to(&rt, rt.alloc(), question, lines, read, answered);
-    // of the second all but its last byte was read before
+    // of the last all but its last byte was read before
     let but_one = all.saturating_sub(1);
     comes_to(&rt, rt.alloc(), question, lines, but_one, answered);
     // all of it was

@@ -2,7 +2,7 @@
 
 use crate::support::{node, sure};
 use cm_boot::Question;
-use cm_can::{CanFrame, read_frame};
+use cm_can::{CanFrame, Remark, read_frame};
 use cm_live::{
     Format, Happening, Heartbeats, Listening, LivePort, Outlet, Patience, Port, Received, Routes,
     Source,
@@ -90,16 +90,16 @@ fn heartbeats(rt: &impl Abort, alloc: Global) -> Arc<Heartbeats> {
     Arc::new(alloc, heartbeats).ok().expect(rt, "memory")
 }
 
-/// What is received is given to the workers of nodes 2, 3 and 5 in turn.
+/// What is received is given to the workers of nodes 2, 3 and 5 in turn; what is told of it.
 fn give<R: Wait + Clock + Abort>(
     rt: &R,
     alloc: Global,
     listening: Arc<Listening>,
     workers: Vec<Sender<Received<Brand>>>,
     left: &'static [u8],
-) {
+) -> Receiver<Happening> {
     let channel = crossbeam_channel::unbounded::<Happening, _>(alloc);
-    let (happenings, _told) = channel.ok().expect(rt, "a channel");
+    let (happenings, told) = channel.ok().expect(rt, "a channel");
     let routes = Routes {
         start: Instant::now(rt).ok().expect(rt, "a clock"),
         listed: listed(rt, alloc),
@@ -110,6 +110,7 @@ fn give<R: Wait + Clock + Abort>(
     };
     let source = Source::<Brand, Lines>::new(Lines { left }, Format::CanUtils);
     source.receive(rt, &routes);
+    told
 }
 
 /// Each of these workers listens to the answer of its question.
@@ -158,7 +159,7 @@ fn receive<R: Wait + Clock + Clone + Drop + Abort>(
     let (mut second, to_second) = make_port(rt, alloc, &listening, 1);
     listen_each(rt, &mut first, &mut second, asks);
     let workers = both(rt, alloc, to_first, to_second);
-    give(rt, alloc, listening, workers, left);
+    let _told = give(rt, alloc, listening, workers, left);
     (first, second)
 }
 
@@ -228,4 +229,28 @@ fn where_a_node_has_booted_up_is_noted(rt: HostRuntime) {
     sure(&rt, first.last_boot_up(node(&rt, 2)) == 99);
     sure(&rt, second.last_boot_up(node(&rt, 2)) == 99);
     sure(&rt, first.last_boot_up(node(&rt, 5)) == 0);
+}
+
+/// Nodes 2 and 4, of which 4 isn't listed, contradict themselves; node 3 boots up, and says its device type twice.
+const DOUBLED: &[u8] = b"(0.0) can0 582#4300100092010200\n\
+    (0.0) can0 584#4300100092010200\n\
+    (0.0) can0 703#00\n\
+    (0.0) can0 583#4300100092010200\n\
+    (0.0) can0 582#8000100000000206\n\
+    (0.0) can0 584#8000100000000206\n\
+    (0.0) can0 583#4300100092010200\n\
+    (0.0) can0 582#4318100123010000\n";
+
+#[test]
+fn contradicting_answers_of_a_listed_node_are_told(rt: HostRuntime) {
+    let listening = listening_of(&rt, rt.alloc());
+    let told = give(&rt, rt.alloc(), listening, Vec::new(rt.alloc()), DOUBLED);
+    let mut doubled = 0u32;
+    while let Ok(happening) = told.try_recv(&rt) {
+        if let Happening::Said(Remark::Doubled(id)) = happening {
+            sure(&rt, id == node(&rt, 2));
+            doubled = doubled.saturating_add(1);
+        }
+    }
+    sure(&rt, doubled == 1);
 }
