@@ -1,6 +1,6 @@
 //! Answers of one node-ID that contradict each other: two devices have it then.
 ghost use Rattle.std.specs.Prelude.{◌≡◌};
-ghost use Rattle.cm_live.specs.Doubling.{all_kept, answering, begins_answer, contradicts, doubled, is_answer, is_contradiction, is_same_object, kept_by, said_back, said_in};
+ghost use Rattle.cm_live.specs.Doubling.{all_kept, answering, begins_answer, contradicts, doubled, is_contradiction, is_same_object, kept_by, said_back, said_in};
 
 use crate::listening::{FROM_SERVER, node_above};
 use cm_can::{CanFrame, Kind};

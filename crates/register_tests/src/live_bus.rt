@@ -336,7 +336,11 @@ fn behind_a_contradicting_answer_no_node_is_heard(rt: HostRuntime) {
     silences(&rt, alloc, &["582#6000100000000000"]);
     // behind the next request, and behind an answer of another node
     silences(&rt, alloc, &[VENDOR_REQUEST, "582#4300100091010200"]);
-    silences(&rt, alloc, &["583#4300100092010200", "582#4300100091010200"]);
+    silences(
+        &rt,
+        alloc,
+        &["583#4300100092010200", "582#4300100091010200"],
+    );
     // behind others that are none: remote, too short
     silences(&rt, alloc, &["582#R", "602#R", "582#4300100091010200"]);
 }
@@ -348,7 +352,11 @@ fn an_answer_that_comes_twice_ends_nothing(rt: HostRuntime) {
     passes(&rt, alloc, &[TYPE, TYPE]);
     // the object was asked for again, or the server said something else
     passes(&rt, alloc, &[TYPE_REQUEST, "582#4300100091010200"]);
-    passes(&rt, alloc, &["582#0000100000000000", "582#4300100091010200"]);
+    passes(
+        &rt,
+        alloc,
+        &["582#0000100000000000", "582#4300100091010200"],
+    );
     passes(&rt, alloc, &["582#430010009201", "582#4300100091010200"]);
     // another object, another node, no data frame
     passes(&rt, alloc, &["582#4301100092010200"]);
