@@ -200,12 +200,7 @@ impl<'w, 'a, 'n, R: Wait + Clock> Course<'w, 'a, 'n, R> {
     }
 
     /// A worker's attempts at a slave have ended; where a call couldn't be made, the run does.
-    fn end(
-        &mut self,
-        id: NodeId,
-        fault: Option<CallFault>,
-        now: u64,
-    ) -> Result<(), Ending>
+    fn end(&mut self, id: NodeId, fault: Option<CallFault>, now: u64) -> Result<(), Ending>
         requires { now < 2 ^ 63 }
         ensures told { (s : WatchSettings) (past : Past) → Follows self.old.progress self.old.network.now s past
             → IfOk result (λ _. Follows self.new.progress self.old.network.now s ((now, Happened (Ended id)) ∷ past)) }
