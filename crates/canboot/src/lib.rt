@@ -3,41 +3,26 @@
 //! `live_text`, `replay_text`, `mend_text`, `tell_text` and `picture_text`. The program is `canboot_main`.
 #![tactic(auto)]
 
-mod explain;
-mod importing;
-mod json;
-mod live;
-mod picture;
 mod program;
-mod refusing;
-mod replaying;
-mod report;
-mod scan;
-mod shown;
 mod simulated;
-mod tell;
 
-pub use canboot_check::{
-    DONE, FAILED, LONGEST_JOURNAL, LONGEST_LIST, MISUSED, REFUSED, check_text, replay_text,
+pub use canboot_check::{check_as_json, check_text};
+pub use canboot_cli::{
+    Action, CheckOutput, NoAction, ReplayOutput, RunWords, SlaveWords, read_words,
 };
-pub use canboot_run::{
-    JournalOutput, LONGEST_RUN, Options, ReportLines, SlaveFaults, WriteReport, run_text,
-    run_text_as,
-};
-pub use canboot_words::{
-    Action, CheckOutput, NoAction, ReplayOutput, ReportForm, RunWords, SlaveWords, read_words,
-};
-pub use cm_live::Outlet;
-pub use explain::explain_text;
-pub use importing::{ImportWords, LONGEST_DEVICE_FILE, import_text};
-pub use json::{check_as_json, replay_as_json};
-pub use live::{
-    Followed, HostFiles, LONGEST_LIVE, LiveEnds, LiveOptions, NoFiles, ReplaceFile, StatusFile,
-    UntilOver, live_round, live_text,
-};
-pub use picture::picture_text;
+pub use canboot_faults::{DONE, FAILED, MISUSED, REFUSED};
+pub use canboot_import::{ImportWords, LONGEST_DEVICE_FILE, import_text};
+pub use canboot_journals::{LONGEST_JOURNAL, replay_as_json, replay_explained, replay_text};
+pub use canboot_lists::explain_text;
+pub use canboot_live::{Followed, LONGEST_LIVE, LiveEnds, live_text};
+pub use canboot_live_files::{HostFiles, NoFiles, ReplaceFile, StatusFile};
+pub use canboot_picture::picture_text;
+pub use canboot_run::{LONGEST_RUN, Options, SlaveFaults, run_text, run_text_as};
+pub use canboot_scan::{ListForm, ScanEnds, ScanOptions, scan_check, scan_text};
+pub use canboot_tell::tell_text;
+pub use cm_bus::{LiveOptions, Outlet};
+pub use cm_crew::{UntilOver, live_round};
+pub use cm_netlist::LONGEST_LIST;
+pub use cm_recorder::JournalOutput;
+pub use cm_report::{ReportForm, ReportLines, ReportObject, WriteReport};
 pub use program::{run, run_words};
-pub use replaying::replay_explained;
-pub use report::ReportObject;
-pub use scan::{ListForm, ScanEnds, ScanOptions, scan_check, scan_text};
-pub use tell::tell_text;

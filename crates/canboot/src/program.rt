@@ -2,20 +2,18 @@ ghost use Rattle.std.specs.Prelude.{◌≡◌, ◌≤◌, IfOk};
 ghost use Rattle.std.specs.Io.KnownBytes.{Appends};
 ghost use Rattle.canboot.specs.Program.{EndsWithout};
 
-use crate::explain::explain_file;
-use crate::importing::{ImportWords, import_file};
-use crate::json::{check_file_as_json, replay_as_json};
-use crate::live::ReplaceFile;
-use crate::live::told_lines::live_told;
-use crate::picture::picture_text;
-use crate::replaying::replay_explained;
-use crate::scan::files::scan_file;
 use crate::simulated::run_simulated;
-use crate::tell::tell_text;
-use canboot_check::{
-    FAILED, MISUSED, check_file, fault_line, mend_text, output_status, read_fault, replay_text,
-};
-use canboot_words::{Action, CheckOutput, FaultObjects, NoAction, ReplayOutput, read_words};
+use canboot_check::{check_file, check_file_as_json};
+use canboot_cli::{Action, CheckOutput, NoAction, ReplayOutput, read_words};
+use canboot_faults::{FAILED, FaultObjects, MISUSED, fault_line, output_status, read_fault};
+use canboot_import::{ImportWords, import_file};
+use canboot_journals::{mend_text, replay_as_json, replay_explained, replay_text};
+use canboot_lists::explain_file;
+use canboot_live::live_told;
+use canboot_live_files::ReplaceFile;
+use canboot_picture::picture_text;
+use canboot_scan::scan_file;
+use canboot_tell::tell_text;
 use std::alloc::Global;
 use std::env;
 use std::fs::File;
@@ -100,8 +98,8 @@ fn has_no_color<R: Env + AllocGlobal>(rt: &R) -> bool {
 }
 
 /// Runs canboot on these words, of which the first is the program's name, with these streams, and gives its exit status: that of
-/// [`check_file`], [`explain_text`](crate::explain_text), [`import_text`](crate::import_text), [`scan_text`](crate::scan_text),
-/// [`scan_check`](crate::scan_check), [`run_file`](canboot_run::run_file), [`live_text`](crate::live_text), [`replay_text`],
+/// [`check_file`], [`explain_text`](canboot_lists::explain_text), [`import_text`](canboot_import::import_text), [`scan_text`](canboot_scan::scan_text),
+/// [`scan_check`](canboot_scan::scan_check), [`run_network`](canboot_run::run_network), [`live_text`](canboot_live::live_text), [`replay_text`],
 /// [`replay_explained`], [`mend_text`], [`tell_text`] or [`picture_text`], 0 for help and the version, 2 for wrong words, 3 for a file that can't be opened or made. Where `err` is a
 /// terminal, a live run says the time with each line there. Where there is `told`, a live run tells there what it tells, and not on
 /// `err`: a thread of its own writes it, which isn't joined; where nobody takes it, 16,384 lines wait at most, and more are left out

@@ -2,10 +2,15 @@
 
 ghost use Rattle.std.specs.Prelude.{◌≡◌, ◌≤◌, IfErr};
 
-use crate::refusing::RunFaults;
-use crate::report::ReportObject;
-use canboot_run::{Options, ReportLines, SlaveFaults, SlaveOption, run_file, set_fault};
-use canboot_words::{FaultObjects, ReportForm, RunWords, SlaveWords};
+use canboot_cli::{RunWords, SlaveWords};
+use canboot_faults::FaultObjects;
+use canboot_refusing::{read_fault_of, refuse_explained};
+use canboot_run::{
+    NoNetwork, Options, SlaveFaults, SlaveOption, network_of_file, refuse_run, run_network,
+    set_fault,
+};
+use cm_netlist::Network;
+use cm_report::{ReportForm, ReportLines, ReportObject};
 use std::alloc::Global;
 use std::io::Write;
 use std::rt::Files;
@@ -53,8 +58,42 @@ fn faults_of<E: Write>(
     Ok(faults)
 }
 
-/// `canboot run` with these words, in the form that they ask for.
+/// Runs this network in the form that these words ask for.
 fn run_in_form<R: Files + AllocGlobal + Wait + Threads + Send + Sync, W: Write, E: Write>(
+    rt: &R,
+    words: &RunWords<'_>,
+    network: &Network,
+    options: &Options,
+    out: &mut W,
+    err: &mut E,
+) -> u8
+    requires workers { (1 ≤ options.now.workers) × (options.now.workers ≤ 16) }
+    requires attempts { (1 ≤ options.now.attempts) × (options.now.attempts ≤ 10) }
+    ensures statuses { result ≤ 3 }
+{
+    let journal = words.journal;
+    match words.report {
+        ReportForm::Text => run_network(rt, network, options, &ReportLines, journal, out, err),
+        ReportForm::Json => run_network(rt, network, options, &ReportObject, journal, out, err),
+    }
+}
+
+/// Writes why there is no network to run, and where these words ask for it, behind that where the list has its fault, or the path of the
+/// file that can't be opened. The answer is the exit status.
+fn refuse_words<E: Write>(alloc: Global, words: &RunWords<'_>, none: &NoNetwork, err: &mut E) -> u8
+    ensures { result ≤ 3 }
+{
+    match none {
+        NoNetwork::Unopened(kind) if words.is_explained => read_fault_of(err, words.network, *kind),
+        NoNetwork::Faulty { text, fault } if words.is_explained => {
+            refuse_explained(alloc, text.as_slice(), *fault, err)
+        }
+        _ => refuse_run(err, none),
+    }
+}
+
+/// `canboot run` with these words and options.
+fn run_list<R: Files + AllocGlobal + Wait + Threads + Send + Sync, W: Write, E: Write>(
     rt: &R,
     words: &RunWords<'_>,
     options: &Options,
@@ -65,31 +104,9 @@ fn run_in_form<R: Files + AllocGlobal + Wait + Threads + Send + Sync, W: Write, 
     requires attempts { (1 ≤ options.now.attempts) × (options.now.attempts ≤ 10) }
     ensures statuses { result ≤ 3 }
 {
-    let (network, journal) = (words.network, words.journal);
-    let refusing = RunFaults {
-        is_explained: words.is_explained,
-    };
-    match words.report {
-        ReportForm::Text => run_file(
-            rt,
-            network,
-            options,
-            &ReportLines,
-            journal,
-            &refusing,
-            out,
-            err,
-        ),
-        ReportForm::Json => run_file(
-            rt,
-            network,
-            options,
-            &ReportObject,
-            journal,
-            &refusing,
-            out,
-            err,
-        ),
+    match network_of_file(rt, words.network, words.journal) {
+        Ok(network) => run_in_form(rt, words, &network, options, out, err),
+        Err(none) => refuse_words(rt.alloc(), words, &none, err),
     }
 }
 
@@ -111,7 +128,7 @@ pub(crate) fn run_simulated<
                 attempts: words.attempts,
                 faults,
             };
-            run_in_form(rt, words, &options, out, &mut err)
+            run_list(rt, words, &options, out, &mut err)
         }
         Err(status) => status,
     };

@@ -4,7 +4,7 @@
 //!   compares what it prints.
 //! - `canboot_bench memory`: the calls of the word on standard input, which `tests/sweep` refuses memory to.
 //!   Where it was refused for these words, that is said, and nothing called.
-//! - `canboot_bench calls|lock|read|boot|versions N..`: a benchmark, which a script of `bench/` runs.
+//! - `canboot_bench calls|lock|read|versions N..`: a benchmark, which a script of `bench/` runs.
 //!
 //! The status is 1 where an answer isn't allowed, or words say nothing of these.
 #![tactic(auto)]

@@ -1,4 +1,2 @@
 pub mod Check
-pub mod Ended
-pub mod Mend
-pub mod Replay
+pub mod CheckJson

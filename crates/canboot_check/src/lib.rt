@@ -1,19 +1,11 @@
-//! What canboot does with a text and no register: `canboot check`, over the text of a network list,
-//! `canboot replay`, over that of a journal, and `canboot mend`, over that of a torn one, each over a
-//! reader and two writers; the exit statuses of canboot, and its lines of fault.
+//! `canboot check NET`: how many slaves a network list has, in a line or as an object of JSON.
+//!
+//! [`check_text`] and [`check_as_json`] are over a reader and two writers, [`check_file`] and [`check_file_as_json`] over the file of a path. It
+//! stands on the reading of network lists, and on what tells their faults.
 #![tactic(auto)]
 
 mod check;
-mod mend;
-mod program;
-mod replay;
-mod status;
+mod check_json;
 
-pub use check::{
-    CheckFault, LONGEST_LIST, check_text, count_kept, count_mandatory, list_of, put_check,
-    read_list, refuse,
-};
-pub use mend::{mend_text, mends_one, mends_torn};
-pub use program::{check_file, read_fault, run, run_words};
-pub use replay::{LONGEST_JOURNAL, refuse_journal, replay_text};
-pub use status::{DONE, FAILED, MISUSED, REFUSED, fault_line, input_fault_line, output_status};
+pub use check::{check_file, check_text, count_kept, count_mandatory, put_check};
+pub use check_json::{check_as_json, check_file_as_json};

@@ -6,5 +6,7 @@
 use std::process::ExitCode;
 
 fn main(rt: HostRuntime) -> ExitCode {
-    ExitCode::from(canboot_check::run(&rt, &mut rt.stderr()))
+    ExitCode::from(crate::program::run(&rt, &mut rt.stderr()))
 }
+
+mod program;

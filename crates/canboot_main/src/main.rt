@@ -10,7 +10,7 @@
 //! - `tell` tells a journal in words, and `picture` draws it.
 #![tactic(auto)]
 
-use canboot::HostFiles;
+use canboot_live_files::HostFiles;
 use std::process::ExitCode;
 
 fn main(rt: HostRuntime) -> ExitCode {

@@ -1,9 +1,5 @@
-pub mod Seats
 pub mod Buses
 pub mod Simulated
-pub mod Beginnings
 pub mod RunTexts
 pub mod SlaveFolds
-pub mod SlaveNumbers
-pub mod SlaveLists
 pub mod SlavesGiven

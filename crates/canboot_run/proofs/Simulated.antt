@@ -12,16 +12,17 @@ use Rattle.cm_netlist.specs.Network.{Network, listed_ids}
 use Rattle.cm_run.specs.Running.{AllBooted, id_of}
 use Rattle.cm_run.specs.Shares.{share, share_from}
 use Rattle.cm_run.specs.declared.workers.Booted.{Booted}
-use Rattle.cm_seat.specs.Handing.{HaveTheirCalls}
-use Rattle.cm_seat.specs.Opening.{fresh_seat, fresh_seats}
-use Rattle.cm_seat.specs.SeatCalls.{calls_of, made}
-use Rattle.cm_seat.specs.Views.{SeatView}
-use Rattle.cm_seat.specs.declared.made.Made.{Made}
+use Rattle.cm_register.specs.Handing.{HaveTheirCalls}
+use Rattle.cm_register.specs.SeatOpening.{fresh_seat, fresh_seats}
+use Rattle.cm_register.specs.SeatCalls.{calls_of, made}
+use Rattle.cm_register.specs.SeatViews.{SeatView}
+use Rattle.cm_register.specs.declared.made.Made.{Made}
 use Rattle.cm_run.specs.Buses.{Steps}
 use Rattle.cm_run.specs.declared.bus.SimBus.{SimBus}
 use Rattle.cm_run.specs.Operating.{with_receipts}
 use Rattle.cm_run.specs.declared.outcome.Outcome.{Outcome}
-use Rattle.canboot_run.specs.Simulated.{AreBusesOf, AreMade, BootsSlaves, HasEnded, HasRun, HasStarted, HaveBooted, HaveWorkedOver, IsOperated, IsSimulated, calls_behind}
+use Rattle.canboot_run.specs.Simulated.{AreBusesOf, AreMade, BootsSlaves, HasEnded, HasRun, HaveBooted, HaveWorkedOver, IsOperated, IsSimulated, calls_behind}
+use Rattle.cm_run.specs.Started.{HasStarted}
 use Rattle.canboot_run.specs.declared.slave_faults.SlaveFaults.{SlaveFaults}
 
 -- ---- what holds of all outcomes holds of a worker's

@@ -1,15 +1,12 @@
 -- A slave with its faults, one fault more.
-use Rattle.std.proofs.Common.{◌≡◌, ℕ, suc, ◌+◌, ◌<◌, ◌≤◌, List, ◌∷◌, length, get_or, drop, drop-cons, sym, ap, ◌∙◌, add-one}
+use Rattle.std.proofs.Common.{◌≡◌, ℕ, ◌+◌, ◌<◌, ◌≤◌, List, length, get_or, drop, sym, ap, ◌∙◌}
 use Rattle.std.proofs.lemmas.List.{drop_all}
 use Rattle.cm_nmt.specs.declared.write.Write.{Write}
 use Rattle.cm_run.specs.declared.slave.SimSlave.{SimSlave}
+use Rattle.cm_typed.proofs.Folds.{drop_more}
 use Rattle.canboot_run.specs.SlaveFaults.{aborting, aborting_by, wrong_by, wrong_with}
 use Rattle.canboot_run.specs.declared.slave_faults.AbortedObject.{AbortedObject}
 use Rattle.canboot_run.specs.declared.slave_faults.WrongValue.{WrongValue}
-
--- what is left begins with the item at the place
-pub drop_more : {X : Type 0} (xs : List X) (k : ℕ) (x : X) → k < length xs → x ≡ get_or xs k x → drop k xs ≡ x ∷ drop (k + 1) xs
-drop_more xs k x lt is = rw add-one (drop-cons xs k x lt ∙ ap (λ y. y ∷ drop (suc k) xs) (sym is))
 
 module _ (ws : List WrongValue) (k i : ℕ) (s : SimSlave) where
   pub wrong_more : (s' all : SimSlave) (w : WrongValue) → k < length ws → w ≡ get_or ws k w → s' ≡ wrong_by w i s → wrong_with (drop k ws) i s ≡ all

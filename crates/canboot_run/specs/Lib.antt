@@ -1,9 +1,5 @@
-pub mod Causes
 pub mod SlaveFaults
 pub mod SlaveWords
 pub mod Simulated
 pub mod Run
-pub mod Files
-pub mod Recorded
-pub mod Words
-pub use Rattle.canboot_check.specs.Check
+pub use Rattle.cm_netlist.specs.ListsRead

@@ -1,26 +1,17 @@
 -- What the run of a network list with simulated slaves does.
-use Rattle.std.specs.Prelude.{◌≡◌, ◌⊎◌, ◌+◌, ℕ, List, Option, false}
+use Rattle.std.specs.Prelude.{◌≡◌, ◌⊎◌, ◌+◌, ℕ, List, Option}
 use Rattle.std.specs.Io.KnownBytes.{Appends}
-use Rattle.cm_nmt.specs.Bits.{has_bit}
 use Rattle.cm_history.specs.declared.call.Entry.{Entry}
 use Rattle.cm_netlist.specs.Network.{Network}
 use Rattle.cm_format.specs.Text.{JournalView, text}
 use Rattle.cm_format.specs.declared.version.Version.TheVariants.{Two}
 use Rattle.cm_format.specs.Journals.{IsJournal}
-pub use Rattle.canboot_run.specs.Recorded.{AppendsIfThere}
-use Rattle.canboot_check.specs.Check.{IsFaultyText, IsList}
+use Rattle.cm_format.specs.Runs.{IsRun}
+pub use Rattle.cm_text.specs.Fronts.{AppendsIfThere}
+use Rattle.cm_netlist.specs.ListsRead.{IsList}
 use Rattle.canboot_run.specs.Simulated.{IsSimulated}
 use Rattle.canboot_run.specs.SlaveFaults.{AreListed, IsFirstUnlisted}
 use Rattle.canboot_run.specs.declared.slave_faults.SlaveFaults.{SlaveFaults}
-
--- the input was read to its end and is the network list of this journal, which is of version 2, whose entries are legal,
--- and which has a seat for each of this many workers and one more, and this limit
-pub record IsRun (workers limit : ℕ) (input input' : Option (List ℕ)) (j : JournalView) : Type 0 where
-  pub list : IsList input input' j.network
-  pub version : j.version ≡ Two
-  pub journal : IsJournal j
-  pub seats : j.seats ≡ workers + 1
-  pub most : j.limit ≡ limit
 
 -- the input was read to its end and is a network list, in which each slave that is to die, to be wrong or to abort is listed; of the
 -- legal history of a journal of it, which is that of a run with simulated slaves, just the report was written, in the form that has
@@ -33,21 +24,6 @@ pub record Runs (report : Network → List Entry → List ℕ) (workers attempts
   pub simulated : IsSimulated of.network workers attempts faults of.entries
   pub reported : Appends output output' (report of.network of.entries)
   pub recorded : AppendsIfThere journal journal' (text of)
-
--- the device isn't the NMT master: 1F80h bit 0 is clear (CiA 302-2)
-abbrev pub IsNoMaster : Network → Type 0
-IsNoMaster net = has_bit net.startup 0 ≡ false
-
--- the input was read to its end and is a network list of which the device isn't the NMT master
-abbrev pub IsOfNoMaster : Option (List ℕ) → Option (List ℕ) → Type 0
-IsOfNoMaster input input' = (net : Network) × IsList input input' net × IsNoMaster net
-
--- the input was read to its end and has a fault, or is a network list of which the device isn't the NMT master; nothing
--- was written
-pub record RefusesRun (input input' output output' : Option (List ℕ)) (journal journal' : Option (Option (List ℕ))) : Type 0 where
-  pub cause : IsFaultyText input input' ⊎ IsOfNoMaster input input'
-  pub kept : output' ≡ output
-  pub unwritten : journal' ≡ journal
 
 -- the input was read to its end and is a network list in which a slave that is to die, to be wrong or to abort isn't listed;
 -- nothing was written

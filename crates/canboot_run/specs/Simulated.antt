@@ -1,6 +1,6 @@
 -- What a run with simulated slaves does, over its history (own).
 use Rattle.std.specs.Prelude.{◌≡◌, ◌+◌, ◌<◌, ◌==◌, ◌||◌, ◌&&◌, ◌++◌, ℕ, Bool, false, List, [], ◌∷◌, filter, length, map, All}
-use Rattle.std.specs.Prelude.{None, Result, Ok, Err, if◌then◌else◌, option_map, slice_index_or}
+use Rattle.std.specs.Prelude.{None, if◌then◌else◌, option_map, slice_index_or}
 use Rattle.cm_nmt.specs.Status.{is_good}
 use Rattle.cm_netlist.specs.Network.{Network, listed_ids}
 use Rattle.cm_history.specs.NodeSets.{has}
@@ -8,11 +8,10 @@ use Rattle.cm_history.specs.declared.call.Call.{Call}
 use Rattle.cm_history.specs.declared.call.Call.TheVariants as call
 use Rattle.cm_history.specs.declared.call.Entry.{Entry}
 use Rattle.cm_history.specs.declared.call.Reply.TheVariants as reply
-use Rattle.cm_seat.specs.SeatCalls.{calls_of, made}
-use Rattle.cm_seat.specs.Views.{SeatView}
-use Rattle.cm_seat.specs.declared.fault.CallFault.{CallFault}
-use Rattle.cm_seat.specs.declared.made.Made.{Made}
-use Rattle.cm_seat.specs.declared.made.Receipt.{Receipt}
+use Rattle.cm_register.specs.SeatCalls.{calls_of, made}
+use Rattle.cm_register.specs.SeatViews.{SeatView}
+use Rattle.cm_register.specs.declared.made.Made.{Made}
+use Rattle.cm_register.specs.declared.made.Receipt.{Receipt}
 use Rattle.cm_run.specs.Buses.{Steps, put_on, slave_at}
 use Rattle.cm_run.specs.Operating.{with_receipts}
 use Rattle.cm_run.specs.declared.bus.SimBus.{SimBus}
@@ -101,17 +100,6 @@ pub record IsSimulated (net : Network) (w attempts : ℕ) (faults : SlaveFaults)
   pub worked : (k : ℕ) → k < w → HasWorked net w attempts faults outcomes entries k
 
 -- Working definitions, behind the contract of `run_text`.
-
--- the seat started the network
-pub record HasStarted (old new : SeatView) : Type 0 where
-  pub number : new.number ≡ old.number
-  pub place : ℕ
-  pub list : new.list ≡ old.list ++ made place call.StartNetwork reply.Started ∷ []
-
--- the call was made by which the network is started, and it is
-abbrev pub IsStarted : Result Receipt CallFault → Type 0
-IsStarted (Ok receipt) = receipt.reply ≡ reply.Started
-IsStarted (Err fault) = ⊥
 
 -- the seat made the operator's calls behind the boots
 pub record HasEnded (faults : SlaveFaults) (outcomes : List Outcome) (old new : SeatView) : Type 0 where

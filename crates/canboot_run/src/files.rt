@@ -1,85 +1,97 @@
 //! The files of a run: its network list, and the one that its journal is written to.
 
-ghost use Rattle.std.specs.Prelude.{◌≡◌, ◌≤◌, IfErr, IfOk, None, false, is_some, true};
-ghost use Rattle.canboot_run.specs.Files.{is_same_file};
+ghost use Rattle.std.specs.Prelude.{◌≡◌, ◌≤◌, IfOk, None, false, is_some, true};
 
-use crate::refusing::RefuseList;
 use crate::running::{run_listed, unlisted_line};
 use crate::simulation::Options;
-use crate::write_report::WriteReport;
-use canboot_check::{
-    CheckFault, FAILED, LONGEST_LIST, MISUSED, fault_line, input_fault_line, list_of,
+use canboot_faults::{
+    MISUSED, fault_line, input_fault_line, is_list, read_fault, refuse, write_fault,
 };
-use cm_netlist::Network;
-use cm_text::read_input;
+use cm_netlist::{CheckFault, LONGEST_LIST, Network, list_of};
+use cm_report::WriteReport;
+use cm_text::{InputFault, read_input};
 use std::fs;
-use std::io::{self, BufWriter, Write};
-use std::os::unix::fs::MetadataExt;
+use std::io::{self, BufWriter, ErrorKind, Write};
 use std::rt::Files;
 use std::sync::Wait;
 use std::thread::Threads;
 
-/// `canboot run`, over the file of this path, as [`run_text_as`](crate::run_text_as) does: 2 also where the journal's file would be the
-/// list itself, and nothing is done then, 3 for a file that can't be opened or made. The journal's file, if there is one, is made
-/// once the list is read, behind the look whether the slaves with faults are listed, and also where the list has a fault. A list with a
-/// fault, and one whose file can't be opened, is refused in the form of `refusing`.
-pub fn run_file<
-    R: Files + AllocGlobal + Wait + Threads + Send + Sync,
-    P: WriteReport,
-    F: RefuseList,
-    W: Write,
-    E: Write,
->(
-    rt: &R,
-    path: &str,
-    options: &Options,
-    report: &P,
-    journal: Option<&str>,
-    refusing: &F,
-    out: &mut W,
-    err: &mut E,
-) -> u8
-    requires workers { (1 ≤ options.now.workers) × (options.now.workers ≤ 16) }
-    requires attempts { (1 ≤ options.now.attempts) × (options.now.attempts ≤ 10) }
-    ensures statuses { result ≤ 3 }
+/// Why a run has no network.
+#[derive(Drop)]
+pub enum NoNetwork {
+    /// The list's file can't be opened, for this reason.
+    Unopened(ErrorKind),
+    /// The journal's file would be the list itself.
+    JournalIsList,
+    /// The list's file wasn't read to its end.
+    Unread(InputFault),
+    /// The journal's file can't be made, for this reason.
+    Unmade(ErrorKind),
+    /// The list has a fault, or there was no memory for its network.
+    Faulty {
+        /// The bytes of the list.
+        text: Vec<u8>,
+        /// What is wrong.
+        fault: CheckFault,
+    },
+}
+
+/// Writes in one line why a run has no network, and gives its exit status: 2 where the journal's file would be the list itself, 1 for a
+/// fault of the list, 3 for any other.
+pub fn refuse_run<E: Write>(err: &mut E, none: &NoNetwork) -> u8
+    ensures { result ≤ 3 }
 {
-    let text = match list_text(rt, path, journal, refusing, err) {
-        Ok(text) => text,
-        Err(status) => return status,
-    };
-    match list_of(rt.alloc(), text.as_slice()) {
-        Ok(network) => run_network(rt, &network, options, report, journal, out, err),
-        Err(fault) => refuse_list(rt, text.as_slice(), fault, journal, refusing, err),
+    match none {
+        NoNetwork::Unopened(kind) => read_fault(err, *kind),
+        NoNetwork::JournalIsList => {
+            let said = "the file of the journal is the network list";
+            fault_line(err, MISUSED, said)
+        }
+        NoNetwork::Unread(fault) => input_fault_line(err, *fault),
+        NoNetwork::Unmade(kind) => write_fault(err, *kind),
+        NoNetwork::Faulty { fault, .. } => refuse(err, *fault),
     }
 }
 
-/// The bytes of the file of this path, unless the journal's file would be the list itself. What can't be read is written, and
-/// is the exit status.
-fn list_text<R: Files + AllocGlobal, F: RefuseList, E: Write>(
+/// The network of the list in the file of this path, for a run whose journal goes to that file, if it goes to one. Nothing is done where
+/// the journal's file would be the list itself; where the list has a fault, the journal's file is made.
+pub fn network_of_file<R: Files + AllocGlobal>(
     rt: &R,
     path: &str,
     journal: Option<&str>,
-    refusing: &F,
-    err: &mut E,
-) -> Result<Vec<u8>, u8>
-    ensures { IfErr result (λ status. status ≤ 3) }
-{
+) -> Result<Network, NoNetwork> {
+    let text = list_text(rt, path, journal)?;
+    match list_of(rt.alloc(), text.as_slice()) {
+        Ok(network) => Ok(network),
+        Err(fault) => match make(rt, journal) {
+            Ok(_) => Err(NoNetwork::Faulty { text, fault }),
+            Err(error) => Err(NoNetwork::Unmade(error.kind())),
+        },
+    }
+}
+
+/// The bytes of the file of this path, unless the journal's file would be the list itself.
+fn list_text<R: Files + AllocGlobal>(
+    rt: &R,
+    path: &str,
+    journal: Option<&str>,
+) -> Result<Vec<u8>, NoNetwork> {
     let mut list = match fs::open(rt, path) {
         Ok(file) => file,
-        Err(error) => return Err(refusing.refuse_file(path, error.kind(), err)),
+        Err(error) => return Err(NoNetwork::Unopened(error.kind())),
     };
     if is_list(rt, path, journal) {
-        let said = "the file of the journal is the network list";
-        return Err(fault_line(err, MISUSED, said));
+        return Err(NoNetwork::JournalIsList);
     }
     match read_input(rt.alloc(), &mut list, LONGEST_LIST) {
         Ok(text) => Ok(text),
-        Err(fault) => Err(input_fault_line(err, fault)),
+        Err(fault) => Err(NoNetwork::Unread(fault)),
     }
 }
 
-/// Runs a network that was read; its journal's file is made, if there is one, where each slave with faults is listed.
-fn run_network<
+/// `canboot run`, over the network of a list that was read, as [`run_text_as`](crate::run_text_as) does: 3 also for a journal's file that
+/// can't be made. That file, if there is one, is made behind the look whether the slaves with faults are listed.
+pub fn run_network<
     R: Files + AllocGlobal + Wait + Threads + Send + Sync,
     P: WriteReport,
     W: Write,
@@ -115,57 +127,6 @@ fn run_network<
     }
 }
 
-/// Refuses a list that was read, once the journal's file is made, if there is one.
-fn refuse_list<R: Files + AllocGlobal, F: RefuseList, E: Write>(
-    rt: &R,
-    text: &[u8],
-    fault: CheckFault,
-    journal: Option<&str>,
-    refusing: &F,
-    err: &mut E,
-) -> u8
-    ensures { result ≤ 3 }
-{
-    match make(rt, journal) {
-        Ok(_) => refusing.refuse(rt.alloc(), text, fault, err),
-        Err(error) => write_fault(err, error.kind()),
-    }
-}
-
-/// What tells a file from any other: the device that it is on, and its number there.
-#[derive(Clone, Copy, PartialEq, Eq)]
-struct FileId {
-    device: u64,
-    number: u64,
-}
-
-/// The file at this path, as the system answers; none where it can't be asked.
-fn file_at<R: Files>(rt: &R, path: &str) -> Option<FileId> {
-    let found = fs::metadata(rt, path).ok()?;
-    Some(FileId {
-        device: found.dev(),
-        number: found.ino(),
-    })
-}
-
-/// Whether both are files, and the same.
-fn is_same_file(here: Option<FileId>, there: Option<FileId>) -> bool
-    ensures { result ≡ is_same_file here there }
-{
-    match (here, there) {
-        (Some(here), Some(there)) => here == there,
-        _ => false,
-    }
-}
-
-/// Whether the file that is to be written is the network list itself, by the same path or by another.
-pub fn is_list<R: Files>(rt: &R, list: &str, written: Option<&str>) -> bool {
-    match written {
-        Some(written) => is_same_file(file_at(rt, list), file_at(rt, written)),
-        None => false,
-    }
-}
-
 /// Makes the file of this path, if there is one.
 fn make<R: Files + AllocGlobal>(
     rt: &R,
@@ -180,15 +141,5 @@ fn make<R: Files + AllocGlobal>(
             Ok(Some(BufWriter::new(rt.alloc(), file)?))
         }
         None => Ok(None),
-    }
-}
-
-/// The fault of a file that can't be made.
-pub fn write_fault<E: Write>(err: &mut E, kind: io::ErrorKind) -> u8
-    ensures { result ≡ 3 }
-{
-    match kind {
-        io::ErrorKind::OutOfMemory => fault_line(err, FAILED, "out of memory"),
-        _ => fault_line(err, FAILED, "write failed"),
     }
 }

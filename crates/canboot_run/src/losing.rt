@@ -3,11 +3,10 @@
 ghost use Rattle.std.specs.Prelude.{◌≡◌, ◌∷◌, Err, IfOk, OnOk};
 ghost use Rattle.canboot_run.specs.Simulated.{HasEnded, calls_behind, is_booted, is_lost};
 
-use crate::recording::{NoHistory, not_called};
 use crate::slave_faults::SlaveFaults;
 use cm_history::Call;
 use cm_register::{RunName, Seat, SharedManager};
-use cm_run::{Last, Outcome, operate};
+use cm_run::{Last, NoHistory, Outcome, not_called, operate};
 use std::alloc::{AllocError, Global};
 use std::sync::Wait;
 

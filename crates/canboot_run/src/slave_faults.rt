@@ -208,7 +208,7 @@ impl SlaveFaults {
     }
 
     /// The slave of this node; none where the node is silent or isn't listed.
-    pub(crate) fn slave_of(&self, network: &Network, id: NodeId) -> Option<SimSlave>
+    pub fn slave_of(&self, network: &Network, id: NodeId) -> Option<SimSlave>
         ensures { result ≡ slave_given network.now self.now id }
     {
         if self.silent.contains(id) {

@@ -2,11 +2,13 @@
 
 ghost use Rattle.std.specs.Prelude.{◌≡◌, ◌⊎◌, Err, IfErr, None, OnErr, OnOk, false, is_some, true};
 ghost use Rattle.canboot_run.specs.SlaveWords.{AreDying, AreSilent, IsAborted, IsAsBefore, IsSaid, IsWrong};
-ghost use Rattle.canboot_run.specs.SlaveWords.{aborted_in, is_node_list, says, wrong_in};
+ghost use Rattle.canboot_run.specs.SlaveWords.{aborted_in, says, wrong_in};
+ghost use Rattle.cm_typed.specs.NodeLists.{is_node_list};
 
 use crate::slave_faults::SlaveFaults;
-use crate::slave_words::{aborted_in, with_nodes, wrong_in};
-use canboot_check::{FAILED, MISUSED, fault_line};
+use crate::slave_words::{aborted_in, wrong_in};
+use canboot_faults::{FAILED, MISUSED, fault_line};
+use cm_typed::with_nodes;
 use std::io::Write;
 
 /// An option that says what slaves do.

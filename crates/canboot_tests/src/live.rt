@@ -1,15 +1,15 @@
-//! A bus in memory for live runs: what is written is answered by devices, and what an operator types comes once all
-//! slaves were started.
+//! Live runs over a bus in memory, in many threads: what is written is answered by devices, and what an operator types comes
+//! once all slaves were started.
 
 ghost use Rattle.std.specs.Prelude.{◌≡◌, ◌≤◌, length};
 
-use crate::runs::full_list;
-use canboot::{
-    Followed, JournalOutput, LiveEnds, LiveOptions, NoFiles, Outlet, ReportForm, live_text,
-    replay_text,
-};
-use cm_can::{CanFrame, Kind, read_log_line};
-use cm_live::Format;
+use canboot_journals::replay_text;
+use canboot_live::{Followed, LiveEnds, live_text};
+use canboot_live_files::NoFiles;
+use cm_bus::{LiveOptions, Outlet};
+use cm_can::{CanFrame, Format, Kind, read_log_line};
+use cm_recorder::JournalOutput;
+use cm_report::ReportForm;
 use crossbeam_channel::{Receiver, Sender};
 use std::alloc::{AllocError, Global};
 use std::io::{self, ErrorKind, Read, Write};
@@ -19,24 +19,29 @@ use std::test::Fail;
 use std::thread::Threads;
 use std::time::Clock;
 
-/// What the devices tell: a text of frames, or that a node was started.
-#[derive(Drop)]
-pub(crate) enum Heard {
-    Text(Vec<u8>),
-    End,
+/// How many lines a writer takes that doesn't fail.
+const ALL: u32 = 100_000;
+
+/// A list of 126 mandatory slaves.
+pub(crate) fn full_list(alloc: Global) -> Result<Vec<u8>, Fail> {
+    let mut list: Vec<u8> = Vec::new(alloc);
+    writeln!(list, "own = 127\nstartup = 1")?;
+    for id in 1..127 {
+        writeln!(list, "[[slave]]\nid = {id}\nassignment = 13")?;
+    }
+    Ok(list)
 }
 
 /// A writer behind which devices of all nodes listen: each request is answered at once, by a device that agrees with
-/// the list, and each reset of all by boot-up messages. After so many writes it fails, and may end what is heard.
+/// the list, and each reset of all by boot-up messages. After so many lines it fails.
 #[derive(Drop)]
-pub(crate) struct Devices<R: Wait + Drop> {
+struct Devices<R: Wait + Drop> {
     rt: R,
     alloc: Global,
     line: Vec<u8>,
-    answers: Sender<Heard>,
+    answers: Sender<Vec<u8>>,
     starts: Sender<u8>,
     left: u32,
-    ends_all: bool,
 }
 
 /// The answer to a request of node n: an upload gives 00020192h.
@@ -69,13 +74,13 @@ impl<R: Wait + Drop> Devices<R> {
     fn take(&mut self, frame: &CanFrame) -> io::Result<()> {
         if frame.id.number != 0 {
             let text = answer_to(self.alloc, frame)?;
-            let _ = self.answers.send(&self.rt, Heard::Text(text));
+            let _ = self.answers.send(&self.rt, text);
             return Ok(());
         }
         match frame.bytes[0] {
             0x82 => {
                 let text = boot_ups(self.alloc)?;
-                let _ = self.answers.send(&self.rt, Heard::Text(text));
+                let _ = self.answers.send(&self.rt, text);
             }
             0x01 => {
                 let _ = self.starts.send(&self.rt, frame.bytes[1]);
@@ -89,9 +94,6 @@ impl<R: Wait + Drop> Devices<R> {
 impl<R: Wait + Drop> Write for Devices<R> {
     fn write(&mut self, buf: &[u8]) -> io::Result<usize> {
         if self.left == 0 {
-            if self.ends_all {
-                let _ = self.answers.send(&self.rt, Heard::End);
-            }
             return Err(io::Error::from(ErrorKind::BrokenPipe));
         }
         self.line.extend_from_slice(buf)?;
@@ -114,13 +116,11 @@ impl<R: Wait + Drop> Write for Devices<R> {
 
 /// A reader of what the devices answer.
 #[derive(Drop)]
-pub(crate) struct Answered<R: Wait + Drop> {
+struct Answered<R: Wait + Drop> {
     rt: R,
-    answers: Receiver<Heard>,
+    answers: Receiver<Vec<u8>>,
     text: Vec<u8>,
     at: usize,
-    /// How many texts are given before the end.
-    left: u32,
 }
 
 /// Copies as many bytes as there are and fit. The answer is their number.
@@ -144,16 +144,12 @@ impl<R: Wait + Drop> Answered<R> {
             if self.at < self.text.len() {
                 return true;
             }
-            if self.left == 0 {
-                return false;
-            }
-            self.left = self.left.saturating_sub(1);
             match self.answers.recv(&self.rt) {
-                Ok(Heard::Text(text)) => {
+                Ok(text) => {
                     self.text = text;
                     self.at = 0;
                 }
-                Ok(Heard::End) | Err(_) => return false,
+                Err(_) => return false,
             }
         }
         false
@@ -173,7 +169,7 @@ impl<R: Wait + Drop> Read for Answered<R> {
 
 /// What an operator types once so many slaves were started.
 #[derive(Drop)]
-pub(crate) struct Typing<R: Wait + Drop> {
+struct Typing<R: Wait + Drop> {
     rt: R,
     starts: Receiver<u8>,
     wanted: u32,
@@ -199,9 +195,9 @@ impl<R: Wait + Drop> Read for Typing<R> {
     }
 }
 
-/// The writers of a bus, one for each of four workers and one for messages, what is heard of it, and who types.
+/// The ends of a bus, with a writer for each of four workers, and the one for NMT messages.
 #[derive(Drop)]
-pub(crate) struct Bus<R: Wait + Drop> {
+struct Bus<R: Wait + Drop> {
     ends: LiveEnds<Answered<R>, Typing<R>, Devices<R>, Vec<u8>, NoFiles>,
     messages: Outlet<Devices<R>>,
 }
@@ -210,22 +206,17 @@ pub(crate) struct Bus<R: Wait + Drop> {
 fn make_devices<R: Wait + Clone + Drop>(
     rt: &R,
     alloc: Global,
-    answers: &Sender<Heard>,
+    answers: &Sender<Vec<u8>>,
     starts: &Sender<u8>,
     left: u32,
-    ends_all: bool,
 ) -> Result<Devices<R>, AllocError> {
-    let rt = rt.clone()?;
-    let answers = answers.clone()?;
-    let starts = starts.clone()?;
     Ok(Devices {
-        rt,
+        rt: rt.clone()?,
         alloc,
         line: Vec::new(alloc),
-        answers,
-        starts,
+        answers: answers.clone()?,
+        starts: starts.clone()?,
         left,
-        ends_all,
     })
 }
 
@@ -233,56 +224,35 @@ fn make_devices<R: Wait + Clone + Drop>(
 fn writers<R: Wait + Clone + Drop>(
     rt: &R,
     alloc: Global,
-    answers: &Sender<Heard>,
+    answers: &Sender<Vec<u8>>,
     starts: &Sender<u8>,
-    left: u32,
 ) -> Result<Vec<Devices<R>>, Fail> {
     let mut written = Vec::new(alloc);
     for _writer in 0..4u8 {
-        written.push(make_devices(rt, alloc, answers, starts, left, true)?)?;
+        written.push(make_devices(rt, alloc, answers, starts, ALL)?)?;
     }
     Ok(written)
 }
 
-/// A reader of at most so many texts.
-fn reader<R: Wait + Clone + Drop>(
-    rt: &R,
-    alloc: Global,
-    answers: Receiver<Heard>,
-    left: u32,
-) -> Result<Answered<R>, AllocError> {
-    Ok(Answered {
-        rt: rt.clone()?,
-        answers,
-        text: Vec::new(alloc),
-        at: 0,
-        left,
-    })
-}
-
-/// How many lines each writer of a worker takes, and that of the messages, and how many texts are heard, at most.
-#[derive(Clone, Copy)]
-pub(crate) struct Most {
-    pub(crate) written: u32,
-    pub(crate) messages: u32,
-    pub(crate) heard: u32,
-}
-
-/// A bus with an operator who types this text once so many slaves were started. Where a worker's line isn't written,
-/// nothing more is heard; where a message isn't, the bus goes on.
-pub(crate) fn bus_of<R: Wait + Clone + Drop>(
+/// A bus that takes so many NMT messages, with an operator who types this text once so many slaves were started.
+fn bus_of<R: Wait + Clone + Drop>(
     rt: &R,
     alloc: Global,
     wanted: u32,
     text: &'static [u8],
-    most: Most,
+    most: u32,
 ) -> Result<Bus<R>, Fail> {
     let (answers, heard) = crossbeam_channel::unbounded(alloc)?;
     let (starts, started) = crossbeam_channel::unbounded(alloc)?;
-    let written = writers(rt, alloc, &answers, &starts, most.written)?;
-    let error_control = make_devices(rt, alloc, &answers, &starts, most.messages, false)?;
-    let sent = make_devices(rt, alloc, &answers, &starts, most.messages, false)?;
-    let received = reader(rt, alloc, heard, most.heard)?;
+    let written = writers(rt, alloc, &answers, &starts)?;
+    let error_control = make_devices(rt, alloc, &answers, &starts, ALL)?;
+    let sent = make_devices(rt, alloc, &answers, &starts, most)?;
+    let received = Answered {
+        rt: rt.clone()?,
+        answers: heard,
+        text: Vec::new(alloc),
+        at: 0,
+    };
     let typed = Typing {
         rt: rt.clone()?,
         starts: started,
@@ -316,16 +286,15 @@ fn four_workers() -> LiveOptions
         heartbeat_ms: 0,
         seconds: Some(0),
         format: Format::CanUtils,
-        report: ReportForm::Text,
     }
 }
 
 /// What a run printed.
 #[derive(Drop)]
-pub(crate) struct Printed {
-    pub(crate) status: u8,
-    pub(crate) out: Vec<u8>,
-    pub(crate) err: Vec<u8>,
+struct Printed {
+    status: u8,
+    out: Vec<u8>,
+    err: Vec<u8>,
 }
 
 /// Asserts that a journal is one whose report is this.
@@ -339,7 +308,7 @@ fn has_report(rt: &impl Abort, alloc: Global, journal: &[u8], wanted: &[u8]) {
 }
 
 /// Boots 126 slaves over a bus in memory, and asserts that the journal is one whose report is the one that was written.
-pub(crate) fn lives<R: Wait + Threads + Clock + Clone + Abort + Send + Sync + Drop + 'static>(
+fn lives<R: Wait + Threads + Clock + Clone + Abort + Send + Sync + Drop + 'static>(
     rt: &R,
     alloc: Global,
     bus: Bus<R>,
@@ -357,6 +326,7 @@ pub(crate) fn lives<R: Wait + Threads + Clock + Clone + Abort + Send + Sync + Dr
         alloc,
         &mut input,
         options,
+        ReportForm::Text,
         ends,
         &mut out,
         &mut err,
@@ -369,4 +339,38 @@ pub(crate) fn lives<R: Wait + Threads + Clock + Clone + Abort + Send + Sync + Dr
     };
     has_report(rt, alloc, journal.as_slice(), out.as_slice());
     Ok(Printed { status, out, err })
+}
+
+/// How often a text has this part.
+fn times(text: &[u8], part: &[u8]) -> usize {
+    text.windows(part.len().max(1))
+        .filter(|window| *window == part)
+        .count()
+}
+
+#[test]
+fn a_network_is_booted_on_a_bus(rt: HostRuntime) -> Result<(), Fail> {
+    let bus = bus_of(&rt, rt.alloc(), 126, b"quit\n", ALL)?;
+    let printed = lives(&rt, rt.alloc(), bus)?;
+    assert_eq!(&rt; printed.status, 0);
+    let out = printed.out.as_slice();
+    assert!(&rt; out.starts_with(b"phase ready\nown operational\n"));
+    assert_eq!(&rt; times(out, b"\nopen 0\nframe 82 00\n"), 1);
+    // The last ones may be told no more, where the operator ends the run.
+    let err = printed.err.as_slice();
+    assert_eq!(&rt; times(err, b"node 1: status Ok, started\n"), 1);
+    Ok(())
+}
+
+/// The bus goes on, and the operator waits for ever: that a message couldn't be written ends the run. Behind the reset of
+/// all 39 starts were written, and no other slave is told as started.
+#[test]
+fn a_message_that_can_not_be_written_ends_the_run(rt: HostRuntime) -> Result<(), Fail> {
+    let bus = bus_of(&rt, rt.alloc(), 1_000, b"quit\n", 40)?;
+    let printed = lives(&rt, rt.alloc(), bus)?;
+    assert_eq!(&rt; printed.status, 3);
+    let err = printed.err.as_slice();
+    assert!(&rt; err.ends_with(b"canboot: write failed\n"));
+    assert_eq!(&rt; times(err, b", started\n"), 39);
+    Ok(())
 }

@@ -2,9 +2,8 @@
 
 ghost use Rattle.cm_register.specs.Naming.{Names};
 
-use crate::runs::full_list;
-use crate::written::sure;
-use canboot::replay_text;
+use crate::live::full_list;
+use canboot_journals::replay_text;
 use cm_history::{Call, Entry, Reply};
 use cm_journal::journal_write;
 use cm_netlist::Network;
@@ -19,7 +18,15 @@ use std::test::Fail;
 use std::thread;
 use std::thread::Threads;
 
+// Each comparison is asserted here, since an assertion of its own in each place is long to prove.
+fn sure(rt: &impl Abort, is_so: bool) {
+    assert!(rt; is_so);
+}
+
 const SEATS: u16 = 64;
+
+/// How many entries the history has, more than a journal of version 1 may.
+const LIMIT: u32 = 131_072;
 
 const THREADS: usize = 16;
 
@@ -202,11 +209,10 @@ fn is_replayed(
     rt: &impl Abort,
     alloc: Global,
     net: &Network,
-    limit: u32,
     entries: &[Entry],
 ) -> Result<(), Fail> {
     let mut text: Vec<u8> = Vec::new(alloc);
-    journal_write(net, SEATS, limit, entries, &mut text)?;
+    journal_write(net, SEATS, LIMIT, entries, &mut text)?;
     let mut out: Vec<u8> = Vec::new(alloc);
     let mut err: Vec<u8> = Vec::new(alloc);
     let status = replay_text(alloc, &mut text.as_slice(), &mut out, &mut err);
@@ -214,30 +220,16 @@ fn is_replayed(
     Ok(())
 }
 
-/// Fills a history of this limit with the calls of all seats, the same number of each, and asserts that
-/// its journal is replayed.
-fn fill<R: Wait + Threads + Abort + Send + Sync>(
-    rt: &R,
-    alloc: Global,
-    limit: u32,
-) -> Result<(), Fail> {
-    let net = full_network(alloc)?;
-    let wire = SimWire::new(alloc, limit.saturating_mul(2))?;
-    let Ok(opened) = Register::open(alloc, &net, SEATS, limit, wire) else {
-        return Err(Fail::from("open"));
-    };
-    let closed = make_calls::<Brand, _>(rt, alloc, opened, limit / u32::from(SEATS))?;
-    let entries = closed.history.as_slice();
-    sure(rt, entries.len() == limit as usize);
-    is_replayed(rt, alloc, &net, limit, entries)
-}
-
-#[test]
-fn teams_make_65536_calls(rt: HostRuntime) -> Result<(), Fail> {
-    fill(&rt, rt.alloc(), 65_536)
-}
-
 #[test]
 fn teams_make_131072_calls(rt: HostRuntime) -> Result<(), Fail> {
-    fill(&rt, rt.alloc(), 131_072)
+    let alloc = rt.alloc();
+    let net = full_network(alloc)?;
+    let wire = SimWire::new(alloc, LIMIT.saturating_mul(2))?;
+    let Ok(opened) = Register::open(alloc, &net, SEATS, LIMIT, wire) else {
+        return Err(Fail::from("open"));
+    };
+    let closed = make_calls::<Brand, _>(&rt, alloc, opened, LIMIT / u32::from(SEATS))?;
+    let entries = closed.history.as_slice();
+    sure(&rt, entries.len() == LIMIT as usize);
+    is_replayed(&rt, alloc, &net, entries)
 }

@@ -20,7 +20,7 @@ pub use Rattle.cm_format.specs.Report
 pub use Rattle.cm_format.specs.ReportJson
 pub use Rattle.cm_journal.specs.Inputs
 pub use Rattle.cm_register.specs.Opening
-pub use Rattle.cm_seat.specs.Reads
+pub use Rattle.cm_register.specs.Reads
 pub use Rattle.cm_register.specs.Closing
 pub use Rattle.cm_run.specs.Rounds
 pub use Rattle.cm_run.specs.Running

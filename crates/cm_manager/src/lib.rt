@@ -10,9 +10,9 @@
 //! | cm_history    | calls, replies, orders; laws of histories | `Call`, `Reply`, `Orders`, `Entry`     |
 //! | cm_sequential | the sequential manager; legal histories   | `Manager`, `frames`, `replay`          |
 //! | cm_format     | what a journal's text is, and its faults  | `JournalFault`                         |
-//! | cm_journal    | a journal read and written; the report    | `journal_read`, `report`               |
-//! | cm_seat       | who makes calls, and reads                | `SharedManager`, `Made`, `Receipt`     |
-//! | cm_register   | one manager, shared by threads            | `Register`, `Seat`, `Closed`, `Book`   |
+//! | cm_journal    | a journal read and written                | `journal_read`, `journal_write`        |
+//! | cm_report     | the status report of a history            | `report`, `replay_json`                |
+//! | cm_register   | one manager, shared by threads by seats   | `Register`, `Seat`, `Closed`, `Book`   |
 //! | cm_versions   | the whole status, for readers of it       | `Publisher`, `VersionReader`           |
 //! | cm_run        | boots by workers, an operator, simulation | `boot_all`, `operate`, `SimBus`        |
 //!
@@ -42,8 +42,12 @@ pub use cm_format::MOST_ENTRIES_OF_VERSION_1;
 pub use cm_format::Version;
 pub use cm_format::no_text_goes_on;
 pub use cm_format::one_text;
+pub use cm_growing::HistoryName;
+pub use cm_growing::HistoryReader;
+pub use cm_growing::Past;
 pub use cm_history::ALL_NODES;
 pub use cm_history::Call;
+pub use cm_history::CallFault;
 pub use cm_history::Entry;
 pub use cm_history::MOST_ENTRIES;
 pub use cm_history::Orders;
@@ -61,9 +65,6 @@ pub use cm_journal::Replayed;
 pub use cm_journal::journal_read;
 pub use cm_journal::journal_replay;
 pub use cm_journal::journal_write;
-pub use cm_journal::replay_report;
-pub use cm_journal::report;
-pub use cm_journal::report_of;
 pub use cm_netlist::NetFault;
 pub use cm_netlist::Network;
 pub use cm_netlist::SlaveEntry;
@@ -82,12 +83,8 @@ pub use cm_nmt::Target;
 pub use cm_nmt::Terms;
 pub use cm_nmt::Wire;
 pub use cm_nmt::Write;
-pub use cm_past::HistoryName;
-pub use cm_past::HistoryReader;
-pub use cm_past::Past;
 pub use cm_register::Book;
 pub use cm_register::BookFault;
-pub use cm_register::CallFault;
 pub use cm_register::CloseFault;
 pub use cm_register::CloseKind;
 pub use cm_register::Closed;
@@ -102,6 +99,11 @@ pub use cm_register::Seat;
 pub use cm_register::SeatList;
 pub use cm_register::Seen;
 pub use cm_register::SharedManager;
+pub use cm_report::replay_json;
+pub use cm_report::replay_report;
+pub use cm_report::report;
+pub use cm_report::report_json_of;
+pub use cm_report::report_of;
 pub use cm_run::Booted;
 pub use cm_run::Last;
 pub use cm_run::Lookout;
@@ -129,5 +131,3 @@ pub use cm_versions::Publisher;
 pub use cm_versions::TellFault;
 pub use cm_versions::Version as PublishedVersion;
 pub use cm_versions::VersionReader;
-pub use cm_versions::replay_json;
-pub use cm_versions::report_json_of;

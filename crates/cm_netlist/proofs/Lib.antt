@@ -4,3 +4,7 @@ pub mod Listed
 pub mod Networks
 mod Items
 mod Build
+pub mod Lines
+mod Places
+mod Values
+pub mod ListsRead

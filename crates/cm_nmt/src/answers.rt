@@ -44,7 +44,7 @@ impl Answers {
 
     /// The answer to 1018h sub `place + 1`.
     #[tactic(auto, unfolding(crate::specs::Answers::id_of))]
-    pub(crate) fn id(&self, place: usize) -> Got
+    pub fn id(&self, place: usize) -> Got
         requires { place < 4 }
         ensures { result ≡ id_of self.now place }
     {

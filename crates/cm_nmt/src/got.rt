@@ -17,7 +17,7 @@ pub enum Got {
 
 impl Got {
     /// Whether the question was asked.
-    pub(crate) fn is_answered(self) -> bool
+    pub fn is_answered(self) -> bool
         ensures { result ≡ is_answered self }
     {
         !matches!(self, Got::NotAsked)
@@ -31,7 +31,7 @@ impl Got {
     }
 
     /// Whether this value was read.
-    pub(crate) fn is_value(self, expected: u32) -> bool
+    pub fn is_value(self, expected: u32) -> bool
         ensures { result ≡ is_value self expected }
     {
         match self {

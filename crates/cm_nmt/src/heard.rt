@@ -17,28 +17,28 @@ pub enum Heard {
 
 impl Heard {
     /// Whether the question was asked.
-    pub(crate) fn is_heard(self) -> bool
+    pub fn is_heard(self) -> bool
         ensures { result ≡ is_heard self }
     {
         !matches!(self, Heard::NotAsked)
     }
 
     /// Whether the question was asked and no answer came.
-    pub(crate) fn is_silent(self) -> bool
+    pub fn is_silent(self) -> bool
         ensures { result ≡ is_silent self }
     {
         matches!(self, Heard::Silent)
     }
 
     /// Whether the slave said that it is operational.
-    pub(crate) fn is_operational(self) -> bool
+    pub fn is_operational(self) -> bool
         ensures { result ≡ is_operational self }
     {
         matches!(self, Heard::State(NmtState::Operational))
     }
 
     /// Whether the slave gave a state other than operational.
-    pub(crate) fn is_other_state(self) -> bool
+    pub fn is_other_state(self) -> bool
         ensures { result ≡ is_other_state self }
     {
         matches!(

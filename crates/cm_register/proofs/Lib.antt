@@ -4,3 +4,9 @@ pub mod Longer
 pub mod Managing
 mod Behind
 mod Unseen
+pub mod SeatsClosed
+pub mod Knowing
+pub mod MadeCalls
+pub mod CallsOfSeats
+pub mod Takes
+pub mod Seats

@@ -5,8 +5,8 @@ use Rattle.std.proofs.lemmas.Bool.Decides.{nat_tests}
 use Rattle.std.proofs.lemmas.Grind.{get_or-set_at}
 use Rattle.cm_history.specs.declared.call.Entry.{Entry}
 use Rattle.cm_history.specs.Legal.{AreOfSeats}
-use Rattle.cm_seat.specs.SeatCalls.{calls_behind, calls_of}
-use Rattle.cm_seat.proofs.SeatCalls.{calls_append, made_by}
+use Rattle.cm_register.specs.SeatCalls.{calls_behind, calls_of}
+use Rattle.cm_register.proofs.CallsOfSeats.{calls_append, made_by}
 use Rattle.cm_register.specs.BookInvariant.{AreCounts}
 
 one_if : {A : Type 0} (b : Bool) (y : A) → length (if b then y ∷ [] else []) ≡ (if b then 1 else 0)

@@ -1,11 +1,11 @@
 -- The lists of several seats.
 use Rattle.std.proofs.Common.{◌≡◌, ℕ, suc, ◌+◌, List, [], ◌∷◌, ◌++◌, length, map, sym, ap, ◌∙◌, arith}
 use Rattle.std.proofs.lemmas.List.{append-nil, map-append}
-use Rattle.cm_seat.specs.Handing.{calls_by, calls_in, count_calls}
-use Rattle.cm_seat.specs.Opening.{fresh_seat, fresh_seats}
-use Rattle.cm_seat.specs.Views.{SeatView}
-use Rattle.cm_seat.specs.declared.made.Made.{Made}
-use Rattle.cm_seat.specs.declared.made.SeatList.{SeatList}
+use Rattle.cm_register.specs.Handing.{calls_by, calls_in, count_calls}
+use Rattle.cm_register.specs.SeatOpening.{fresh_seat, fresh_seats}
+use Rattle.cm_register.specs.SeatViews.{SeatView}
+use Rattle.cm_register.specs.declared.made.Made.{Made}
+use Rattle.cm_register.specs.declared.made.SeatList.{SeatList}
 
 pub count_calls_push : (ss : List SeatView) (s : SeatView) → count_calls (ss ++ s ∷ []) ≡ count_calls ss + length s.list
 count_calls_push [] s = omega arith

@@ -6,11 +6,11 @@ use Rattle.cm_netlist.specs.Network.{Network, listing}
 use Rattle.cm_history.specs.OrderFrames.{frames_in}
 use Rattle.cm_history.specs.Legal.{AreOfSeats, IsLegal, most_entries}
 use Rattle.cm_history.specs.declared.call.Entry.{Entry}
-use Rattle.cm_seat.specs.Handing.{AreApart}
-use Rattle.cm_seat.specs.Knowing.{AllHaveCallsOf}
-use Rattle.cm_seat.specs.Reads.{AllKnown}
-use Rattle.cm_seat.specs.SeatCalls.{calls_of}
-use Rattle.cm_seat.specs.Views.{SeatView}
+use Rattle.cm_register.specs.Handing.{AreApart}
+use Rattle.cm_register.specs.Knowing.{AllHaveCallsOf}
+use Rattle.cm_register.specs.Reads.{AllKnown}
+use Rattle.cm_register.specs.SeatCalls.{calls_of}
+use Rattle.cm_register.specs.SeatViews.{SeatView}
 
 -- how many entries each seat has: place k counts those of seat k + 1
 abbrev pub AreCounts : List ℕ → List Entry → Type 0

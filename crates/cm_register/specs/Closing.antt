@@ -5,9 +5,9 @@ use Rattle.cm_netlist.specs.Network.{Network, listing}
 use Rattle.cm_history.specs.Legal.{AreOfSeats, IsLegal}
 use Rattle.cm_history.specs.OrderFrames.{frames_in}
 use Rattle.cm_sequential.specs.Standing.{Stands}
-use Rattle.cm_seat.specs.Handing.{AreApart, HaveTheirCalls, calls_by, calls_in, count_calls}
-use Rattle.cm_seat.specs.Reads.{AllKnown}
-use Rattle.cm_seat.specs.Views.{SeatView}
+use Rattle.cm_register.specs.Handing.{AreApart, HaveTheirCalls, calls_by, calls_in, count_calls}
+use Rattle.cm_register.specs.Reads.{AllKnown}
+use Rattle.cm_register.specs.SeatViews.{SeatView}
 use Rattle.cm_register.specs.declared.closing.Closed.{Closed}
 use Rattle.cm_register.specs.declared.closing.CloseKind.{CloseKind}
 use Rattle.cm_register.specs.declared.closing.CloseKind.TheVariants as kind

@@ -3,7 +3,7 @@ use Rattle.std.specs.Prelude.{◌≡◌, ℕ}
 use Rattle.logbook.specs.Pages.{Book}
 use Rattle.cm_nmt.specs.declared.wire.Wire.{Ghosts as WireGhosts}
 use Rattle.cm_netlist.specs.Network.{Network}
-use Rattle.cm_past.specs.Unnamed.{log_of}
+use Rattle.cm_growing.specs.Unnamed.{log_of}
 use Rattle.cm_register.specs.declared.opened.Opened.{Opened}
 use Rattle.cm_register.specs.Opening.{MayOpen}
 

@@ -5,10 +5,10 @@ ghost use Rattle.cm_history.specs.Answering.{node_named};
 ghost use Rattle.cm_history.specs.Legal.{IsAnswered, IsLegal, most_entries};
 ghost use Rattle.cm_sequential.specs.Standing.{Stands};
 
+use cm_growing::{HistoryName, HistoryWriter, NotShown};
 use cm_history::{Call, Entry};
 use cm_netlist::Network;
 use cm_nmt::NodeId;
-use cm_past::{HistoryName, HistoryWriter, NotShown};
 use cm_sequential::{Manager, replay};
 
 /// The node that a call names, the own one where it names none.

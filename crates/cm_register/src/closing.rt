@@ -2,15 +2,18 @@ ghost use Rattle.std.specs.Prelude.{◌≡◌, ◌≤◌, length, map, vec_capac
 ghost use Rattle.cm_netlist.specs.Network.{listing};
 ghost use Rattle.cm_history.specs.Legal.{IsHistory};
 ghost use Rattle.cm_history.specs.OrderFrames.{frames_in};
-ghost use Rattle.cm_seat.specs.Handing.{calls_by, calls_in, count_calls};
+ghost use Rattle.cm_register.specs.Handing.{calls_by, calls_in, count_calls};
 ghost use Rattle.cm_register.specs.BookInvariant.{MayClose};
 ghost use Rattle.cm_register.specs.Closing.{IsCloseCause, IsClosed, close_number};
 
 use crate::book::Book;
+use crate::compare::{are_apart, are_known};
+use crate::made::SeatList;
+use crate::run_name::RunName;
+use crate::seat::Seat;
+use cm_growing::Past;
 use cm_history::{Entry, Recorder, Unrecorded};
 use cm_nmt::Wire;
-use cm_past::Past;
-use cm_seat::{RunName, Seat, SeatList, are_apart, are_known};
 use cm_sequential::Manager;
 use std::sync::ledger::Share;
 use thiserror::Error;

@@ -1,17 +1,19 @@
 ghost use Rattle.std.specs.Prelude.{◌≡◌, ◌<◌, ◌≤◌, [], vec_capacity, vec_len, IfOk, IfErr};
 ghost use Rattle.cm_history.specs.Legal.{most_entries};
-ghost use Rattle.cm_seat.specs.Opening.{fresh_seats};
-ghost use Rattle.cm_past.specs.Unnamed.{net_of};
+ghost use Rattle.cm_register.specs.SeatOpening.{fresh_seats};
+ghost use Rattle.cm_growing.specs.Unnamed.{net_of};
 ghost use Rattle.cm_register.specs.Opening.{IsNameCause, IsOpenCause, MayOpen};
 
 use crate::book::Book;
 use crate::fault::OpenFault;
+use crate::made::SeatList;
 use crate::register::Register;
+use crate::run_name::RunName;
+use crate::seat::Seat;
+use cm_growing::{HistoryWriter, UnnamedHistory};
 use cm_history::{Entry, MOST_ENTRIES};
 use cm_netlist::Network;
 use cm_nmt::Wire;
-use cm_past::{HistoryWriter, UnnamedHistory};
-use cm_seat::{RunName, Seat, SeatList};
 use cm_sequential::Manager;
 use std::alloc::Global;
 use std::marker::Brand;

@@ -3,9 +3,9 @@ use Rattle.std.proofs.Common.{ℕ, List, [], ◌∷◌, ◌++◌}
 use Rattle.std.specs.Prelude.{All}
 use Rattle.std.proofs.lemmas.List.Elements.{All-push}
 use Rattle.cm_nmt.specs.Listing.{Listing}
-use Rattle.cm_seat.specs.Reads.{HasMadeCalls}
-use Rattle.cm_seat.specs.Views.{SeatView}
-use Rattle.cm_seat.proofs.MadeCalls.{more_made}
+use Rattle.cm_register.specs.Reads.{HasMadeCalls}
+use Rattle.cm_register.specs.SeatViews.{SeatView}
+use Rattle.cm_register.proofs.MadeCalls.{more_made}
 use Rattle.cm_run.specs.Faults.{EndsForCause, FailsForCause}
 use Rattle.cm_run.specs.declared.outcome.Last.{Last}
 use Rattle.cm_run.specs.declared.outcome.Last.TheVariants as last

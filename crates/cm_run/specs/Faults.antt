@@ -3,11 +3,11 @@ use Rattle.std.specs.Prelude.{◌≡◌, ◌≢◌, ◌<◌, ℕ, List, length, 
 use Rattle.cm_nmt.specs.Listing.{Listing}
 use Rattle.cm_history.specs.declared.call.Call.{Call}
 use Rattle.cm_history.specs.declared.call.Call.TheVariants as call
-use Rattle.cm_seat.specs.Calling.{IsCallCause}
-use Rattle.cm_seat.specs.Reads.{HasMadeCalls}
-use Rattle.cm_seat.specs.Views.{SeatView}
-use Rattle.cm_seat.specs.declared.fault.CallFault.{CallFault}
-use Rattle.cm_seat.specs.declared.fault.CallFault.TheVariants as fault
+use Rattle.cm_register.specs.Calling.{IsCallCause}
+use Rattle.cm_register.specs.Reads.{HasMadeCalls}
+use Rattle.cm_register.specs.SeatViews.{SeatView}
+use Rattle.cm_history.specs.declared.call_fault.CallFault.{CallFault}
+use Rattle.cm_history.specs.declared.call_fault.CallFault.TheVariants as fault
 use Rattle.cm_run.specs.declared.operator.OperateFault.{OperateFault}
 use Rattle.cm_run.specs.declared.outcome.Last.{Last}
 use Rattle.cm_run.specs.declared.outcome.Last.TheVariants as last

@@ -1,11 +1,11 @@
 ghost use Rattle.std.specs.Prelude.{◌≡◌, ◌≤◌, length, take, vec_len, IfOk, IfErr};
 ghost use Rattle.cm_netlist.specs.Network.{listing};
-ghost use Rattle.cm_seat.specs.Reads.{HasMadeCalls};
+ghost use Rattle.cm_register.specs.Reads.{HasMadeCalls};
 ghost use Rattle.cm_run.specs.Faults.{StopsForCause};
 ghost use Rattle.cm_run.specs.Operating.{HasGrown, HasSome};
 
-use cm_history::Call;
-use cm_seat::{CallFault, Receipt, RunName, Seat, SharedManager};
+use cm_history::{Call, CallFault};
+use cm_register::{Receipt, RunName, Seat, SharedManager};
 use std::alloc::Global;
 use std::sync::Wait;
 

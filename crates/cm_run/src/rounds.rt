@@ -1,5 +1,5 @@
 ghost use Rattle.std.specs.Prelude.{◌≡◌, ◌≢◌, ◌++◌, ◌<◌};
-ghost use Rattle.cm_seat.specs.Reads.{HasMadeCalls};
+ghost use Rattle.cm_register.specs.Reads.{HasMadeCalls};
 ghost use Rattle.cm_netlist.specs.Network.{listing};
 ghost use Rattle.cm_run.specs.Faults.{EndsForCause, FailsForCause};
 ghost use Rattle.cm_run.specs.Rounds.{AllReported, Gives, HasRound, calls_in, is_followed, last_of};
@@ -9,7 +9,7 @@ use crate::outcome::{Attempt, Last, Outcome};
 use cm_boot::{Bus, boot_slave};
 use cm_history::{Call, Refusal, Reply};
 use cm_nmt::{NodeId, Status};
-use cm_seat::{RunName, Seat, SharedManager};
+use cm_register::{RunName, Seat, SharedManager};
 use std::sync::Wait;
 
 /// One attempt to boot a slave: the begin, the boot over the bus, the report, where one is made.

@@ -5,7 +5,7 @@ ghost use Rattle.cm_run.specs.Jobs.{AllDone, AllDoneOrStopped, FirstBack, IsDone
 use crate::jobs::{Job, Plan};
 use crate::working::work;
 use cm_boot::Bus;
-use cm_seat::{RunName, SharedManager};
+use cm_register::{RunName, SharedManager};
 use std::snapshot::Snapshot;
 use std::sync::Wait;
 use std::sync::atomic::{AtomicUsize, Ordering};

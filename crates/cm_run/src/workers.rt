@@ -7,7 +7,7 @@ use crate::jobs::{Plan, Room, merge, pair_up, split_up, take_room};
 use crate::outcome::Outcome;
 use crate::team::run_jobs;
 use cm_boot::Bus;
-use cm_seat::{RunName, Seat, SharedManager};
+use cm_register::{RunName, Seat, SharedManager};
 use std::alloc::Global;
 use std::sync::Wait;
 use std::thread::Threads;

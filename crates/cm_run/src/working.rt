@@ -1,7 +1,7 @@
 //! The work of one worker.
 ghost use Rattle.std.specs.Prelude.{◌≡◌, ◌≤◌, All, length, map, vec_capacity, vec_len};
 ghost use Rattle.cm_netlist.specs.Network.{listed_ids, listing};
-ghost use Rattle.cm_seat.specs.Reads.{HasMadeCalls};
+ghost use Rattle.cm_register.specs.Reads.{HasMadeCalls};
 ghost use Rattle.cm_run.specs.Faults.{FailsForCause};
 ghost use Rattle.cm_run.specs.Rounds.{AllReported, HasRounds};
 ghost use Rattle.cm_run.specs.Jobs.{IsDone};
@@ -13,7 +13,7 @@ use crate::outcome::Outcome;
 use crate::rounds::round;
 use cm_boot::Bus;
 use cm_netlist::worker_at;
-use cm_seat::{RunName, Seat, SharedManager};
+use cm_register::{RunName, Seat, SharedManager};
 use std::sync::Wait;
 
 /// The rounds of the worker's slaves, in order.

@@ -8,3 +8,4 @@ pub mod FieldReading
 pub mod Ends
 pub mod Input
 pub mod Fronts
+pub mod Picked

@@ -14,7 +14,8 @@
 //! `std::io::Read` lets a reader promise; any error of a reader is a failed read, and nothing is
 //! tried again. No clause can say that no other error comes, however long the input is.
 //!
-//! `put_front` writes bytes of which the first are known to be written, where a write fails.
+//! `put_front` writes bytes of which the first are known to be written, where a write fails. `put_text` writes a text of any
+//! origin so that a terminal shows it and nothing else.
 #![tactic(auto)]
 
 mod decimal;
@@ -24,10 +25,12 @@ mod hex;
 mod near;
 mod places;
 mod reading;
+mod shown;
 mod words;
 
 pub use fields::Fields;
 pub use front::put_front;
 pub use hex::{digit, hex2, hex4, hex8, read_hex8};
 pub use reading::{Block, ENDLESS, InputFault, read_input, read_until, skip_rest};
+pub use shown::{LONGEST_TEXT, put_letter, put_text};
 pub use words::is_word;

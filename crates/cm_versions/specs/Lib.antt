@@ -1,3 +1,2 @@
 pub mod Versions
 pub mod Telling
-pub mod Written

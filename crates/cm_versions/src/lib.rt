@@ -1,7 +1,7 @@
 //! Versions of what a history comes to, for readers who take no lock and don't wait.
 //!
 //! A [`Version`] is a legal history's manager, its orders and the last status of each slave, with the
-//! [`cm_past::Past`] that says of which entries they are: these were the whole history of the name `K` at some
+//! [`cm_growing::Past`] that says of which entries they are: these were the whole history of the name `K` at some
 //! moment, and so the history begins with them from then on. It keeps no entry.
 //!
 //! A [`Publisher`] is told entries, each as a [`Next`], which is the entry with what is known of the history up to
@@ -15,20 +15,17 @@
 //! So a publisher waits for those who are still in the version before the last one, and a reader that goes to
 //! a device while it is inside holds it up: a report is written to memory, and from there to a device.
 //!
-//! [`replay_json`] and [`report_json_of`] write the report of a history as one JSON object, as a version's
-//! [`Version::json`] does.
+//! [`Version::json`] writes the report of a version as one JSON object.
 #![tactic(auto)]
 
 mod fault;
 mod next;
 mod publisher;
 mod reader;
-mod reporting_json;
 mod version;
 
 pub use fault::TellFault;
 pub use next::Next;
 pub use publisher::Publisher;
 pub use reader::VersionReader;
-pub use reporting_json::{replay_json, report_json_of};
 pub use version::Version;

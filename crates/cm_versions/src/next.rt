@@ -2,8 +2,8 @@ ghost use Rattle.std.specs.Prelude.{◌≡◌, ◌↔◌, IsTrue};
 ghost use Rattle.cm_versions.specs.Telling.{Follows};
 ghost use Rattle.cm_versions.specs.Versions.{EndsWith};
 
+use cm_growing::{HistoryName, Past};
 use cm_history::Entry;
-use cm_past::{HistoryName, Past};
 use std::marker::Model;
 
 /// An entry of the history of the name `K`, and what is known with it: the history up to it.

@@ -6,8 +6,8 @@ ghost use Rattle.cm_format.specs.ReportJson.{report_json};
 ghost use Rattle.cm_sequential.specs.Standing.{Stands};
 
 use crate::version::Version;
+use cm_growing::{HistoryName, Past};
 use cm_netlist::Network;
-use cm_past::{HistoryName, Past};
 use cm_sequential::Manager;
 use left_right::ReadHandle;
 use std::io::{self, Write};

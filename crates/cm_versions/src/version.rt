@@ -6,11 +6,10 @@ ghost use Rattle.cm_sequential.specs.Standing.{Stands};
 ghost use Rattle.cm_versions.specs.Telling.{Follows};
 
 use crate::next::Next;
-use crate::reporting_json::replay_json;
+use cm_growing::{HistoryName, Past};
 use cm_history::Entry;
-use cm_journal::replay_report;
 use cm_netlist::Network;
-use cm_past::{HistoryName, Past};
+use cm_report::{replay_json, replay_report};
 use cm_sequential::{Cause, CompactReplay, Manager, Untaken};
 use left_right::Absorb;
 use std::alloc::{AllocError, Global};

@@ -15,15 +15,16 @@ use Rattle.cm_history.specs.declared.call.Reply.{Reply}
 use Rattle.cm_netlist.specs.Network.{Network}
 use Rattle.cm_nmt.specs.declared.frame.Target.{Target}
 use Rattle.cm_nmt.specs.declared.frame.Target.TheVariants as target
-use Rattle.cm_watch.specs.Kept.{about, if_only, named_by, node_at, reaches_only, slave_after}
-use Rattle.cm_watch.specs.Signals.{is_sent}
-use Rattle.cm_watch.specs.Waking.{command_to}
-use Rattle.cm_watch.specs.declared.happening.Happening.TheVariants as happening
-use Rattle.cm_watch.specs.declared.happening.Moment.{Moment}
-use Rattle.cm_watch.specs.declared.happening.Moment.TheVariants as moment
-use Rattle.cm_watch.specs.declared.happening.Step.TheVariants as step
-use Rattle.cm_watch.specs.declared.settings.Settings.{Settings}
-use Rattle.cm_watch.specs.declared.slave.Slave.{Slave}
+use Rattle.cm_watch.specs.Kept.{about, if_only, named_by, node_at, reaches_only}
+use Rattle.cm_watched.specs.KeptOfSlaves.{slave_after}
+use Rattle.cm_watched.specs.Signals.{is_sent}
+use Rattle.cm_watched.specs.Waking.{command_to}
+use Rattle.cm_watched.specs.declared.happening.Happening.TheVariants as happening
+use Rattle.cm_watched.specs.declared.happening.Moment.{Moment}
+use Rattle.cm_watched.specs.declared.happening.Moment.TheVariants as moment
+use Rattle.cm_watched.specs.declared.happening.Step.TheVariants as step
+use Rattle.cm_watched.specs.declared.settings.Settings.{Settings}
+use Rattle.cm_watched.specs.declared.slave.Slave.{Slave}
 
 false_true : {A : Type 0} → false ≡ true → A
 false_true e = absurd (cc)

@@ -12,15 +12,15 @@ use Rattle.cm_history.specs.declared.call.Reply.{Reply}
 use Rattle.cm_netlist.specs.Network.{Network}
 use Rattle.cm_watch.specs.Causes.{IsNotForgotten, given_up_by, is_given_up_in}
 use Rattle.cm_watch.specs.Course.{started_at, started_by}
-use Rattle.cm_watch.specs.Schedules.{cause_by, cause_by_call, schedule_after, schedule_in}
-use Rattle.cm_watch.specs.Slaves.{booted_by, booted_since, busy_by, held_by, is_busy_in, is_held_in}
-use Rattle.cm_watch.specs.declared.happening.Happening.TheVariants as happening
-use Rattle.cm_watch.specs.declared.happening.Moment.{Moment}
-use Rattle.cm_watch.specs.declared.happening.Moment.TheVariants as moment
-use Rattle.cm_watch.specs.declared.happening.Step.TheVariants as step
-use Rattle.cm_watch.specs.declared.schedule.Cause.TheVariants as cause
-use Rattle.cm_watch.specs.declared.schedule.Schedule.{Schedule}
-use Rattle.cm_watch.specs.declared.settings.Settings.{Settings}
+use Rattle.cm_watched.specs.Schedules.{cause_by, cause_by_call, schedule_after, schedule_in}
+use Rattle.cm_watched.specs.Slaves.{booted_by, booted_since, busy_by, held_by, is_busy_in, is_held_in}
+use Rattle.cm_watched.specs.declared.happening.Happening.TheVariants as happening
+use Rattle.cm_watched.specs.declared.happening.Moment.{Moment}
+use Rattle.cm_watched.specs.declared.happening.Moment.TheVariants as moment
+use Rattle.cm_watched.specs.declared.happening.Step.TheVariants as step
+use Rattle.cm_watched.specs.declared.schedule.Cause.TheVariants as cause
+use Rattle.cm_watched.specs.declared.schedule.Schedule.{Schedule}
+use Rattle.cm_watched.specs.declared.settings.Settings.{Settings}
 
 -- one of five
 due_is : (p q r g : Bool) → (p || (q || (r || (g || true)))) ≡ true

@@ -14,16 +14,16 @@ use Rattle.cm_netlist.specs.Network.{Network, listing}
 use Rattle.cm_nmt.specs.Listing.{is_mandatory, node_ids}
 use Rattle.cm_nmt.specs.declared.state.NmtState.{NmtState}
 use Rattle.cm_watch.specs.Kept.{course_after, course_of, own_behind, phase_behind}
-use Rattle.cm_watch.specs.Pasts.{Past, entries_in, with_entry}
-use Rattle.cm_watch.specs.Slaves.{booted_by, booted_since}
+use Rattle.cm_watched.specs.Pasts.{Past, entries_in, with_entry}
+use Rattle.cm_watched.specs.Slaves.{booted_by, booted_since}
 use Rattle.cm_watch.specs.Watches.{AreSlaves, is_pending_by}
 use Rattle.cm_watch.specs.declared.course.Course.{Course}
 use Rattle.cm_watch.specs.declared.watch.Pending.TheVariants as pending
-use Rattle.cm_watch.specs.declared.happening.Happening.TheVariants as happening
-use Rattle.cm_watch.specs.declared.happening.Moment.{Moment}
-use Rattle.cm_watch.specs.declared.happening.Moment.TheVariants as moment
-use Rattle.cm_watch.specs.declared.settings.Settings.{Settings}
-use Rattle.cm_watch.specs.declared.slave.Slave.{Slave}
+use Rattle.cm_watched.specs.declared.happening.Happening.TheVariants as happening
+use Rattle.cm_watched.specs.declared.happening.Moment.{Moment}
+use Rattle.cm_watched.specs.declared.happening.Moment.TheVariants as moment
+use Rattle.cm_watched.specs.declared.settings.Settings.{Settings}
+use Rattle.cm_watched.specs.declared.slave.Slave.{Slave}
 use Rattle.cm_watch.proofs.Lists.{same_chosen}
 
 -- ---- booted

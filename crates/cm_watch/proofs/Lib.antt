@@ -8,7 +8,3 @@ pub mod Courses
 pub mod Losses
 pub mod Limits
 pub mod Causes
-pub mod Entries
-pub mod Waits
-pub mod Tries
-pub mod Limiting

@@ -11,22 +11,23 @@ use Rattle.cm_nmt.proofs.Both.{and_left, and_right}
 use Rattle.cm_nmt.proofs.Ids.{unfold_ids}
 use Rattle.cm_watch.specs.Ends.{is_run_over}
 use Rattle.cm_watch.specs.Limits.{AreBetween, AreLimited, IsEndedOnce, IsOneInTenSeconds, IsToldAtOnce, IsToldInTime, begun_or_booted_in, caused_in, ended_in, is_begun_or_booted}
-use Rattle.cm_watch.specs.Pasts.{Past}
-use Rattle.cm_watch.specs.Schedules.{cause_by, is_due, is_own, is_quiet_for, schedule_after, schedule_in}
-use Rattle.cm_watch.specs.Signals.{budget_in, is_allowed, is_boot_up_left, is_boot_up_told, is_urgent, left_now, news_in, news_of, rests_by, rests_in, spends, spent, tells_boot_up}
-use Rattle.cm_watch.specs.Slaves.{is_asked_in, is_busy_in, is_held_in}
+use Rattle.cm_watched.specs.Pasts.{Past}
+use Rattle.cm_watched.specs.Schedules.{cause_by, is_due, is_own, is_quiet_for, schedule_after, schedule_in}
+use Rattle.cm_watched.specs.Signals.{budget_in, is_allowed, is_boot_up_left, is_boot_up_told, is_urgent, left_now, news_in, news_of, rests_by, rests_in, spends, spent, tells_boot_up}
+use Rattle.cm_watched.specs.Slaves.{is_asked_in, is_busy_in, is_held_in}
 use Rattle.cm_watch.specs.Course.{is_stopped_in, phase_in}
-use Rattle.cm_watch.specs.Waking.{stands_stopped}
-use Rattle.cm_watch.specs.Steps.{boot_of, elapsed_at, given, is_end, is_free, is_late, is_left_out, is_time_over, is_to_be_booted, is_to_be_told, left_out_of, signal_of, step_if, steps_at, takes_boots}
-use Rattle.cm_watch.specs.declared.happening.Happening.TheVariants as happening
-use Rattle.cm_watch.specs.declared.happening.Moment.{Moment}
-use Rattle.cm_watch.specs.declared.happening.Moment.TheVariants as moment
-use Rattle.cm_watch.specs.declared.happening.Step.{Step}
-use Rattle.cm_watch.specs.declared.happening.Step.TheVariants as step
-use Rattle.cm_watch.specs.declared.schedule.Cause.TheVariants as cause
-use Rattle.cm_watch.specs.declared.schedule.Schedule.{Schedule}
-use Rattle.cm_watch.specs.declared.settings.Settings.{Settings}
-use Rattle.cm_watch.specs.declared.signals.Budget.{Budget}
+use Rattle.cm_watched.specs.Waking.{stands_stopped}
+use Rattle.cm_watch.specs.Steps.{boot_of, elapsed_at, given, is_end, is_late, is_left_out, is_time_over, is_to_be_booted, is_to_be_told, left_out_of, signal_of, step_if, steps_at, takes_boots}
+use Rattle.cm_watched.specs.Slaves.{is_free}
+use Rattle.cm_watched.specs.declared.happening.Happening.TheVariants as happening
+use Rattle.cm_watched.specs.declared.happening.Moment.{Moment}
+use Rattle.cm_watched.specs.declared.happening.Moment.TheVariants as moment
+use Rattle.cm_watched.specs.declared.happening.Step.{Step}
+use Rattle.cm_watched.specs.declared.happening.Step.TheVariants as step
+use Rattle.cm_watched.specs.declared.schedule.Cause.TheVariants as cause
+use Rattle.cm_watched.specs.declared.schedule.Schedule.{Schedule}
+use Rattle.cm_watched.specs.declared.settings.Settings.{Settings}
+use Rattle.cm_watched.specs.declared.signals.Budget.{Budget}
 use Rattle.cm_watch.proofs.Steps.{given-append}
 
 pub false_true : {A : Type 0} → false ≡ true → A

@@ -2,14 +2,14 @@
 use Rattle.std.proofs.Common.{◌≡◌, ◌∙◌, ℕ, ◌==◌, ◌&&◌, not, Bool, true, false, [], ◌∷◌, ◌++◌, ap, refl, Some, None, unwrap_or, eq-eqb}
 use Rattle.std.specs.Bool.{if◌then◌else◌}
 use Rattle.cm_watch.specs.Losses.{IsLostOnce, NoneBoots, is_boot_of}
-use Rattle.cm_watch.specs.Pasts.{Past}
-use Rattle.cm_watch.specs.Slaves.{booted_since, heard_last, is_lost_given, lost_by}
-use Rattle.cm_watch.specs.Guarding.{most_silence_of}
-use Rattle.cm_watch.specs.Steps.{is_overdue}
-use Rattle.cm_watch.specs.declared.happening.Happening.TheVariants as happening
-use Rattle.cm_watch.specs.declared.happening.Moment.{Moment}
-use Rattle.cm_watch.specs.declared.happening.Moment.TheVariants as moment
-use Rattle.cm_watch.specs.declared.happening.Step.TheVariants as step
+use Rattle.cm_watched.specs.Pasts.{Past}
+use Rattle.cm_watched.specs.Slaves.{booted_since, heard_last, is_lost_given, lost_by}
+use Rattle.cm_watched.specs.Guarding.{most_silence_of}
+use Rattle.cm_watched.specs.Slaves.{is_overdue}
+use Rattle.cm_watched.specs.declared.happening.Happening.TheVariants as happening
+use Rattle.cm_watched.specs.declared.happening.Moment.{Moment}
+use Rattle.cm_watched.specs.declared.happening.Moment.TheVariants as moment
+use Rattle.cm_watched.specs.declared.happening.Step.TheVariants as step
 
 stays : (m : Moment) (i : ℕ) (rest : Bool) → is_boot_of m i ≡ false → rest ≡ true → unwrap_or (lost_by m i) rest ≡ true
 stays (moment.Happened (happening.Heard j b)) i rest none yet = yet

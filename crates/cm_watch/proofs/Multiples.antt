@@ -4,7 +4,7 @@ use Rattle.std.proofs.lemmas.Grind.{common_steps}
 use Rattle.std.proofs.Math.Nat.{lt-div-mul-add}
 use Rattle.std.proofs.lemmas.Nat.{div_below, le-div}
 use Rattle.cm_nmt.proofs.Both.{and_right}
-use Rattle.cm_watch.specs.Beats.{IsAtMultiples}
+use Rattle.cm_watched.specs.Beats.{IsAtMultiples}
 
 -- what is tested so is so
 below : (a b : ℕ) → nat_lt a b ≡ true → a < b

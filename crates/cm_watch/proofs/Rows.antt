@@ -4,7 +4,7 @@ use Rattle.std.proofs.lemmas.Bool.Decides.{eqb_tells}
 use Rattle.std.proofs.Math.ListN.{set}
 use Rattle.cm_watch.specs.Kept.{blank_slave}
 use Rattle.cm_watch.specs.Watches.{kept_at}
-use Rattle.cm_watch.specs.declared.slave.Slave.{Slave}
+use Rattle.cm_watched.specs.declared.slave.Slave.{Slave}
 
 -- one row more
 pub take_step : (F : ℕ → Slave → Slave) (start now : List Slave) (n : ℕ) (s : Slave) → n < length now → s ≡ F n (kept_at now n)

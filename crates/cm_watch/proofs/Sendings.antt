@@ -3,15 +3,15 @@ use Rattle.std.proofs.Common.{ℕ, Bool, true, false, List, [], ◌∷◌, sym, 
 use Rattle.std.specs.List.{filter}
 use Rattle.cm_netlist.specs.Network.{Network}
 use Rattle.cm_nmt.specs.Listing.{node_ids}
-use Rattle.cm_watch.specs.Beats.{beat_byte, beat_last, is_beat_due, own_in}
+use Rattle.cm_watched.specs.Beats.{beat_byte, beat_last, is_beat_due, own_in}
 use Rattle.cm_watch.specs.ErrorControl.{error_control_at}
-use Rattle.cm_watch.specs.Guarding.{is_guard_due}
+use Rattle.cm_watched.specs.Guarding.{is_guard_due}
 use Rattle.cm_watch.specs.Limits.{AreLimited}
-use Rattle.cm_watch.specs.Pasts.{Past}
+use Rattle.cm_watched.specs.Pasts.{Past}
 use Rattle.cm_watch.specs.Steps.{given, step_if}
-use Rattle.cm_watch.specs.declared.happening.Moment.TheVariants as moment
-use Rattle.cm_watch.specs.declared.happening.Step.TheVariants as step
-use Rattle.cm_watch.specs.declared.settings.Settings.{Settings}
+use Rattle.cm_watched.specs.declared.happening.Moment.TheVariants as moment
+use Rattle.cm_watched.specs.declared.happening.Step.TheVariants as step
+use Rattle.cm_watched.specs.declared.settings.Settings.{Settings}
 use Rattle.cm_watch.proofs.Limits.{false_true}
 use Rattle.cm_watch.proofs.Steps.{given-append}
 

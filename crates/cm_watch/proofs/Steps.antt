@@ -7,23 +7,24 @@ use Rattle.cm_history.specs.History.{is_empty}
 use Rattle.cm_netlist.specs.Network.{Network, is_listed}
 use Rattle.cm_nmt.specs.Listing.{node_ids}
 use Rattle.cm_watch.specs.Ends.{has_come, is_run_over}
-use Rattle.cm_watch.specs.Beats.{beat_byte, beat_last, is_beat_due, own_in}
+use Rattle.cm_watched.specs.Beats.{beat_byte, beat_last, is_beat_due, own_in}
 use Rattle.cm_watch.specs.ErrorControl.{error_control_at}
-use Rattle.cm_watch.specs.Guarding.{counts, counts_for, guard_of, is_asked_again, is_guard_due, most_silence_of}
+use Rattle.cm_watched.specs.Guarding.{counts, counts_for, guard_of, is_asked_again, is_guard_due, most_silence_of}
 use Rattle.cm_watch.specs.Kept.{course_of, slave_of}
-use Rattle.cm_watch.specs.Pasts.{Past}
-use Rattle.cm_watch.specs.Signals.{is_allowed, is_urgent, news_of, pending_of}
-use Rattle.cm_watch.specs.Slaves.{is_tried_in}
-use Rattle.cm_watch.specs.Steps.{are_tried, boot_of, elapsed_at, given, is_end, is_free, is_late, is_left_out, is_overdue, is_time_over, is_to_be_booted, is_to_be_told, left_out_of, signal_of, steps_at, step_if, takes_boots}
+use Rattle.cm_watched.specs.Pasts.{Past}
+use Rattle.cm_watched.specs.Signals.{is_allowed, is_urgent, news_of, pending_of}
+use Rattle.cm_watched.specs.Slaves.{is_tried_in}
+use Rattle.cm_watch.specs.Steps.{are_tried, boot_of, elapsed_at, given, is_end, is_late, is_left_out, is_time_over, is_to_be_booted, is_to_be_told, left_out_of, signal_of, steps_at, step_if, takes_boots}
+use Rattle.cm_watched.specs.Slaves.{is_free, is_overdue}
 use Rattle.cm_watch.specs.Watches.{Watches, are_tried_by, boot_by, counts_by, elapsed_by, error_control_by, is_end_by, is_guard_due_by, is_late_by, is_left_out_by, is_pending_by, is_run_over_by, is_time_over_by, is_to_be_booted_by, is_to_be_told_by, kept_at, left_out_by, signal_by, steps_by, steps_of_kind}
 use Rattle.cm_watch.specs.declared.watch.Kind.TheVariants as kind
 use Rattle.cm_watch.specs.declared.watch.Pending.TheVariants as pending
 use Rattle.cm_watch.specs.declared.course.Course.{Course}
-use Rattle.cm_watch.specs.declared.happening.Moment.TheVariants as moment
-use Rattle.cm_watch.specs.declared.happening.Step.{Step}
-use Rattle.cm_watch.specs.declared.happening.Step.TheVariants as step
-use Rattle.cm_watch.specs.declared.settings.Settings.{Settings}
-use Rattle.cm_watch.specs.declared.slave.Slave.{Slave}
+use Rattle.cm_watched.specs.declared.happening.Moment.TheVariants as moment
+use Rattle.cm_watched.specs.declared.happening.Step.{Step}
+use Rattle.cm_watched.specs.declared.happening.Step.TheVariants as step
+use Rattle.cm_watched.specs.declared.settings.Settings.{Settings}
+use Rattle.cm_watched.specs.declared.slave.Slave.{Slave}
 use Rattle.cm_watch.specs.declared.watch.Watch.{Watch}
 use Rattle.cm_watch.proofs.Lists.{same_chosen, same_mapped}
 

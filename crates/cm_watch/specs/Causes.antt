@@ -3,13 +3,13 @@ use Rattle.std.specs.Prelude.{◌≡◌, ◌==◌, ◌||◌, if◌then◌else◌
 use Rattle.std.specs.Prelude.{Option, Some, None, is_some, option_map, unwrap_or}
 use Rattle.cm_netlist.specs.Network.{Network}
 use Rattle.cm_watch.specs.Course.{started_at}
-use Rattle.cm_watch.specs.Pasts.{Past}
-use Rattle.cm_watch.specs.Schedules.{cause_by, schedule_in}
-use Rattle.cm_watch.specs.Slaves.{booted_since, is_busy_in, is_held_in}
-use Rattle.cm_watch.specs.declared.happening.Happening.TheVariants as happening
-use Rattle.cm_watch.specs.declared.happening.Moment.{Moment}
-use Rattle.cm_watch.specs.declared.happening.Moment.TheVariants as moment
-use Rattle.cm_watch.specs.declared.settings.Settings.{Settings}
+use Rattle.cm_watched.specs.Pasts.{Past}
+use Rattle.cm_watched.specs.Schedules.{cause_by, schedule_in}
+use Rattle.cm_watched.specs.Slaves.{booted_since, is_busy_in, is_held_in}
+use Rattle.cm_watched.specs.declared.happening.Happening.TheVariants as happening
+use Rattle.cm_watched.specs.declared.happening.Moment.{Moment}
+use Rattle.cm_watched.specs.declared.happening.Moment.TheVariants as moment
+use Rattle.cm_watched.specs.declared.settings.Settings.{Settings}
 
 -- whether i was given up: a worker's attempts at it have ended, and no cause for a boot has come since
 abbrev pub given_up_by : Moment → ℕ → Option Bool

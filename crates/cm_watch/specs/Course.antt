@@ -6,11 +6,11 @@ use Rattle.cm_history.specs.Orders.{is_start_all, is_stop_all}
 use Rattle.cm_history.specs.declared.call.Entry.{Entry}
 use Rattle.cm_history.specs.declared.phase.Phase.{Phase}
 use Rattle.cm_netlist.specs.Network.{Network, listing}
-use Rattle.cm_watch.specs.Pasts.{Past, entries_in}
-use Rattle.cm_watch.specs.declared.happening.Happening.TheVariants as happening
-use Rattle.cm_watch.specs.declared.happening.Moment.{Moment}
-use Rattle.cm_watch.specs.declared.happening.Moment.TheVariants as moment
-use Rattle.cm_watch.specs.declared.happening.Step.TheVariants as step
+use Rattle.cm_watched.specs.Pasts.{Past, entries_in}
+use Rattle.cm_watched.specs.declared.happening.Happening.TheVariants as happening
+use Rattle.cm_watched.specs.declared.happening.Moment.{Moment}
+use Rattle.cm_watched.specs.declared.happening.Moment.TheVariants as moment
+use Rattle.cm_watched.specs.declared.happening.Step.TheVariants as step
 
 -- how far the manager has come
 abbrev pub phase_in : Network → Past → Phase

@@ -1,10 +1,10 @@
 -- When the run is to end, told from the past (own).
 use Rattle.std.specs.Prelude.{ℕ, Bool, false, nat_le, [], ◌∷◌, Option, Some, None}
-use Rattle.cm_watch.specs.Pasts.{Past}
-use Rattle.cm_watch.specs.declared.happening.Happening.TheVariants as happening
-use Rattle.cm_watch.specs.declared.happening.Moment.{Moment}
-use Rattle.cm_watch.specs.declared.happening.Moment.TheVariants as moment
-use Rattle.cm_watch.specs.declared.happening.Step.TheVariants as step
+use Rattle.cm_watched.specs.Pasts.{Past}
+use Rattle.cm_watched.specs.declared.happening.Happening.TheVariants as happening
+use Rattle.cm_watched.specs.declared.happening.Moment.{Moment}
+use Rattle.cm_watched.specs.declared.happening.Moment.TheVariants as moment
+use Rattle.cm_watched.specs.declared.happening.Step.TheVariants as step
 
 -- when the run is to end, with what was said before the moment: at the time that is told, at none where its end is given, else as
 -- before

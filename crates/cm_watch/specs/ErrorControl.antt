@@ -2,13 +2,13 @@
 use Rattle.std.specs.Prelude.{◌++◌, ℕ, List, map, filter}
 use Rattle.cm_netlist.specs.Network.{Network}
 use Rattle.cm_nmt.specs.Listing.{node_ids}
-use Rattle.cm_watch.specs.Beats.{beat_byte, beat_last, is_beat_due, own_in}
-use Rattle.cm_watch.specs.Guarding.{is_guard_due}
-use Rattle.cm_watch.specs.Pasts.{Past}
+use Rattle.cm_watched.specs.Beats.{beat_byte, beat_last, is_beat_due, own_in}
+use Rattle.cm_watched.specs.Guarding.{is_guard_due}
+use Rattle.cm_watched.specs.Pasts.{Past}
 use Rattle.cm_watch.specs.Steps.{step_if}
-use Rattle.cm_watch.specs.declared.happening.Step.{Step}
-use Rattle.cm_watch.specs.declared.happening.Step.TheVariants as step
-use Rattle.cm_watch.specs.declared.settings.Settings.{Settings}
+use Rattle.cm_watched.specs.declared.happening.Step.{Step}
+use Rattle.cm_watched.specs.declared.happening.Step.TheVariants as step
+use Rattle.cm_watched.specs.declared.settings.Settings.{Settings}
 
 -- the heartbeat of the manager itself, where one is due, and the requests for the states of slaves, in rising order
 abbrev pub error_control_at : Network → Settings → Past → ℕ → List Step

@@ -13,29 +13,25 @@ use Rattle.cm_netlist.specs.Network.{Network, listing}
 use Rattle.cm_nmt.specs.declared.state.NmtState.{NmtState}
 use Rattle.cm_nmt.specs.declared.state.NmtState.TheVariants as state
 use Rattle.std.specs.Prelude.{List}
-use Rattle.cm_watch.specs.Beats.{beat_by, beat_last, own_in}
+use Rattle.cm_watched.specs.Beats.{beat_by, beat_last, own_in}
 use Rattle.cm_watch.specs.Course.{end_by, is_end_given, is_over_given, is_stopped_in, over_by, phase_in, started_at, started_by, stopped_by}
-use Rattle.cm_watch.specs.Guarding.{guard_by, guard_last, toggle_by, toggle_in}
-use Rattle.cm_watch.specs.Pasts.{Past}
-use Rattle.cm_watch.specs.Schedules.{blank_schedule, cause_by, schedule_after, schedule_in}
-use Rattle.cm_watch.specs.Signals.{boot_up_by, changes_by, budget_in, full_budget, news_in, rests_by, shown_by, since_by, spends, spent}
-use Rattle.cm_watch.specs.Signals.{state_heard_by, state_told_by}
-use Rattle.cm_watch.specs.Slaves.{asked_by, booted_by, booted_since, busy_by, heard_by, heard_last, held_by, is_asked_in}
-use Rattle.cm_watch.specs.Slaves.{is_busy_in, is_held_in, is_lost_given, is_tried_in, lost_by, tried_by}
-use Rattle.cm_watch.specs.Waking.{stands_by, stands_stopped}
+use Rattle.cm_watched.specs.Guarding.{guard_last, toggle_in}
+use Rattle.cm_watched.specs.Pasts.{Past}
+use Rattle.cm_watched.specs.Schedules.{blank_schedule, schedule_in}
+use Rattle.cm_watched.specs.Signals.{budget_in, full_budget, news_in}
+use Rattle.cm_watched.specs.Slaves.{booted_since, heard_last, is_asked_in}
+use Rattle.cm_watched.specs.Slaves.{is_busy_in, is_held_in, is_lost_given, is_tried_in}
+use Rattle.cm_watched.specs.Waking.{stands_stopped}
 use Rattle.cm_watch.specs.declared.course.Course.{Course}
-use Rattle.cm_watch.specs.declared.happening.Happening.{Happening}
-use Rattle.cm_watch.specs.declared.happening.Happening.TheVariants as happening
-use Rattle.cm_watch.specs.declared.happening.Moment.{Moment}
-use Rattle.cm_watch.specs.declared.happening.Moment.TheVariants as moment
-use Rattle.cm_watch.specs.declared.happening.Step.{Step}
-use Rattle.cm_watch.specs.declared.happening.Step.TheVariants as step
-use Rattle.cm_watch.specs.declared.schedule.Schedule.{Schedule}
-use Rattle.cm_watch.specs.declared.settings.Settings.{Settings}
-use Rattle.cm_watch.specs.declared.signals.Budget.{Budget}
-use Rattle.cm_watch.specs.declared.signals.News.{News}
-use Rattle.cm_watch.specs.declared.shown.Since.TheVariants as since
-use Rattle.cm_watch.specs.declared.slave.Slave.{Slave}
+use Rattle.cm_watched.specs.declared.happening.Happening.{Happening}
+use Rattle.cm_watched.specs.declared.happening.Happening.TheVariants as happening
+use Rattle.cm_watched.specs.declared.happening.Moment.{Moment}
+use Rattle.cm_watched.specs.declared.happening.Moment.TheVariants as moment
+use Rattle.cm_watched.specs.declared.happening.Step.{Step}
+use Rattle.cm_watched.specs.declared.happening.Step.TheVariants as step
+use Rattle.cm_watched.specs.declared.settings.Settings.{Settings}
+use Rattle.cm_watched.specs.declared.shown.Since.TheVariants as since
+use Rattle.cm_watched.specs.declared.slave.Slave.{Slave}
 
 -- ---- a slave
 
@@ -73,38 +69,6 @@ blank_slave = record {
   budget = full_budget;
   guarded = None;
   toggle = false;
-}
-
-abbrev pub news_after : Moment → ℕ → News → News
-news_after m i n = record {
-  boot_up = unwrap_or (boot_up_by m i) n.boot_up;
-  rests = unwrap_or (rests_by m i) n.rests;
-  heard = option_or (state_heard_by m i) n.heard;
-  told = option_or (state_told_by m i) n.told;
-  shown = shown_by m i n.shown;
-  since = since_by m i n.heard n.since;
-  changes = changes_by m i n.heard n.changes;
-}
-
-abbrev pub budget_after : ℕ → Moment → ℕ → Bool → Schedule → Budget → Budget
-budget_after t m i rests k b = if spends m rests k i then spent t b else b
-
--- what is kept of i after the moment m at the time t
-abbrev pub slave_after : Network → Settings → ℕ → Moment → ℕ → Slave → Slave
-slave_after net s t m i k = record {
-  heard = option_or (heard_by t m i) k.heard;
-  booted = unwrap_or (booted_by t m i) k.booted;
-  is_busy = unwrap_or (busy_by m i) k.is_busy;
-  is_held = unwrap_or (held_by m i) k.is_held;
-  is_lost = unwrap_or (lost_by m i) k.is_lost;
-  is_tried = unwrap_or (tried_by m i) k.is_tried;
-  is_asked = unwrap_or (asked_by m i) k.is_asked;
-  is_stopped = unwrap_or (stands_by net m i) k.is_stopped;
-  schedule = schedule_after net s t i (cause_by m i) k.schedule;
-  news = news_after m i k.news;
-  budget = budget_after t m i k.news.rests k.schedule k.budget;
-  guarded = option_or (guard_by t m i) k.guarded;
-  toggle = unwrap_or (toggle_by net m i) k.toggle;
 }
 
 -- ---- which slave a moment may change

@@ -1,12 +1,5 @@
-pub mod Pasts
-pub mod Slaves
-pub mod Waking
-pub mod Schedules
-pub mod Signals
 pub mod Course
 pub mod Ends
-pub mod Guarding
-pub mod Beats
 pub mod Steps
 pub mod ErrorControl
 pub mod Losses
@@ -14,14 +7,5 @@ pub mod Limits
 pub mod Causes
 pub mod Kept
 pub mod Watches
-pub mod InOrder
-pub mod Waiting
-pub mod Tried
 pub mod Telling
 pub mod Paces
-pub mod Limiting
-pub mod Echoes
-pub mod BusErrors
-pub mod Notices
-pub mod BootFaults
-pub mod Starts

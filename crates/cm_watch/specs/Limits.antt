@@ -3,15 +3,15 @@
 use Rattle.std.specs.Prelude.{◌≡◌, ℕ, ◌+◌, ◌≤◌, ◌<◌, ◌&&◌, ◌||◌, Bool, true, false, if◌then◌else◌, [], ◌∷◌, ◌++◌, Some, is_some}
 use Rattle.cm_history.specs.History.{begins_by, boots_by}
 use Rattle.cm_netlist.specs.Network.{Network, is_listed}
-use Rattle.cm_watch.specs.Pasts.{Past}
-use Rattle.cm_watch.specs.Schedules.{schedule_in}
-use Rattle.cm_watch.specs.Signals.{budget_in, is_allowed, is_boot_up_left, is_boot_up_told, news_in, news_of, rests_in, spends}
+use Rattle.cm_watched.specs.Pasts.{Past}
+use Rattle.cm_watched.specs.Schedules.{schedule_in}
+use Rattle.cm_watched.specs.Signals.{budget_in, is_allowed, is_boot_up_left, is_boot_up_told, news_in, news_of, rests_in, spends}
 use Rattle.cm_watch.specs.Steps.{is_to_be_booted, is_to_be_told, signal_of}
-use Rattle.cm_watch.specs.declared.happening.Happening.TheVariants as happening
-use Rattle.cm_watch.specs.declared.happening.Moment.{Moment}
-use Rattle.cm_watch.specs.declared.happening.Moment.TheVariants as moment
-use Rattle.cm_watch.specs.declared.happening.Step.TheVariants as step
-use Rattle.cm_watch.specs.declared.settings.Settings.{Settings}
+use Rattle.cm_watched.specs.declared.happening.Happening.TheVariants as happening
+use Rattle.cm_watched.specs.declared.happening.Moment.{Moment}
+use Rattle.cm_watched.specs.declared.happening.Moment.TheVariants as moment
+use Rattle.cm_watched.specs.declared.happening.Step.TheVariants as step
+use Rattle.cm_watched.specs.declared.settings.Settings.{Settings}
 
 -- each step in the past that i caused by itself was given when one was allowed
 abbrev pub AreLimited : Network → Settings → Past → ℕ → Type 0

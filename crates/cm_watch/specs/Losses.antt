@@ -2,12 +2,12 @@
 use Rattle.std.specs.Prelude.{◌≡◌, ℕ, false, Bool, [], ◌∷◌, ◌++◌}
 use Rattle.cm_history.specs.History.{boots}
 use Rattle.cm_netlist.specs.Network.{Network}
-use Rattle.cm_watch.specs.Pasts.{Past}
+use Rattle.cm_watched.specs.Pasts.{Past}
 use Rattle.cm_watch.specs.Steps.{is_late}
-use Rattle.cm_watch.specs.declared.happening.Happening.TheVariants as happening
-use Rattle.cm_watch.specs.declared.happening.Moment.{Moment}
-use Rattle.cm_watch.specs.declared.happening.Moment.TheVariants as moment
-use Rattle.cm_watch.specs.declared.happening.Step.TheVariants as step
+use Rattle.cm_watched.specs.declared.happening.Happening.TheVariants as happening
+use Rattle.cm_watched.specs.declared.happening.Moment.{Moment}
+use Rattle.cm_watched.specs.declared.happening.Moment.TheVariants as moment
+use Rattle.cm_watched.specs.declared.happening.Step.TheVariants as step
 
 -- a report that boots i
 abbrev pub is_boot_of : Moment → ℕ → Bool

@@ -1,6 +1,6 @@
 -- Which steps are given at a time, told from the past (own).
-use Rattle.std.specs.Prelude.{◌&&◌, ◌||◌, if◌then◌else◌, ◌-◌, ◌++◌, [], ◌∷◌, ℕ, Bool, false, not, List}
-use Rattle.std.specs.Prelude.{nat_lt, max, min, map, filter, Option, Some, None, is_some, unwrap_or}
+use Rattle.std.specs.Prelude.{◌&&◌, ◌||◌, if◌then◌else◌, ◌-◌, ◌++◌, [], ◌∷◌, ℕ, Bool, not, List}
+use Rattle.std.specs.Prelude.{nat_lt, min, map, filter, is_some, unwrap_or}
 use Rattle.cm_history.specs.History.{is_empty}
 use Rattle.cm_history.specs.Phases.{is_booting, is_ready}
 use Rattle.cm_history.specs.declared.phase.Phase.{Phase}
@@ -8,25 +8,18 @@ use Rattle.cm_netlist.specs.Network.{Network, is_listed}
 use Rattle.cm_nmt.specs.Listing.{node_ids}
 use Rattle.cm_watch.specs.Course.{is_end_given, is_over_given, is_stopped_in, phase_in, started_at}
 use Rattle.cm_watch.specs.Ends.{is_run_over}
-use Rattle.cm_watch.specs.Guarding.{most_silence_of}
-use Rattle.cm_watch.specs.Pasts.{Past}
-use Rattle.cm_watch.specs.Schedules.{is_due, is_own, schedule_in}
-use Rattle.cm_watch.specs.Signals.{budget_in, is_allowed, is_boot_up_left, is_urgent, news_in, news_of, pending_of}
-use Rattle.cm_watch.specs.Waking.{stands_stopped}
-use Rattle.cm_watch.specs.Slaves.{booted_since, heard_last, is_asked_in, is_busy_in, is_held_in, is_lost_given, is_tried_in}
-use Rattle.cm_watch.specs.declared.happening.Moment.TheVariants as moment
-use Rattle.cm_watch.specs.declared.happening.Step.{Step}
-use Rattle.cm_watch.specs.declared.happening.Step.TheVariants as step
-use Rattle.cm_watch.specs.declared.schedule.Schedule.{Schedule}
-use Rattle.cm_watch.specs.declared.settings.Settings.{Settings}
-use Rattle.cm_watch.specs.declared.signals.Budget.{Budget}
+use Rattle.cm_watched.specs.Guarding.{most_silence_of}
+use Rattle.cm_watched.specs.Pasts.{Past}
+use Rattle.cm_watched.specs.Schedules.{schedule_in}
+use Rattle.cm_watched.specs.Signals.{budget_in, is_allowed, is_boot_up_left, is_urgent, news_in, news_of, pending_of}
+use Rattle.cm_watched.specs.Waking.{stands_stopped}
+use Rattle.cm_watched.specs.Slaves.{booted_since, heard_last, is_asked_in, is_busy_in, is_free, is_held_in, is_lost_given, is_overdue, is_tried_in}
+use Rattle.cm_watched.specs.declared.happening.Moment.TheVariants as moment
+use Rattle.cm_watched.specs.declared.happening.Step.{Step}
+use Rattle.cm_watched.specs.declared.happening.Step.TheVariants as step
+use Rattle.cm_watched.specs.declared.settings.Settings.{Settings}
 
 -- ---- a slave that is lost
-
--- what is booted since some time, and was heard last at another, wasn't heard within h ms
-abbrev pub is_overdue : ℕ → ℕ → Option ℕ → Option ℕ → Bool
-is_overdue h now heard None = false
-is_overdue h now heard (Some since) = nat_lt 0 h && nat_lt h (now - max (unwrap_or heard 0) since)
 
 -- i is booted and watched, neither an error control message of it nor the report that booted it came in time, and it wasn't
 -- given as lost since it was booted
@@ -39,10 +32,6 @@ is_late net past now i =
 -- the manager takes a boot: the network is started, and wasn't halted
 abbrev pub takes_boots : Phase → Bool
 takes_boots p = is_booting p || is_ready p
-
--- the slave itself stands in the way: it isn't due, a worker has it, an operator holds it, or it has caused too much
-abbrev pub is_free : ℕ → Schedule → Bool → Bool → Budget → Bool
-is_free now k busy held b = is_due now k.due && (not busy && (not held && (not (is_own k.due) || is_allowed now b)))
 
 -- i is to be booted: the manager takes boots, all aren't stopped, or the operator has asked for it, no boot-up message of i waits to be
 -- told, and i is free for it

@@ -7,14 +7,14 @@ use Rattle.cm_history.specs.declared.call.Call.TheVariants as call
 use Rattle.cm_history.specs.declared.call.Reply.{Reply}
 use Rattle.cm_netlist.specs.Network.{Network}
 use Rattle.cm_watch.specs.Course.{is_stopped_in, phase_in}
-use Rattle.cm_watch.specs.Guarding.{most_silence_of}
-use Rattle.cm_watch.specs.Pasts.{Past}
-use Rattle.cm_watch.specs.Schedules.{schedule_in}
-use Rattle.cm_watch.specs.Slaves.{booted_since, is_held_in}
-use Rattle.cm_watch.specs.declared.happening.Happening.{Happening}
-use Rattle.cm_watch.specs.declared.happening.Happening.TheVariants as happening
-use Rattle.cm_watch.specs.declared.happening.Moment.TheVariants as moment
-use Rattle.cm_watch.specs.declared.settings.Settings.{Settings}
+use Rattle.cm_watched.specs.Guarding.{most_silence_of}
+use Rattle.cm_watched.specs.Pasts.{Past}
+use Rattle.cm_watched.specs.Schedules.{schedule_in}
+use Rattle.cm_watched.specs.Slaves.{booted_since, is_held_in}
+use Rattle.cm_watched.specs.declared.happening.Happening.{Happening}
+use Rattle.cm_watched.specs.declared.happening.Happening.TheVariants as happening
+use Rattle.cm_watched.specs.declared.happening.Moment.TheVariants as moment
+use Rattle.cm_watched.specs.declared.settings.Settings.{Settings}
 use Rattle.cm_watch.specs.declared.telling.Told.{Told}
 
 -- what holds now, and didn't before

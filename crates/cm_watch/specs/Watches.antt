@@ -7,15 +7,16 @@ use Rattle.cm_netlist.specs.Network.{Network, is_listed, listing}
 use Rattle.cm_nmt.specs.Listing.{is_mandatory, node_ids}
 use Rattle.cm_watch.specs.Ends.{ends_in, has_come}
 use Rattle.cm_watch.specs.Kept.{blank_slave, course_of, slave_of}
-use Rattle.cm_watch.specs.Pasts.{Past}
-use Rattle.cm_watch.specs.Signals.{is_allowed, is_urgent, news_of, pending_of}
-use Rattle.cm_watch.specs.Beats.{beat_byte, is_beat_due}
-use Rattle.cm_watch.specs.Guarding.{counts_for, guard_of, is_asked_again, most_silence_of}
-use Rattle.cm_watch.specs.Steps.{is_free, is_overdue, step_if, takes_boots}
-use Rattle.cm_watch.specs.declared.happening.Step.{Step}
-use Rattle.cm_watch.specs.declared.happening.Step.TheVariants as step
-use Rattle.cm_watch.specs.declared.settings.Settings.{Settings}
-use Rattle.cm_watch.specs.declared.slave.Slave.{Slave}
+use Rattle.cm_watched.specs.Pasts.{Past}
+use Rattle.cm_watched.specs.Signals.{is_allowed, is_urgent, news_of, pending_of}
+use Rattle.cm_watched.specs.Beats.{beat_byte, is_beat_due}
+use Rattle.cm_watched.specs.Guarding.{counts_for, guard_of, is_asked_again, most_silence_of}
+use Rattle.cm_watched.specs.Slaves.{is_free, is_overdue}
+use Rattle.cm_watch.specs.Steps.{step_if, takes_boots}
+use Rattle.cm_watched.specs.declared.happening.Step.{Step}
+use Rattle.cm_watched.specs.declared.happening.Step.TheVariants as step
+use Rattle.cm_watched.specs.declared.settings.Settings.{Settings}
+use Rattle.cm_watched.specs.declared.slave.Slave.{Slave}
 use Rattle.cm_watch.specs.declared.watch.Kind.{Kind}
 use Rattle.cm_watch.specs.declared.watch.Kind.TheVariants as kind
 use Rattle.cm_watch.specs.declared.watch.Pending.{Pending}

@@ -7,12 +7,10 @@ ghost use Rattle.cm_watch.specs.Course.{end_by, over_by, started_by, stopped_by,
 ghost use Rattle.cm_watch.specs.Kept.{course_after, own_behind, phase_behind};
 ghost use Rattle.cm_watch.specs.Steps.{takes_boots};
 
-use crate::beats::beat_by;
-use crate::happening::{Happening, Moment, Step};
-use crate::slave::is_start;
 use cm_history::{ALL_NODES, Call, Entry, Orders, Phase, Reply};
 use cm_netlist::Network;
 use cm_nmt::{Command, NmtState, NodeId, Status};
+use cm_watched::{Happening, Moment, Step, beat_by, is_start};
 
 /// What is kept of the network as a whole.
 #[derive(Clone, Copy)]

@@ -3,7 +3,7 @@
 ghost use Rattle.std.specs.Prelude.{◌≡◌};
 ghost use Rattle.cm_watch.specs.Ends.{ends_by, has_come};
 
-use crate::happening::{Happening, Moment, Step};
+use cm_watched::{Happening, Moment, Step};
 
 /// When the run is to end, where it was to end then before the moment.
 pub(crate) fn ends_by(moment: &Moment, before: Option<u64>) -> Option<u64>

@@ -2,19 +2,19 @@
 
 ghost use Rattle.std.specs.Prelude.{◌≡◌, ◌<◌, ◌^◌, ◌++◌, ℕ, IfOk, OnErr};
 ghost use Rattle.cm_watch.specs.ErrorControl.{error_control_at};
-ghost use Rattle.cm_watch.specs.Guarding.{heard_at};
+ghost use Rattle.cm_watched.specs.Guarding.{heard_at};
 ghost use Rattle.cm_watch.specs.Limits.{AreLimited};
-ghost use Rattle.cm_watch.specs.Pasts.{Past};
+ghost use Rattle.cm_watched.specs.Pasts.{Past};
 ghost use Rattle.cm_watch.specs.Steps.{given};
 ghost use Rattle.cm_watch.specs.Watches.{Watches, counts_by, error_control_by, is_guard_due_by};
-ghost use Rattle.cm_watch.specs.declared.settings.Settings.{Settings as WatchSettings};
+ghost use Rattle.cm_watched.specs.declared.settings.Settings.{Settings as WatchSettings};
 
-use crate::beats::{beat_byte, is_beat_due};
-use crate::guarding::{counts_for, guard_of, is_asked_again};
-use crate::happening::{Happening, Moment, Step};
 use crate::watch::{Kind, Watch};
 use cm_netlist::Network;
 use cm_nmt::NodeId;
+use cm_watched::{
+    Happening, Moment, Step, beat_byte, counts_for, guard_of, is_asked_again, is_beat_due,
+};
 use std::alloc::{AllocError, Global};
 
 impl Watch {

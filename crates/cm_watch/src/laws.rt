@@ -1,6 +1,5 @@
-ghost use Rattle.cm_watch.specs.Beats.{IsAtMultiples};
+ghost use Rattle.cm_watched.specs.Beats.{IsAtMultiples};
 ghost use Rattle.cm_watch.specs.Causes.{IsNotForgotten};
-ghost use Rattle.cm_watch.specs.Limiting.{IsTenASecond};
 ghost use Rattle.cm_watch.specs.Limits.{IsEndedOnce, IsOneInTenSeconds, IsToldAtOnce, IsToldInTime};
 ghost use Rattle.cm_watch.specs.Losses.{IsLostOnce};
 
@@ -41,9 +40,4 @@ pub fn none_forgotten()
 /// where a turn comes late there is one for all that it has passed.
 pub fn beats_at_multiples()
     ensures { IsAtMultiples }
-{}
-
-/// Of lines each of which was told when one might be, at most ten are in any second.
-pub fn ten_a_second()
-    ensures { IsTenASecond }
 {}

@@ -3,11 +3,11 @@
 ghost use Rattle.std.specs.Prelude.{◌≡◌, is_some};
 ghost use Rattle.cm_netlist.specs.Network.{Network as NetworkList};
 ghost use Rattle.cm_watch.specs.Course.{is_stopped_in, phase_in};
-ghost use Rattle.cm_watch.specs.Pasts.{Past};
-ghost use Rattle.cm_watch.specs.Signals.{state_heard};
-ghost use Rattle.cm_watch.specs.Slaves.{booted_since, heard_last, is_held_in};
+ghost use Rattle.cm_watched.specs.Pasts.{Past};
+ghost use Rattle.cm_watched.specs.Signals.{state_heard};
+ghost use Rattle.cm_watched.specs.Slaves.{booted_since, heard_last, is_held_in};
 ghost use Rattle.cm_watch.specs.Watches.{Watches};
-ghost use Rattle.cm_watch.specs.declared.settings.Settings.{Settings as WatchSettings};
+ghost use Rattle.cm_watched.specs.declared.settings.Settings.{Settings as WatchSettings};
 
 use crate::watch::Watch;
 use cm_history::Phase;

@@ -3,15 +3,13 @@
 ghost use Rattle.std.specs.Prelude.{◌≡◌, ◌<◌, ◌^◌, ◌∷◌, Some};
 ghost use Rattle.cm_history.specs.Orders.{is_node};
 ghost use Rattle.cm_watch.specs.Kept.{about, about_call, about_happening, about_step, if_only, named_by, node_at, reaches_only};
-ghost use Rattle.cm_watch.specs.Pasts.{Past};
+ghost use Rattle.cm_watched.specs.Pasts.{Past};
 ghost use Rattle.cm_watch.specs.Watches.{AreSlaves};
 
-use crate::happening::{Happening, Moment, Step};
-use crate::settings::Settings;
-use crate::slave::Slave;
 use cm_history::{Call, Orders};
 use cm_netlist::Network;
 use cm_nmt::{NodeId, Target};
+use cm_watched::{Happening, Moment, Settings, Slave, Step};
 
 /// The node of a sub-index of object 1F82h; `None` at 128, which stands for all nodes.
 fn node_at(target: u8) -> Option<NodeId>

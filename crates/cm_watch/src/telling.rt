@@ -1,11 +1,10 @@
 ghost use Rattle.std.specs.Prelude.{◌≡◌};
 ghost use Rattle.cm_watch.specs.Telling.{back_by, back_while, becomes, unwatched_by};
 
-use crate::guarding::most_silence_of;
-use crate::happening::Happening;
 use cm_history::{Call, Reply};
 use cm_netlist::Network;
 use cm_nmt::NodeId;
+use cm_watched::{Happening, most_silence_of};
 
 /// What an operator is told behind a happening, beside what it is.
 #[derive(Clone, Copy)]

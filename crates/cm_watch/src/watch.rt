@@ -1,34 +1,29 @@
-ghost use Rattle.std.specs.Prelude.{◌≡◌, ◌<◌, ◌^◌, ◌&&◌, ℕ, List, [], ◌∷◌, ◌++◌, map, filter, IfOk, OnOk, OnErr};
-ghost use Rattle.cm_history.specs.History.{is_empty};
-ghost use Rattle.cm_history.specs.Phases.{is_booting};
+ghost use Rattle.std.specs.Prelude.{◌≡◌, ◌<◌, ◌^◌, ℕ, List, [], ◌∷◌, ◌++◌, map, filter, IfOk, OnOk, OnErr};
 ghost use Rattle.cm_netlist.specs.Network.{Network as NetworkList};
 ghost use Rattle.cm_nmt.specs.Listing.{node_ids};
 ghost use Rattle.cm_watch.specs.Kept.{course_of};
 ghost use Rattle.cm_watch.specs.Limits.{AreLimited};
-ghost use Rattle.cm_watch.specs.Pasts.{Past};
+ghost use Rattle.cm_watched.specs.Pasts.{Past};
 ghost use Rattle.cm_watch.specs.Steps.{given, steps_at};
 ghost use Rattle.cm_watch.specs.Telling.{given_up_of, told_of};
-ghost use Rattle.cm_watch.specs.Watches.{Watches, boot_by, elapsed_by, is_end_by, is_given_by, is_given_up_by, is_late_by};
-ghost use Rattle.cm_watch.specs.Watches.{is_left_out_by, is_pending_by, is_run_over_by, is_time_over_by, is_to_be_booted_by};
+ghost use Rattle.cm_watch.specs.Watches.{Watches, boot_by, is_given_by, is_given_up_by, is_late_by};
+ghost use Rattle.cm_watch.specs.Watches.{is_left_out_by, is_run_over_by, is_to_be_booted_by};
 ghost use Rattle.cm_watch.specs.Watches.{is_to_be_told_by, kept_at, left_out_by, signal_by, step_by, steps_by};
-ghost use Rattle.cm_watch.specs.declared.happening.Moment.TheVariants.{Gave, Happened};
-ghost use Rattle.cm_watch.specs.declared.happening.Step.TheVariants as step;
-ghost use Rattle.cm_watch.specs.declared.settings.Settings.{Settings as WatchSettings};
+ghost use Rattle.cm_watched.specs.declared.happening.Moment.TheVariants.{Gave, Happened};
+ghost use Rattle.cm_watched.specs.declared.happening.Step.TheVariants as step;
+ghost use Rattle.cm_watched.specs.declared.settings.Settings.{Settings as WatchSettings};
 
-use crate::course::{Course, is_mandatory};
+use crate::course::Course;
 use crate::ends::{ends_by, has_come};
-use crate::guarding::most_silence_of;
-use crate::happening::{Happening, Moment, Step};
-use crate::schedule::{Again, Schedule};
-use crate::settings::Settings;
-use crate::shown::Since;
-use crate::signals::{Budget, MOST_AT_ONCE, News};
-use crate::slave::{Slave, is_overdue};
 use crate::taking::take_all;
 use crate::telling::{Told, back_while, becomes, unwatched_by};
 use cm_history::Phase;
 use cm_netlist::Network;
 use cm_nmt::{NmtState, NodeId};
+use cm_watched::{
+    Again, Budget, Happening, MOST_AT_ONCE, Moment, News, Schedule, Settings, Since, Slave, Step,
+    is_overdue, most_silence_of,
+};
 use std::alloc::{AllocError, Global};
 
 /// What a live run does next, told from what has happened and the network list.
@@ -39,7 +34,7 @@ pub struct Watch {
     /// When the run is to end, in ms since it began.
     ends: Option<u64>,
     /// Of each node, that of node i at place i.
-    slaves: [Slave; 128],
+    pub(crate) slaves: [Slave; 128],
 }
 
 /// What a step of a node is.
@@ -54,7 +49,7 @@ pub(crate) enum Kind {
 
 /// What a listed slave may still be.
 #[derive(Clone, Copy)]
-enum Pending {
+pub(crate) enum Pending {
     /// Mandatory, and not booted.
     Open,
     /// Not tried.
@@ -260,69 +255,6 @@ impl Watch {
             }
         }
         Ok(())
-    }
-
-    /// Whether the node is a slave that is this still.
-    fn is_pending(&self, network: &Network, pending: Pending, id: NodeId) -> bool
-        ensures { result ≡ is_pending_by self.now.slaves network.now pending id }
-    {
-        let slave = self.slave(id);
-        match pending {
-            Pending::Open => is_mandatory(network, id) && slave.booted.is_none(),
-            Pending::Untried => network.listed(id) && !slave.is_tried,
-        }
-    }
-
-    /// Whether no slave is this any more.
-    fn none_pending(&self, network: &Network, pending: Pending) -> bool
-        ensures { result
-            ≡ is_empty (filter (is_pending_by self.now.slaves network.now pending) node_ids) }
-    {
-        for number in 1..128u8 {
-            if let Some(id) = NodeId::new(number) {
-                if self.is_pending(network, pending, id) {
-                    return false;
-                }
-            }
-        }
-        true
-    }
-
-    /// Whether the mandatory slaves are being booted, and none is open any more: in another phase it doesn't matter.
-    fn is_none_open(&self, network: &Network) -> bool
-        ensures { result ≡ (is_booting self.now.course.phase
-            && is_empty (filter (is_pending_by self.now.slaves network.now Pending.Open) node_ids)) }
-    {
-        self.course.phase.is_booting() && self.none_pending(network, Pending::Open)
-    }
-
-    /// The ms since the network was started.
-    fn elapsed(&self, now: u64) -> u32
-        ensures { result ≡ elapsed_by self.now now }
-    {
-        let started = self.course.started.unwrap_or(0);
-        now.saturating_sub(started).min(0xFFFF_FFFF) as u32
-    }
-
-    /// Whether the time for the boot of the mandatory slaves is over now.
-    fn is_time_over(&self, network: &Network, now: u64) -> bool
-        ensures { result ≡ is_time_over_by self.now network.now now }
-    {
-        let most = network.boot_time();
-        let started = self.course.started.unwrap_or(0);
-        self.course.phase.is_booting()
-            && !self.course.is_over_given
-            && 0 < most
-            && u64::from(most) < now.saturating_sub(started)
-    }
-
-    /// Whether the network is ready, or all slaves were tried, and that wasn't given yet.
-    fn is_end(&self, network: &Network) -> bool
-        ensures { result ≡ is_end_by self.now network.now }
-    {
-        self.course.takes_boots()
-            && !self.course.is_end_given
-            && (self.course.phase.is_ready() || self.none_pending(network, Pending::Untried))
     }
 
     /// Whether the run ends now.

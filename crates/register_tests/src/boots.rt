@@ -1,13 +1,13 @@
-//! Networks of simulated slaves that workers boot: all of them, again what was lost, with a wire that is
-//! full, and with a history that is full.
+//! Networks of simulated slaves that workers boot: with a wire that is full, with a history that is full, and again what was
+//! lost.
 
 ghost use Rattle.cm_register.specs.Naming.{Names};
 
 use crate::boot_support::{agreeing, outcome, start, with_operator};
 use crate::support::{close, frame, is_made, named, network, node, open, sure};
-use cm_history::{Call, Phase, Reply};
-use cm_nmt::{Frame, NmtState, Status};
-use cm_register::{CallFault, Closed, Opened, Register, RunName, Seat};
+use cm_history::{Call, CallFault, Phase, Reply};
+use cm_nmt::{Frame, Status};
+use cm_register::{Opened, Register, RunName, Seat};
 use cm_run::{Booted, Last, Outcome, SimBus, SimWire, boot_all};
 use std::alloc::Global;
 use std::marker::Brand;
@@ -18,15 +18,7 @@ use std::thread::Threads;
 /// The status with which a slave was booted.
 const BOOTED: Last = Last::Status(Status::Ok);
 
-/// A call of the operator behind the boot, its place and its reply.
-#[derive(Clone, Copy)]
-struct Then {
-    call: Call,
-    position: u32,
-    reply: Reply,
-}
-
-/// Boots every slave by the workers of these seats.
+/// Boots every slave by the workers of these seats, which come back in their order.
 fn boot<K: RunName + Send + Sync, R: Wait + Threads + Abort + Send + Sync>(
     rt: &R,
     alloc: Global,
@@ -36,75 +28,38 @@ fn boot<K: RunName + Send + Sync, R: Wait + Threads + Abort + Send + Sync>(
 ) -> Booted<SimBus, K> {
     let buses = agreeing(rt, alloc, register.network(), seats.len());
     let booted = boot_all(rt, alloc, register, seats, buses, attempts);
-    booted.ok().expect(rt, "all booted")
-}
-
-/// Asserts that the seats are those of the workers, in their order.
-fn are_in_order<K: RunName>(rt: &impl Abort, seats: &[Seat<K>]) {
-    for (place, seat) in seats.iter().enumerate() {
+    let booted = booted.ok().expect(rt, "all booted");
+    for (place, seat) in booted.seats.iter().enumerate() {
         sure(rt, usize::from(seat.number()) == place + 1);
     }
+    booted
 }
 
-/// Boots every slave, with these outcomes; the seats come back in their order.
-fn boot_with<K: RunName + Send + Sync, R: Wait + Threads + Abort + Send + Sync>(
-    rt: &R,
-    alloc: Global,
-    register: &Register<SimWire, K>,
-    seats: Vec<Seat<K>>,
-    attempts: u8,
-    outcomes: &[Outcome],
-) -> Vec<Seat<K>> {
-    let booted = boot(rt, alloc, register, seats, attempts);
-    sure(rt, booted.outcomes.as_slice() == outcomes);
-    are_in_order(rt, booted.seats.as_slice());
-    booted.seats
+/// How much room there is in a history and on a wire, and what comes of the boot of slaves 2, 3 and 4.
+#[derive(Clone, Copy)]
+struct Story {
+    limit: u32,
+    room: u32,
+    outcomes: [Outcome; 3],
+    entries: usize,
+    frames: &'static [[u8; 2]],
+    phase: Phase,
+    /// Whether each slave keeps a session.
+    is_open: bool,
 }
 
-/// Makes the operator's call behind the boot, if there is one.
-fn call_then<K: RunName, R: Wait + Abort>(
-    rt: &R,
-    register: &Register<SimWire, K>,
-    operator: &mut Seat<K>,
-    then: Option<Then>,
-) {
-    if let Some(then) = then {
-        let made = register.call(rt, operator, then.call);
-        is_made(rt, made, then.position, then.reply);
-    }
-}
-
-/// The operator starts the network, the workers boot it, with these outcomes; the seats come back in
-/// their order, and the operator calls once more, if it is to.
+/// The operator starts the network, and a worker boots it, with these outcomes; all seats come back.
 fn start_and_boot<K: RunName + Send + Sync, R: Wait + Threads + Abort + Send + Sync>(
     rt: &R,
     alloc: Global,
     register: &Register<SimWire, K>,
     mut seats: Vec<Seat<K>>,
-    attempts: u8,
     outcomes: &[Outcome],
-    then: Option<Then>,
 ) -> Vec<Seat<K>> {
-    let mut operator = start(rt, register, &mut seats);
-    let seats = boot_with(rt, alloc, register, seats, attempts, outcomes);
-    call_then(rt, register, &mut operator, then);
-    with_operator(rt, seats, operator)
-}
-
-/// The same, and the register closes with all seats.
-fn boots<K: RunName + Send + Sync, R: Wait + Threads + Abort + Send + Sync>(
-    rt: &R,
-    alloc: Global,
-    opened: Opened<SimWire>,
-    attempts: u8,
-    outcomes: &[Outcome],
-    then: Option<Then>,
-) -> Closed<SimWire>
-    requires { Names K.RunName opened }
-{
-    let (register, seats) = named::<K>(rt, opened);
-    let seats = start_and_boot(rt, alloc, &register, seats, attempts, outcomes, then);
-    close(rt, register, seats)
+    let operator = start(rt, register, &mut seats);
+    let booted = boot(rt, alloc, register, seats, 3);
+    sure(rt, booted.outcomes.as_slice() == outcomes);
+    with_operator(rt, booted.seats, operator)
 }
 
 /// Asserts that these frames were sent.
@@ -115,116 +70,64 @@ fn were_sent(rt: &impl Abort, sent: &[Frame], frames: &[[u8; 2]]) {
     }
 }
 
-/// Asserts how many entries there are, which frames were sent, and how the network ended.
-fn leaves(
-    rt: &impl Abort,
-    closed: &Closed<SimWire>,
-    entries: usize,
-    frames: &[[u8; 2]],
-    phase: Phase,
-    own: NmtState,
-) {
-    sure(rt, closed.history.len() == entries);
-    were_sent(rt, closed.wire.sent(), frames);
-    sure(rt, closed.manager.phase() == phase);
-    sure(rt, closed.manager.own() == own);
-}
-
-#[test]
-fn two_workers_boot_two_slaves(rt: HostRuntime) {
-    let net = network(&rt, rt.alloc(), 127, &[(1, 0x0D), (2, 0x0D)]);
-    let opened = open(&rt, rt.alloc(), &net, 3, 20, 10);
-    let outcomes = [outcome(&rt, 1, 1, BOOTED), outcome(&rt, 2, 1, BOOTED)];
-    let closed = boots::<Brand, _>(&rt, rt.alloc(), opened, 2, &outcomes, None);
-    sure(&rt, closed.history.len() == 5);
-}
-
-/// Slaves at each node but the manager's.
-fn all_slaves(rt: &impl Abort, alloc: Global) -> Vec<(u8, u32)> {
-    let mut slaves = Vec::new(alloc);
-    for number in 1..127 {
-        slaves.push((number, 0x0D)).ok().expect(rt, "memory");
+/// The same, and what the register leaves.
+fn ends<K: RunName + Send + Sync, R: Wait + Threads + Abort + Send + Sync>(
+    rt: &R,
+    alloc: Global,
+    opened: Opened<SimWire>,
+    story: &Story,
+)
+    requires { Names K.RunName opened }
+{
+    let (register, seats) = named::<K>(rt, opened);
+    let seats = start_and_boot(rt, alloc, &register, seats, &story.outcomes);
+    let closed = close(rt, register, seats);
+    sure(rt, closed.history.len() == story.entries);
+    were_sent(rt, closed.wire.sent(), story.frames);
+    sure(rt, closed.manager.phase() == story.phase);
+    for number in 2..5 {
+        let session = closed.manager.session(node(rt, number));
+        sure(rt, session.is_some() == story.is_open);
     }
-    slaves
 }
 
-/// What a boot of all of them comes to.
-fn all_booted(rt: &impl Abort, alloc: Global) -> Vec<Outcome> {
-    let mut outcomes = Vec::new(alloc);
-    for number in 1..127 {
-        let booted = outcome(rt, number, 1, BOOTED);
-        outcomes.push(booted).ok().expect(rt, "memory");
-    }
-    outcomes
-}
-
-/// Asserts what such a boot leaves.
-fn has_booted_all(rt: &impl Abort, closed: &Closed<SimWire>) {
-    sure(rt, closed.history.len() == 253);
-    sure(rt, closed.wire.sent().len() == 127);
-    sure(rt, closed.manager.phase() == Phase::Ready);
-    sure(rt, closed.manager.own() == NmtState::Operational);
-}
-
-/// A history with room for more entries than a journal of version 1.
 #[test]
-fn four_workers_boot_126_slaves(rt: HostRuntime) {
-    let net = network(&rt, rt.alloc(), 127, all_slaves(&rt, rt.alloc()).as_slice());
-    let opened = open(&rt, rt.alloc(), &net, 5, 70_000, 200);
-    let outcomes = all_booted(&rt, rt.alloc());
-    let closed = boots::<Brand, _>(&rt, rt.alloc(), opened, 1, outcomes.as_slice(), None);
-    has_booted_all(&rt, &closed);
-}
-
-/// The start needs all the room of the wire; no slave can be started, and each keeps its session.
-#[test]
-fn a_full_wire_ends_each_round(rt: HostRuntime) {
-    let net = network(&rt, rt.alloc(), 1, &[(2, 0x05), (3, 0x15), (4, 0x05)]);
-    let opened = open(&rt, rt.alloc(), &net, 2, 20, 2);
-    let full = Last::Fault(CallFault::WireFull);
-    let outcomes = [
-        outcome(&rt, 2, 1, full),
-        outcome(&rt, 3, 1, full),
-        outcome(&rt, 4, 1, full),
-    ];
-    let busy = Then {
-        call: Call::Begin(node(&rt, 2)),
-        position: 5,
-        reply: Reply::Refused(5),
+fn a_full_wire_or_history_ends_each_round(rt: HostRuntime) {
+    let unsent = Last::Fault(CallFault::WireFull);
+    let unkept = Last::Fault(CallFault::JournalFull);
+    // the start needs all the room of the wire; no slave can be started, and each keeps its session
+    let wire = Story {
+        limit: 20,
+        room: 2,
+        outcomes: [
+            outcome(&rt, 2, 1, unsent),
+            outcome(&rt, 3, 1, unsent),
+            outcome(&rt, 4, 1, unsent),
+        ],
+        entries: 4,
+        frames: &[[0x82, 2], [0x82, 4]],
+        phase: Phase::Booting,
+        is_open: true,
     };
-    let closed = boots::<Brand, _>(&rt, rt.alloc(), opened, 3, &outcomes, Some(busy));
-    let frames = [[0x82, 2], [0x82, 4]];
-    leaves(
-        &rt,
-        &closed,
-        5,
-        &frames,
-        Phase::Booting,
-        NmtState::PreOperational,
-    );
-}
-
-/// The history has room for the start and the first boot.
-#[test]
-fn a_full_history_ends_each_round(rt: HostRuntime) {
-    let net = network(&rt, rt.alloc(), 1, &[(2, 0x05), (3, 0x15), (4, 0x05)]);
-    let opened = open(&rt, rt.alloc(), &net, 2, 3, 8);
-    let full = Last::Fault(CallFault::JournalFull);
-    let outcomes = [
-        outcome(&rt, 2, 1, BOOTED),
-        outcome(&rt, 3, 1, full),
-        outcome(&rt, 4, 1, full),
-    ];
-    let closed = boots::<Brand, _>(&rt, rt.alloc(), opened, 3, &outcomes, None);
-    let frames = [[0x82, 2], [0x82, 4], [0x01, 2]];
-    leaves(
-        &rt,
-        &closed,
-        3,
-        &frames,
-        Phase::Ready,
-        NmtState::Operational,
-    );
+    // the history has room for the start and the first boot
+    let history = Story {
+        limit: 3,
+        room: 8,
+        outcomes: [
+            outcome(&rt, 2, 1, BOOTED),
+            outcome(&rt, 3, 1, unkept),
+            outcome(&rt, 4, 1, unkept),
+        ],
+        entries: 3,
+        frames: &[[0x82, 2], [0x82, 4], [0x01, 2]],
+        phase: Phase::Ready,
+        is_open: false,
+    };
+    for story in [wire, history].iter() {
+        let net = network(&rt, rt.alloc(), 1, &[(2, 0x05), (3, 0x15), (4, 0x05)]);
+        let opened = open(&rt, rt.alloc(), &net, 2, story.limit, story.room);
+        ends::<Brand, _>(&rt, rt.alloc(), opened, story);
+    }
 }
 
 /// Slave 1 is lost, by call 6.
@@ -269,6 +172,7 @@ fn boot_twice<K: RunName + Send + Sync, R: Wait + Threads + Abort + Send + Sync>
     with_operator(rt, seats, operator)
 }
 
+/// The same, and the register closes.
 fn boots_again<K: RunName + Send + Sync, R: Wait + Threads + Abort + Send + Sync>(
     rt: &R,
     alloc: Global,

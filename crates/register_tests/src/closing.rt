@@ -5,8 +5,8 @@ ghost use Rattle.cm_register.specs.Naming.{Names};
 use crate::support::{
     close, entry, frame, is_made, is_refused, lacks_seats, named, network, open, sees, sure,
 };
-use cm_history::{Call, Orders, Reply};
-use cm_register::{CallFault, Closed, Opened, Register, RunName, Seat, SeatList};
+use cm_history::{Call, CallFault, Orders, Reply};
+use cm_register::{Closed, Opened, Register, RunName, Seat, SeatList};
 use cm_run::SimWire;
 use std::marker::Brand;
 use std::process::Abort;

@@ -2,6 +2,7 @@
 
 ghost use Rattle.cm_register.specs.Naming.{Names};
 
+use crate::boot_support::reaches;
 use crate::support::{close, network, stop_the_slave, sure};
 use cm_nmt::Frame;
 use cm_register::{Opened, Register, RunName, Seat, Seen, Wire};
@@ -12,9 +13,6 @@ use std::sync::Wait;
 use std::sync::atomic::{AtomicUsize, Ordering};
 use std::thread;
 use std::thread::Threads;
-
-/// How many turns the frame is held at most.
-const TURNS: u32 = 1_000_000;
 
 /// How many seats read; one more calls.
 const READERS: usize = 16;
@@ -33,17 +31,6 @@ struct HoldingWire<'a> {
     counts: &'a Counts,
     /// Whether all had read while the frame was held.
     were_read: bool,
-}
-
-/// Whether the count comes to this many in time.
-fn reaches(count: &AtomicUsize, least: usize) -> bool {
-    for _ in 0..TURNS {
-        if count.load(Ordering::SeqCst) >= least {
-            return true;
-        }
-        thread::yield_now();
-    }
-    false
 }
 
 impl<'a> Wire for HoldingWire<'a> {

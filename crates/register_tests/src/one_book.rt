@@ -3,10 +3,10 @@
 ghost use Rattle.cm_register.specs.Naming.{Names};
 
 use crate::support::{answers, entry, frame, is_made, is_refused, network, node, sure};
-use cm_history::{Call, Entry, Orders, Phase, Reply};
+use cm_history::{Call, CallFault, Entry, Orders, Phase, Reply};
 use cm_netlist::Network;
 use cm_nmt::{Frame, NmtState, Status};
-use cm_register::{Book, CallFault, CloseKind, Opened, RunName, Seat};
+use cm_register::{Book, CloseKind, Opened, RunName, Seat};
 use cm_run::SimWire;
 use std::alloc::Global;
 use std::marker::Brand;

@@ -3,8 +3,8 @@
 ghost use Rattle.cm_register.specs.Naming.{Names};
 
 use crate::support::{close, is_made, is_refused, named, network, open, sees, sure};
-use cm_history::{Call, Reply};
-use cm_register::{CallFault, Closed, Opened, Register, RunName, Seat};
+use cm_history::{Call, CallFault, Reply};
+use cm_register::{Closed, Opened, Register, RunName, Seat};
 use cm_run::SimWire;
 use std::marker::Brand;
 use std::process::Abort;

@@ -69,10 +69,7 @@ fn has_room(rt: &impl Abort, alloc: Global, room: u32) {
 
 #[test]
 fn a_wire_has_the_room_that_is_asked_for(rt: HostRuntime) {
-    let rooms = [
-        0, 1, 128, 4_096, 65_536, 99_999, 100_000, 100_001, 1_048_576, 2_097_152,
-    ];
-    for room in rooms.iter() {
+    for room in [0, 1, 4_096, 100_001, 2_097_152].iter() {
         has_room(&rt, rt.alloc(), *room);
     }
 }

@@ -2,9 +2,9 @@
 
 ghost use Rattle.cm_register.specs.Naming.{Names};
 
-use crate::support::{close, is_made, named, network, open, sure};
-use cm_history::{Call, Reply};
-use cm_register::{CallFault, Opened, Receipt, Register, RunName, Seat};
+use crate::support::{close, named, network, open, sure};
+use cm_history::{Call, CallFault, Reply};
+use cm_register::{Opened, Receipt, Register, RunName, Seat};
 use cm_run::{OperateFault, SimWire, operate};
 use std::alloc::Global;
 use std::marker::Brand;
@@ -14,26 +14,13 @@ use std::sync::Wait;
 /// How many entries the history has room for.
 const LIMIT: u32 = 400;
 
-/// Asserts that these are 300 calls that were refused, at the places from this one on.
-fn are_refused(rt: &impl Abort, receipts: &[Receipt], first: u32) {
-    sure(rt, receipts.len() == 300);
+/// Asserts that these are so many calls that were refused, at the places from this one on.
+fn are_refused(rt: &impl Abort, receipts: &[Receipt], first: u32, count: usize) {
+    sure(rt, receipts.len() == count);
     for (receipt, position) in receipts.iter().zip(first..LIMIT) {
         let reply = Reply::Refused(3);
         sure(rt, *receipt == Receipt { position, reply });
     }
-}
-
-/// Reads before the network is started, which are refused, at the places from this one on.
-fn reads<K: RunName, R: Wait + Abort>(
-    rt: &R,
-    alloc: Global,
-    register: &Register<SimWire, K>,
-    seat: &mut Seat<K>,
-    first: u32,
-) {
-    let receipts = operate(rt, alloc, register, seat, &[Call::Read(1); 300]);
-    let receipts = receipts.ok().expect(rt, "all made");
-    are_refused(rt, receipts.as_slice(), first);
 }
 
 /// Asserts that of these calls one isn't made, for this reason, behind as many that are.
@@ -50,7 +37,7 @@ fn stops<K: RunName, R: Wait + Abort>(
     sure(rt, stopped == Some(OperateFault { done, fault }));
 }
 
-/// Calls none, one, and many.
+/// Calls none, two and many, before the network is started.
 fn are_made<K: RunName, R: Wait + Abort>(
     rt: &R,
     alloc: Global,
@@ -59,13 +46,22 @@ fn are_made<K: RunName, R: Wait + Abort>(
 ) {
     let none = operate(rt, alloc, register, seat, &[]);
     sure(rt, none.is_ok_and(|receipts| receipts.is_empty()));
-    let first = register.call(rt, seat, Call::Elapsed(0));
-    is_made(rt, first, 1, Reply::Refused(3));
-    reads(rt, alloc, register, seat, 2);
+    let two = operate(
+        rt,
+        alloc,
+        register,
+        seat,
+        &[Call::Elapsed(0), Call::Read(1)],
+    );
+    let two = two.ok().expect(rt, "all made");
+    are_refused(rt, two.as_slice(), 1, 2);
+    let many = operate(rt, alloc, register, seat, &[Call::Read(1); 300]);
+    let many = many.ok().expect(rt, "all made");
+    are_refused(rt, many.as_slice(), 3, 300);
 }
 
-/// Calls of a seat that has called before, none, many, and two lists of which a call isn't made: the wire
-/// has no room for the frame of the start, and the history none for the last calls.
+/// Calls of a seat, none, two, many, and three lists of which a call isn't made: the wire has no room for the frame of the
+/// start, and the history none for the last calls.
 fn operate_often<K: RunName, R: Wait + Abort>(
     rt: &R,
     alloc: Global,
@@ -82,7 +78,7 @@ fn operate_often<K: RunName, R: Wait + Abort>(
     let first = [Call::StartNetwork, Call::Read(1)];
     stops(rt, alloc, register, seat, &first, 0, wire);
     let many = [Call::Read(1); 200];
-    stops(rt, alloc, register, seat, &many, 98, journal);
+    stops(rt, alloc, register, seat, &many, 97, journal);
 }
 
 /// The only seat makes these calls, which fill the history.

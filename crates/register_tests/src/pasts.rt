@@ -3,16 +3,14 @@
 ghost use Rattle.std.specs.Prelude.{◌≡◌, ◌==◌, ◌≤◌, ◌<◌, ◌+◌, ℕ, false, length, reverse, OnOk};
 ghost use Rattle.cm_history.specs.Answering.{node_named};
 ghost use Rattle.cm_history.specs.Legal.{most_entries};
-ghost use Rattle.cm_past.specs.Unnamed.{log_of, net_of};
+ghost use Rattle.cm_growing.specs.Unnamed.{log_of, net_of};
 ghost use Rattle.cm_sequential.specs.Standing.{Stands};
 
-use crate::support::{node, sure};
-use crate::terms_support::terms_of;
-use arrayvec::ArrayVec;
+use crate::support::{network, node, sure};
+use cm_growing::{HistoryName, HistoryReader, HistoryWriter, Past, UnnamedHistory};
 use cm_history::{Call, Entry};
-use cm_netlist::{Network, SlaveEntry};
-use cm_nmt::{NodeId, Startup};
-use cm_past::{HistoryName, HistoryReader, HistoryWriter, Past, UnnamedHistory};
+use cm_netlist::Network;
+use cm_nmt::NodeId;
 use cm_sequential::Manager;
 use std::alloc::Global;
 use std::marker::Brand;
@@ -173,9 +171,7 @@ fn grows<K: HistoryName, R: Abort>(
 
 #[test]
 fn a_history_grows_by_calls(rt: HostRuntime) -> Result<(), Fail> {
-    let mut net = Network::new(rt.alloc(), node(&rt, 1), Startup(1), 0);
-    let slave = SlaveEntry::from_terms(terms_of(0x05), ArrayVec::new());
-    sure(&rt, net.add(node(&rt, 2), slave).is_ok());
+    let net = network(&rt, rt.alloc(), 1, &[(2, 0x05)]);
     let Ok(history) = UnnamedHistory::new(rt.alloc(), &net) else {
         return Err(Fail::from("memory"));
     };

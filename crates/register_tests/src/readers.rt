@@ -22,6 +22,9 @@ const CALLERS: u16 = 4;
 
 const SEATS: u16 = 12;
 
+/// The manager's node.
+const OWN: u8 = 12;
+
 /// How many calls each of the callers makes.
 const CALLS: u32 = 12_500;
 
@@ -96,16 +99,24 @@ impl<K: RunName> Member<K> {
         }
     }
 
+    /// Reads its node, and behind it the manager's own: no read tells of fewer calls than the one before.
+    fn read(&mut self, rt: &impl Abort) -> Option<Seen> {
+        let seen = self.seat.read(self.watch.id.get()).ok()?;
+        let own = self.seat.read(OWN).ok()?;
+        sure(rt, seen.count <= own.count);
+        self.watch.keep(rt, seen);
+        Some(own)
+    }
+
     /// Reads until no caller is left, and once more, which shows all calls.
     fn watch<R: Wait + Abort>(&mut self, rt: &R, callers: &AtomicU32) {
         for _ in rt.forever() {
             let is_last = callers.load(Ordering::SeqCst) == 0;
-            let Ok(seen) = self.seat.read(self.watch.id.get()) else {
+            let Some(own) = self.read(rt) else {
                 return sure(rt, false);
             };
-            self.watch.keep(rt, seen);
             if is_last {
-                return sure(rt, seen.count == LIMIT);
+                return sure(rt, own.count == LIMIT);
             }
             thread::yield_now();
         }
@@ -249,7 +260,7 @@ fn readers_see_what_100000_calls_leave(rt: HostRuntime) {
     for (place, (number, _)) in slaves.iter_mut().enumerate() {
         *number = place as u8 + 5;
     }
-    let net = network(&rt, rt.alloc(), 12, &slaves);
+    let net = network(&rt, rt.alloc(), OWN, &slaves);
     opens_and_works(&rt, rt.alloc(), &net);
     opens_and_works(&rt, rt.alloc(), &net);
 }

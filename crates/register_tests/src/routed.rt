@@ -2,12 +2,10 @@
 
 use crate::support::{node, sure};
 use cm_boot::Question;
-use cm_can::{CanFrame, Remark, read_frame};
-use cm_live::{
-    Format, Happening, Heartbeats, Listening, LivePort, Outlet, Patience, Port, Received, Routes,
-    Source,
-};
+use cm_bus::{LivePort, Outlet, Patience, Port};
+use cm_can::{CanFrame, Format, read_frame};
 use cm_nmt::NodeId;
+use cm_receiving::{Happening, Heartbeats, Listening, Received, Routes, Source};
 use crossbeam_channel::{Receiver, Sender};
 use std::alloc::Global;
 use std::io::{self, Read};
@@ -90,16 +88,16 @@ fn heartbeats(rt: &impl Abort, alloc: Global) -> Arc<Heartbeats> {
     Arc::new(alloc, heartbeats).ok().expect(rt, "memory")
 }
 
-/// What is received is given to the workers of nodes 2, 3 and 5 in turn; what is told of it.
+/// What is received is given to the workers of nodes 2, 3 and 5 in turn.
 fn give<R: Wait + Clock + Abort>(
     rt: &R,
     alloc: Global,
     listening: Arc<Listening>,
     workers: Vec<Sender<Received<Brand>>>,
     left: &'static [u8],
-) -> Receiver<Happening> {
+) {
     let channel = crossbeam_channel::unbounded::<Happening, _>(alloc);
-    let (happenings, told) = channel.ok().expect(rt, "a channel");
+    let (happenings, _told) = channel.ok().expect(rt, "a channel");
     let routes = Routes {
         start: Instant::now(rt).ok().expect(rt, "a clock"),
         listed: listed(rt, alloc),
@@ -110,7 +108,6 @@ fn give<R: Wait + Clock + Abort>(
     };
     let source = Source::<Brand, Lines>::new(Lines { left }, Format::CanUtils);
     source.receive(rt, &routes);
-    told
 }
 
 /// Each of these workers listens to the answer of its question.
@@ -159,7 +156,7 @@ fn receive<R: Wait + Clock + Clone + Drop + Abort>(
     let (mut second, to_second) = make_port(rt, alloc, &listening, 1);
     listen_each(rt, &mut first, &mut second, asks);
     let workers = both(rt, alloc, to_first, to_second);
-    let _told = give(rt, alloc, listening, workers, left);
+    give(rt, alloc, listening, workers, left);
     (first, second)
 }
 
@@ -174,33 +171,32 @@ const HEARD: &[u8] = b"(0.0) can0 582#4300100092010200\n\
     (0.0) can0 582#R\n\
     (0.0) can0 582#4318100123010000\n";
 
+/// Asserts what waits for each of two workers that ask this.
+fn hear<R: Wait + Clock + Clone + Drop + Abort>(
+    rt: &R,
+    alloc: Global,
+    asks: &[(usize, u8, Question)],
+    first: &[&str],
+    second: &[&str],
+) {
+    let (one, other) = receive(rt, alloc, asks, HEARD);
+    wait_there(rt, &one.heard, first);
+    wait_there(rt, &other.heard, second);
+    // all bytes were read: what stands in them is late for the next question
+    sure(rt, one.received() == HEARD.len() as u64);
+    sure(rt, other.received() == HEARD.len() as u64);
+}
+
 #[test]
 fn a_worker_hears_the_node_that_it_asks(rt: HostRuntime) {
-    let asks = [(0, 2, Question::Read(0x1000, 0))];
-    let (first, second) = receive(&rt, rt.alloc(), &asks, HEARD);
+    let alloc = rt.alloc();
+    let device = Question::Read(0x1000, 0);
     let answers = ["582#4300100092010200", "582#4318100123010000"];
-    wait_there(&rt, &first.heard, &answers);
-    wait_there(&rt, &second.heard, &[]);
-    // all bytes were read: what stands in them is late for the next question
-    sure(&rt, first.received() == HEARD.len() as u64);
-    sure(&rt, second.received() == HEARD.len() as u64);
-}
-
-#[test]
-fn each_worker_hears_its_own(rt: HostRuntime) {
-    let asks = [(0, 5, Question::Beat), (1, 3, Question::Read(0x1000, 0))];
-    let (first, second) = receive(&rt, rt.alloc(), &asks, HEARD);
-    wait_there(&rt, &first.heard, &["705#7F"]);
-    wait_there(&rt, &second.heard, &["583#4300100094010200"]);
-}
-
-#[test]
-fn no_worker_hears_the_node_of_another(rt: HostRuntime) {
+    hear(&rt, alloc, &[(0, 2, device)], &answers, &[]);
+    let asks = [(0, 5, Question::Beat), (1, 3, device)];
+    hear(&rt, alloc, &asks, &["705#7F"], &["583#4300100094010200"]);
     // worker 2 asks a node that worker 1 boots
-    let asks = [(1, 2, Question::Read(0x1000, 0))];
-    let (first, second) = receive(&rt, rt.alloc(), &asks, HEARD);
-    wait_there(&rt, &first.heard, &[]);
-    wait_there(&rt, &second.heard, &[]);
+    hear(&rt, alloc, &[(1, 2, device)], &[], &[]);
 }
 
 #[test]
@@ -229,42 +225,4 @@ fn where_a_node_has_booted_up_is_noted(rt: HostRuntime) {
     sure(&rt, first.last_boot_up(node(&rt, 2)) == 99);
     sure(&rt, second.last_boot_up(node(&rt, 2)) == 99);
     sure(&rt, first.last_boot_up(node(&rt, 5)) == 0);
-}
-
-/// Nodes 2 and 4, of which 4 isn't listed, contradict themselves; node 3 boots up, and says its device type twice.
-const DOUBLED: &[u8] = b"(0.0) can0 582#4300100092010200\n\
-    (0.0) can0 584#4300100092010200\n\
-    (0.0) can0 703#00\n\
-    (0.0) can0 583#4300100092010200\n\
-    (0.0) can0 582#8000100000000206\n\
-    (0.0) can0 584#8000100000000206\n\
-    (0.0) can0 583#4300100092010200\n\
-    (0.0) can0 582#4318100123010000\n";
-
-/// What the bus said, if it was that.
-fn remark_in(happening: Happening) -> Option<Remark> {
-    match happening {
-        Happening::Said(remark) => Some(remark),
-        _ => None,
-    }
-}
-
-#[test]
-fn contradicting_answers_of_a_listed_node_are_told(rt: HostRuntime) {
-    let listening = listening_of(&rt, rt.alloc());
-    let told = give(&rt, rt.alloc(), listening, Vec::new(rt.alloc()), DOUBLED);
-    let doubled = Some(Remark::Doubled(node(&rt, 2)));
-    let unlisted = Some(Remark::Doubled(node(&rt, 4)));
-    let mut times = 0u32;
-    for _told in 0..16 {
-        let Ok(happening) = told.try_recv(&rt) else {
-            break;
-        };
-        let remark = remark_in(happening);
-        sure(&rt, remark != unlisted);
-        if remark == doubled {
-            times = times.saturating_add(1);
-        }
-    }
-    sure(&rt, times == 1);
 }

@@ -46,48 +46,17 @@ fn read_stopped<K: RunName>(rt: &impl Abort, seat: &mut Seat<K>) {
     }
 }
 
-/// What two seats do beside one another.
-#[derive(Clone, Copy)]
-enum Story {
-    /// The first reads the slave, the second reads it by calls.
-    Reads,
-    /// The first reads two nodes, the second changes the slave.
-    Changes,
-}
-
-/// The calls of the second seat.
-fn call<K: RunName, R: Wait + Abort>(
-    rt: &R,
-    register: &Register<SimWire, K>,
-    seat: &mut Seat<K>,
-    story: Story,
-) {
-    match story {
-        Story::Reads => read_by_calls(rt, register, seat),
-        Story::Changes => change_by_calls(rt, register, seat),
-    }
-}
-
-/// The reads of the first seat.
-fn read<K: RunName>(rt: &impl Abort, seat: &mut Seat<K>, story: Story) {
-    match story {
-        Story::Reads => read_stopped(rt, seat),
-        Story::Changes => read_two(rt, seat),
-    }
-}
-
 /// The first seat reads while the second calls.
 fn read_beside<K: RunName + Send + Sync, R: Wait + Threads + Abort + Send + Sync>(
     rt: &R,
     register: &Register<SimWire, K>,
     first: &mut Seat<K>,
     second: &mut Seat<K>,
-    story: Story,
 ) {
     thread::join(
         rt,
-        || call(rt, register, &mut *second, story),
-        || read(rt, &mut *first, story),
+        || read_by_calls(rt, register, &mut *second),
+        || read_stopped(rt, &mut *first),
     );
 }
 
@@ -96,13 +65,12 @@ fn read_beside_calls<K: RunName + Send + Sync, R: Wait + Threads + Abort + Send 
     rt: &R,
     register: &Register<SimWire, K>,
     seats: &mut [Seat<K>],
-    story: Story,
 ) {
     let [first, second] = seats else {
         return sure(rt, false);
     };
     stop_the_slave(rt, register, first);
-    read_beside(rt, register, first, second, story);
+    read_beside(rt, register, first, second);
 }
 
 fn reads_beside_calls<K: RunName + Send + Sync, R: Wait + Threads + Abort + Send + Sync>(
@@ -112,7 +80,7 @@ fn reads_beside_calls<K: RunName + Send + Sync, R: Wait + Threads + Abort + Send
     requires { Names K.RunName opened }
 {
     let (register, mut seats) = named::<K>(rt, opened);
-    read_beside_calls(rt, &register, seats.as_mut_slice(), Story::Reads);
+    read_beside_calls(rt, &register, seats.as_mut_slice());
     let closed = close(rt, register, seats);
     sure(rt, closed.history.len() == READS as usize + 2);
 }
@@ -175,53 +143,4 @@ fn reads_no_version<K: RunName, R: Wait + Abort>(rt: &R, opened: Opened<SimWire>
     drop(register);
     sure(rt, seat.read(5) == Err(ReadFault::NoVersion));
     sure(rt, seat.read(0) == Err(ReadFault::BadTarget));
-}
-
-/// Stops slave 5 and starts it again, by calls of which the first has place 3.
-fn change_by_calls<K: RunName, R: Wait + Abort>(
-    rt: &R,
-    register: &Register<SimWire, K>,
-    seat: &mut Seat<K>,
-) {
-    for position in 3..READS + 3 {
-        let state = if position % 2 == 0 { 4 } else { 5 };
-        let changed = register.call(rt, seat, Call::Request(5, state));
-        is_made(rt, changed, position, Reply::Done);
-    }
-}
-
-/// Reads the node, and gives the count, which isn't less than the last.
-fn read_on<K: RunName>(rt: &impl Abort, seat: &mut Seat<K>, node: u8, last: u32) -> u32 {
-    let seen = match seat.read(node) {
-        Ok(seen) => seen,
-        Err(fault) => panic!(rt; "node {node} after {last}: {fault}"),
-    };
-    sure(rt, last <= seen.count);
-    seen.count
-}
-
-/// Reads two nodes in turn: the count never goes back.
-fn read_two<K: RunName>(rt: &impl Abort, seat: &mut Seat<K>) {
-    let mut last = 2;
-    for _ in 0..READS * 50 {
-        last = read_on(rt, seat, 5, last);
-        last = read_on(rt, seat, 1, last);
-    }
-}
-
-fn reads_two_beside_calls<K: RunName + Send + Sync, R: Wait + Threads + Abort + Send + Sync>(
-    rt: &R,
-    opened: Opened<SimWire>,
-)
-    requires { Names K.RunName opened }
-{
-    let (register, mut seats) = named::<K>(rt, opened);
-    read_beside_calls(rt, &register, seats.as_mut_slice(), Story::Changes);
-}
-
-#[test]
-fn a_seat_reads_two_nodes_beside_calls(rt: HostRuntime) {
-    let net = network(&rt, rt.alloc(), 1, &[(5, 0x05)]);
-    let opened = open(&rt, rt.alloc(), &net, 2, READS + 2, READS + 2);
-    reads_two_beside_calls::<Brand, _>(&rt, opened);
 }

@@ -3,12 +3,10 @@
 ghost use Rattle.cm_register.specs.Naming.{Names};
 
 use arrayvec::ArrayVec;
-use cm_history::{Call, Entry, Orders, Reply};
+use cm_history::{Call, CallFault, Entry, Orders, Reply};
 use cm_netlist::{Network, SlaveEntry};
 use cm_nmt::{Answers, Assignment, Frame, Got, NodeId, Startup, Terms};
-use cm_register::{
-    CallFault, CloseKind, Closed, Opened, Receipt, Register, RunName, Seat, Seen, Wire,
-};
+use cm_register::{CloseKind, Closed, Opened, Receipt, Register, RunName, Seat, Seen, Wire};
 use cm_run::SimWire;
 use std::alloc::Global;
 use std::process::Abort;
@@ -46,9 +44,9 @@ pub(crate) fn answers() -> Answers {
     }
 }
 
-/// A slave of this assignment, whose other fields are 0.
-fn slave(assignment: u32) -> SlaveEntry {
-    let terms = Terms {
+/// Terms of this assignment, whose other fields are 0.
+pub(crate) fn terms_of(assignment: u32) -> Terms {
+    Terms {
         assignment: Assignment(assignment),
         device_type: 0,
         vendor: 0,
@@ -59,8 +57,12 @@ fn slave(assignment: u32) -> SlaveEntry {
         date: 0,
         time: 0,
         writes: 0,
-    };
-    SlaveEntry::from_terms(terms, ArrayVec::new())
+    }
+}
+
+/// A slave of this assignment, whose other fields are 0.
+fn slave(assignment: u32) -> SlaveEntry {
+    SlaveEntry::from_terms(terms_of(assignment), ArrayVec::new())
 }
 
 /// A network of this manager with slaves of these nodes and assignments.

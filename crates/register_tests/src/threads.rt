@@ -3,8 +3,8 @@
 ghost use Rattle.cm_register.specs.Naming.{Names};
 
 use crate::support::{close, is_refused, lacks_seats, named, network, open, sure};
-use cm_history::{Call, Reply};
-use cm_register::{CallFault, Closed, Opened, Register, RunName, Seat, SeatList};
+use cm_history::{Call, CallFault, Reply};
+use cm_register::{Closed, Opened, Register, RunName, Seat, SeatList};
 use cm_run::SimWire;
 use std::alloc::Global;
 use std::marker::Brand;

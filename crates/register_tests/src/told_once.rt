@@ -4,8 +4,8 @@ ghost use Rattle.std.specs.Prelude.{◌≡◌, []};
 ghost use Rattle.cm_register.specs.Naming.{Names};
 
 use crate::support::{close, is_made, named, network, open, sure};
+use cm_growing::Past;
 use cm_history::{Call, Entry, Reply};
-use cm_past::Past;
 use cm_register::{Opened, Register, RunName, Seat};
 use cm_run::SimWire;
 use cm_versions::{Next, Publisher, TellFault, VersionReader};

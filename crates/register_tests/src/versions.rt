@@ -4,11 +4,11 @@ ghost use Rattle.std.specs.Prelude.{◌≡◌};
 ghost use Rattle.cm_register.specs.Naming.{Names};
 
 use crate::support::{is_made, named, network, node, open, sure};
+use cm_growing::Past;
 use cm_history::{Call, Entry, Reply};
-use cm_journal::report;
 use cm_netlist::Network;
-use cm_past::Past;
 use cm_register::{Opened, Register, RunName, Seat};
+use cm_report::report;
 use cm_run::SimWire;
 use cm_versions::{Publisher, VersionReader};
 use std::alloc::Global;

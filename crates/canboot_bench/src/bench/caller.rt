@@ -34,19 +34,19 @@ impl Caller {
 
     /// The slave that it boots now.
     #[inline(always)]
-    pub fn slave(&self) -> Option<NodeId> {
+    fn slave(&self) -> Option<NodeId> {
         id_at(self.place)
     }
 
     /// What is listed of the slave that it boots now.
     #[inline(always)]
-    pub fn listed<'t>(&self, terms: &'t [Terms]) -> Option<&'t Terms> {
+    fn listed<'t>(&self, terms: &'t [Terms]) -> Option<&'t Terms> {
         terms.get(self.place)
     }
 
     /// The next call, of this slave.
     #[inline(always)]
-    pub fn next_call(&self, id: NodeId, terms: &Terms) -> Call {
+    fn next_call(&self, id: NodeId, terms: &Terms) -> Call {
         match self.step {
             0 => Call::Begin(id),
             1 => Call::Report(id, self.session, agreeing(terms)),
@@ -59,78 +59,22 @@ impl Caller {
         }
     }
 
-    /// Goes on after this reply.
+    /// Goes on after this reply, to the next call or the next slave.
     #[inline(always)]
-    pub fn go_on(&mut self, reply: &Reply) {
-        self.note(reply);
-        self.step = self.step.saturating_add(1) % ROUND;
-        if self.step == 0 {
-            self.go_to_next();
-        }
-    }
-
-    /// Takes the session from the reply to a begin.
-    #[inline(always)]
-    fn note(&mut self, reply: &Reply) {
+    fn go_on(&mut self, reply: &Reply) {
         if let Reply::Begun(number) = reply {
             self.session = *number;
         }
-    }
-
-    fn go_to_next(&mut self) {
-        let next = self.place.saturating_add(self.threads);
-        self.place = if next < usize::from(SLAVES) {
-            next
-        } else {
-            self.first
-        };
-    }
-
-    /// Makes the calls of one boot. Each stands for itself, so that no more is written of a call than it has.
-    #[inline(always)]
-    fn boot<W: Wire, K: RunName, R: Wait>(
-        &mut self,
-        rt: &R,
-        register: &Register<W, K>,
-        seat: &mut Seat<K>,
-        terms: &[Terms],
-    ) -> Option<()> {
-        let id = self.slave()?;
-        let listed = self.listed(terms)?;
-        let begun = register.call(rt, seat, Call::Begin(id)).ok()?;
-        self.note(&begun.reply);
-        let report = Call::Report(id, self.session, agreeing(listed));
-        register.call(rt, seat, report).ok()?;
-        register.call(rt, seat, Call::Read(id.get())).ok()?;
-        register.call(rt, seat, Call::Signal(id, 5)).ok()?;
-        register.call(rt, seat, Call::Request(id.get(), 127)).ok()?;
-        register.call(rt, seat, Call::Elapsed(1)).ok()?;
-        if self.place % 2 == 0 {
-            register.call(rt, seat, Call::Signal(id, 0)).ok()?;
-        } else {
-            register.call(rt, seat, Call::Lost(id)).ok()?;
+        self.step = self.step.saturating_add(1) % ROUND;
+        if self.step == 0 {
+            let next = self.place.saturating_add(self.threads);
+            self.place = if next < usize::from(SLAVES) {
+                next
+            } else {
+                self.first
+            };
         }
-        self.go_to_next();
-        Some(())
     }
-}
-
-/// Makes so many calls, fewer than those of a boot.
-fn call_on<W: Wire, K: RunName, R: Wait>(
-    rt: &R,
-    register: &Register<W, K>,
-    seat: &mut Seat<K>,
-    terms: &[Terms],
-    caller: &mut Caller,
-    count: u32,
-) -> Option<()> {
-    for _ in 0..count {
-        let id = caller.slave()?;
-        let listed = caller.listed(terms)?;
-        let receipt = register.call(rt, seat, caller.next_call(id, listed)).ok()?;
-        caller.go_on(&receipt.reply);
-    }
-    Some(())
 }
 
 /// Makes this many calls from one seat. `None` where one isn't made.
@@ -142,8 +86,11 @@ pub fn call_often<W: Wire, K: RunName, R: Wait>(
     mut caller: Caller,
     count: u32,
 ) -> Option<()> {
-    for _ in 0..count / ROUND as u32 {
-        caller.boot(rt, register, seat, terms)?;
+    for _ in 0..count {
+        let id = caller.slave()?;
+        let listed = caller.listed(terms)?;
+        let receipt = register.call(rt, seat, caller.next_call(id, listed)).ok()?;
+        caller.go_on(&receipt.reply);
     }
-    call_on(rt, register, seat, terms, &mut caller, count % ROUND as u32)
+    Some(())
 }

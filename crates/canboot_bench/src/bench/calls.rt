@@ -1,10 +1,9 @@
-//! Nanoseconds for one call of the sequential manager, and for the start of a network by it.
+//! Nanoseconds for one call of the sequential manager.
 
 use crate::bench::mix::{Random, next_call};
-use crate::bench::network::{SLAVES, agreeing, full_network, id_at, listed_terms};
+use crate::bench::network::full_network;
 use cm_history::{Call, Orders, Reply};
 use cm_netlist::Network;
-use cm_nmt::Terms;
 use cm_sequential::Manager;
 use std::alloc::Global;
 use std::io::{self, Write};
@@ -16,19 +15,8 @@ const RUNS: u32 = 7;
 /// How many calls the list has at most.
 const LONGEST: usize = 65_536;
 
-/// How many starts there are in a run.
-const STARTS: u32 = 1_000;
-
 /// How many calls a short run makes.
 const FEW: usize = 2_000;
-
-/// The list of calls, how many are reports, and how many are refused.
-#[derive(Drop)]
-struct Drawn {
-    calls: Vec<Call>,
-    reports: usize,
-    refused: usize,
-}
 
 #[inline(always)]
 fn apply(manager: &mut Manager, call: Call) -> (Reply, Orders) {
@@ -45,6 +33,14 @@ fn is_report(call: &Call) -> bool {
 
 fn is_refused(reply: &Reply) -> bool {
     matches!(reply, Reply::Refused(_))
+}
+
+/// The list of calls, how many are reports, and how many are refused.
+#[derive(Drop)]
+struct Drawn {
+    calls: Vec<Call>,
+    reports: usize,
+    refused: usize,
 }
 
 /// Draws so many calls, each for the manager that the ones before it leave.
@@ -114,51 +110,6 @@ fn best_call(
     if sent == 0 { None } else { Some(best) }
 }
 
-/// Starts the network and boots each of its slaves, by a manager that has answered no call. `None`
-/// where one is open then.
-fn start(manager: &Manager, terms: &[Terms]) -> Option<()> {
-    let mut manager = *manager;
-    apply(&mut manager, Call::StartNetwork);
-    for (place, terms) in terms.iter().enumerate() {
-        let id = id_at(place)?;
-        let (Reply::Begun(session), _) = apply(&mut manager, Call::Begin(id)) else {
-            return None;
-        };
-        apply(&mut manager, Call::Report(id, session, agreeing(terms)));
-    }
-    if manager.open_mandatory() == 0 {
-        Some(())
-    } else {
-        None
-    }
-}
-
-/// Starts the network again and again, and gives the nanoseconds of all starts.
-fn time_starts(clock: &impl Clock, manager: &Manager, terms: &[Terms]) -> Option<u128> {
-    let from = Instant::now(clock).ok()?;
-    for _ in 0..STARTS {
-        start(manager, terms)?;
-    }
-    Some(from.elapsed(clock).ok()?.as_nanos())
-}
-
-/// Nanoseconds for a start by this manager, the best of so many runs.
-fn best_run(clock: &impl Clock, manager: &Manager, terms: &[Terms], runs: u32) -> Option<u128> {
-    let mut best = u128::MAX;
-    for _ in 0..runs {
-        let nanos = time_starts(clock, manager, terms)?;
-        best = best.min(nanos / u128::from(STARTS));
-    }
-    Some(best)
-}
-
-/// Nanoseconds for the start of a network of so many slaves, the best of so many runs.
-fn best_start(clock: &impl Clock, alloc: Global, slaves: u8, runs: u32) -> Option<u128> {
-    let net = full_network(alloc, slaves)?;
-    let terms = listed_terms(alloc, &net)?;
-    best_run(clock, &Manager::new(&net), terms.as_slice(), runs)
-}
-
 /// Prints tenths of a nanosecond for one of these calls, if they were made.
 fn print_calls<R: Print>(rt: &R, tenths: Option<u128>, drawn: &Drawn) -> Option<()> {
     let tenths = tenths?;
@@ -175,45 +126,24 @@ fn print_calls<R: Print>(rt: &R, tenths: Option<u128>, drawn: &Drawn) -> Option<
     .ok()
 }
 
-fn measure_calls<R: Clock + Print + AllocGlobal>(rt: &R, count: usize) -> Option<()> {
-    let net = full_network(rt.alloc(), SLAVES)?;
+/// Prints the nanoseconds of a call, over about so many calls of operators and boots on 126 slaves.
+pub fn measure<R: Clock + Print + AllocGlobal>(rt: &R, count: usize) -> Option<()> {
+    let net = full_network(rt.alloc())?;
     let drawn = draw(rt.alloc(), &net, count.min(LONGEST))?;
     let calls = drawn.calls.as_slice();
     let tenths = best_call(rt, &net, calls, count / calls.len().max(1), RUNS);
     print_calls(rt, tenths, &drawn)
 }
 
-fn measure_starts<R: Clock + Print + AllocGlobal>(rt: &R) -> Option<()> {
-    for slaves in [1, 2, 32, 63, SLAVES] {
-        let nanos = best_start(rt, rt.alloc(), slaves, RUNS)?;
-        let mut out = io::writer(rt);
-        writeln!(out, "start of {slaves} slaves: {nanos} ns").ok()?;
-    }
-    Some(())
-}
-
-/// Prints the nanoseconds of a call, over about so many calls of operators and boots on 126 slaves,
-/// and of the start of networks of several sizes, of which every slave is booted.
-pub fn measure<R: Clock + Print + AllocGlobal>(rt: &R, count: usize) -> Option<()> {
-    measure_calls(rt, count)?;
-    measure_starts(rt)
-}
-
-/// Draws a few calls, and makes them in one run.
 fn make_few<R: Clock + AllocGlobal>(rt: &R) -> Option<u128> {
-    let net = full_network(rt.alloc(), SLAVES)?;
+    let net = full_network(rt.alloc())?;
     let drawn = draw(rt.alloc(), &net, FEW)?;
     best_call(rt, &net, drawn.calls.as_slice(), 1, 1)
 }
 
-/// Makes a few calls, and starts of all slaves, in one run.
+/// Draws a few calls, and makes them in one run.
 pub fn run_briefly<R: Clock + Print + AllocGlobal>(rt: &R) -> Option<()> {
     make_few(rt)?;
-    best_start(rt, rt.alloc(), SLAVES, 1)?;
     let mut out = io::writer(rt);
-    writeln!(
-        out,
-        "calls: {FEW} calls, and {STARTS} starts of {SLAVES} slaves"
-    )
-    .ok()
+    writeln!(out, "calls: {FEW} calls").ok()
 }

@@ -5,7 +5,7 @@ use cm_netlist::{Network, SlaveEntry};
 use cm_nmt::{Answers, Assignment, Got, Heard, NmtState, NodeId, Startup, Terms, Write};
 use std::alloc::Global;
 
-/// How many slaves a network has at most, and in most of the measures.
+/// How many slaves the network has.
 pub const SLAVES: u8 = 126;
 
 /// The slave at this place of the list.
@@ -43,10 +43,10 @@ fn full_entry(number: u8) -> SlaveEntry {
     }
 }
 
-/// So many fully configured slaves, all mandatory, every fourth kept alive.
-pub fn full_network(alloc: Global, slaves: u8) -> Option<Network> {
+/// All slaves, fully configured and mandatory, every fourth kept alive.
+pub fn full_network(alloc: Global) -> Option<Network> {
     let mut net = Network::new(alloc, NodeId::new(127)?, Startup(1), 60_000);
-    for number in 0..slaves {
+    for number in 0..SLAVES {
         let number = number.saturating_add(1);
         net.add(NodeId::new(number)?, full_entry(number)).ok()?;
     }

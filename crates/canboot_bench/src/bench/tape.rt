@@ -1,10 +1,14 @@
-//! The wire of a register to be measured.
+//! A register to be measured, and its wire.
 
-ghost use Rattle.std.specs.Prelude.{◌≡◌, ◌+◌, ◌≤◌, vec_len, vec_capacity};
+ghost use Rattle.std.specs.Prelude.{◌≡◌, ◌+◌, ◌≤◌, IfSome, vec_len, vec_capacity};
 
+use cm_netlist::Network;
 use cm_nmt::Frame;
-use cm_register::Wire;
+use cm_register::{Opened, Register, Wire};
 use std::alloc::Global;
+
+/// How many frames a call sends at most.
+const MOST_FRAMES: u32 = 126;
 
 /// A wire that keeps its frames, with room for so many more.
 #[derive(Drop)]
@@ -44,4 +48,20 @@ impl Wire for Tape {
         self.room -= 1;
         self.sent.push_reserved(Frame { command, target });
     }
+}
+
+/// A register of this network with so many seats and entries, and a wire with room for all of its frames.
+pub fn open_register<'n, R: AllocGlobal>(
+    rt: &R,
+    net: &'n Network,
+    seats: u16,
+    limit: u32,
+) -> Option<Opened<'n, Tape>>
+    ensures { IfSome result (λ o. (o.net.now ≡ net.now) × (o.seats ≡ seats)) }
+{
+    let tape = Tape::new(rt.alloc(), limit.saturating_add(MOST_FRAMES))?;
+    let Ok(opened) = Register::open(rt.alloc(), net, seats, limit, tape) else {
+        return None;
+    };
+    Some(opened)
 }

@@ -5,10 +5,10 @@ ghost use Rattle.cm_register.specs.Naming.{Names};
 use crate::closing::{Left, left_by};
 use crate::memory::lists::listed;
 use crate::memory::saying::{done, refused, refused_at, surely};
-use cm_history::Call;
+use cm_history::{Call, CallFault};
 use cm_netlist::Network;
 use cm_nmt::Status;
-use cm_register::{CallFault, Opened, Register, RunName, Seat};
+use cm_register::{Opened, Register, RunName, Seat};
 use cm_run::{
     Booted, Last, Outcome, RunFault, RunKind, SimBus, SimSlave, SimWire, boot_all, operate,
 };

@@ -1,5 +1,5 @@
 use Rattle.std.proofs.Common.{inr}
-use Rattle.canboot_check.proofs.OutputStatus.{done_written}
+use Rattle.canboot_faults.proofs.OutputStatus.{done_written}
 use Rattle.canboot_check.proofs.check.check_text.Goals as goal
 
 pub returns-in-Ok-clause-done : goal.returns-in-Ok-clause-done

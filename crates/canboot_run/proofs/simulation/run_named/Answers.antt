@@ -2,7 +2,7 @@ use Rattle.std.proofs.Common.{◌<◌, List, length, ap, arith, subst}
 use Rattle.std.proofs.lemmas.Result.{IfOk-weaker}
 use Rattle.cm_run.specs.declared.outcome.Outcome.{Outcome}
 use Rattle.canboot_run.specs.Simulated.{HasEnded}
-use Rattle.canboot_run.proofs.Seats.{some_seats}
+use Rattle.cm_register.proofs.Seats.{some_seats}
 use Rattle.canboot_run.proofs.Simulated.{first_seat, operated, worked}
 use Rattle.canboot_run.proofs.simulation.run_named.Goals as goal
 

@@ -1,4 +1,4 @@
-use Rattle.cm_past.specs.Unnamed.{log_of}
+use Rattle.cm_growing.specs.Unnamed.{log_of}
 use Rattle.canboot_run.proofs.simulation.simulate.Given as goal
 
 abbrev pub ghosts-run_named-K-Ledger : goal.ghosts-run_named-K-Ledger

@@ -3,7 +3,7 @@ use Rattle.std.specs.Prelude.{reverse}
 use Rattle.cm_netlist.specs.Network.{Network, listing}
 use Rattle.cm_history.specs.History.{shown}
 use Rattle.cm_history.specs.declared.call.Entry.{Entry}
-use Rattle.cm_past.specs.Changes.{IsChange}
+use Rattle.cm_growing.specs.Changes.{IsChange}
 use Rattle.cm_register.proofs.Managing.{few_begun, own_of_answer}
 use Rattle.cm_register.proofs.carrying.carry_out.Goals as goal
 

@@ -1,7 +1,7 @@
 use Rattle.std.proofs.Common.{◌++◌, ◌∷◌, [], List, length, map, refl, sym, ap, ◌∙◌, append_assoc, arith, length-append}
 use Rattle.std.specs.Vec.Iter.{into_iter_items}
-use Rattle.cm_seat.specs.Handing.{calls_by, calls_in, count_calls}
-use Rattle.cm_seat.specs.Views.{SeatView}
+use Rattle.cm_register.specs.Handing.{calls_by, calls_in, count_calls}
+use Rattle.cm_register.specs.SeatViews.{SeatView}
 use Rattle.cm_register.proofs.Longer.{nothing_in}
 use Rattle.cm_register.proofs.SeatLists.{count_calls_push, shows_seats_push, taken_all}
 use Rattle.cm_register.proofs.closing.gather.Goals as goal

@@ -1,6 +1,6 @@
 use Rattle.std.proofs.Common.{◌≡◌, ◌≤◌, ◌++◌, length, map, vec_len, vec_capacity}
 use Rattle.std.specs.Vec.Iter.{into_iter_items}
-use Rattle.cm_seat.specs.Handing.{calls_by, calls_in, count_calls}
+use Rattle.cm_register.specs.Handing.{calls_by, calls_in, count_calls}
 use Rattle.cm_register.proofs.closing.gather.Given as goal
 
 abbrev pub invariant-loop-seat : goal.invariant-loop-seat

@@ -1,5 +1,5 @@
 use Rattle.std.proofs.Common.{◌≡◌, ◌∙◌, refl, sym, ap, arith}
-use Rattle.cm_seat.specs.Opening.{fresh_seats}
+use Rattle.cm_register.specs.SeatOpening.{fresh_seats}
 use Rattle.cm_register.proofs.SeatLists.{fresh_push}
 use Rattle.cm_register.proofs.opened.make_seats.Goals as goal
 

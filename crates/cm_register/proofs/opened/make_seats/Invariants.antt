@@ -1,5 +1,5 @@
 use Rattle.std.proofs.Common.{◌≡◌, ◌+◌, vec_capacity, vec_len}
-use Rattle.cm_seat.specs.Opening.{fresh_seats}
+use Rattle.cm_register.specs.SeatOpening.{fresh_seats}
 use Rattle.cm_register.proofs.opened.make_seats.Given as goal
 
 abbrev pub invariant-loop-number : goal.invariant-loop-number

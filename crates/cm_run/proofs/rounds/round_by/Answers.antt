@@ -1,5 +1,5 @@
 use Rattle.std.proofs.Common.{◌∙◌, refl, sym, arith}
-use Rattle.cm_seat.proofs.MadeCalls.{more_made, none_made}
+use Rattle.cm_register.proofs.MadeCalls.{more_made, none_made}
 use Rattle.cm_netlist.specs.Network.{listing}
 use Rattle.cm_run.proofs.Attempts.{failed_first, failed_more, finished}
 use Rattle.cm_run.proofs.Faults.{cause_behind}

@@ -2,9 +2,10 @@ use Rattle.std.proofs.Common.{◌≡◌, ◌∙◌, ◌<◌, ℕ, ap, sym, arith
 use Rattle.std.proofs.lemmas.Grind.{common_steps}
 use Rattle.std.proofs.Math.ListN.{set}
 use Rattle.std.proofs.lemmas.List.{get_or_default, length-set}
-use Rattle.cm_watch.specs.Kept.{blank_slave, slave_after}
+use Rattle.cm_watch.specs.Kept.{blank_slave}
+use Rattle.cm_watched.specs.KeptOfSlaves.{slave_after}
 use Rattle.cm_watch.specs.Watches.{kept_at}
-use Rattle.cm_watch.specs.declared.slave.Slave.{Slave}
+use Rattle.cm_watched.specs.declared.slave.Slave.{Slave}
 use Rattle.cm_watch.proofs.Rows.{take_step}
 use Rattle.cm_watch.proofs.taking.take_each.Goals as goal
 use Rattle.cm_watch.proofs.taking.take_each.Goals.{in-Some, in_default}

@@ -1,5 +1,5 @@
 use Rattle.std.proofs.Common.{◌≡◌, ℕ, ◌<◌, ◌≤◌}
-use Rattle.cm_watch.specs.Kept.{slave_after}
+use Rattle.cm_watched.specs.KeptOfSlaves.{slave_after}
 use Rattle.cm_watch.specs.Watches.{kept_at}
 use Rattle.cm_watch.proofs.taking.take_each.Given as goal
 

@@ -1,8 +1,9 @@
 use Rattle.std.proofs.Common.{◌≡◌, ◌∙◌, ◌<◌, ℕ, ap, sym, arith, length}
 use Rattle.std.proofs.lemmas.List.{get_or_default}
-use Rattle.cm_watch.specs.Kept.{blank_slave, slave_after}
+use Rattle.cm_watch.specs.Kept.{blank_slave}
+use Rattle.cm_watched.specs.KeptOfSlaves.{slave_after}
 use Rattle.cm_watch.specs.Watches.{kept_at}
-use Rattle.cm_watch.specs.declared.slave.Slave.{Slave}
+use Rattle.cm_watched.specs.declared.slave.Slave.{Slave}
 use Rattle.cm_watch.proofs.About.{kept_apart}
 use Rattle.cm_watch.proofs.Rows.{take_alone}
 use Rattle.cm_watch.proofs.taking.take_one.Goals as goal

@@ -1,4 +1,4 @@
-use Rattle.cm_past.specs.Unnamed.{log_of}
+use Rattle.cm_growing.specs.Unnamed.{log_of}
 use Rattle.register_tests.proofs.beside.an_operator_calls_while_a_worker_boots.Given as goal
 
 abbrev pub ghosts-tells-K-Ledger : goal.ghosts-tells-K-Ledger

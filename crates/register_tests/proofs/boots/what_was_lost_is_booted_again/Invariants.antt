@@ -1,4 +1,4 @@
-use Rattle.cm_past.specs.Unnamed.{log_of}
+use Rattle.cm_growing.specs.Unnamed.{log_of}
 use Rattle.register_tests.proofs.boots.what_was_lost_is_booted_again.Given as goal
 
 abbrev pub ghosts-boots_again-K-Ledger : goal.ghosts-boots_again-K-Ledger

@@ -1,4 +1,4 @@
-use Rattle.cm_past.specs.Unnamed.{log_of}
+use Rattle.cm_growing.specs.Unnamed.{log_of}
 use Rattle.register_tests.proofs.closing.a_call_returns_what_is_recorded.Given as goal
 
 abbrev pub ghosts-calls_in_turn-K-Ledger : goal.ghosts-calls_in_turn-K-Ledger

@@ -1,4 +1,4 @@
-use Rattle.cm_past.specs.Unnamed.{log_of}
+use Rattle.cm_growing.specs.Unnamed.{log_of}
 use Rattle.register_tests.proofs.closing.a_full_wire_refuses_a_call.Given as goal
 
 abbrev pub ghosts-lacks_room-K-Ledger : goal.ghosts-lacks_room-K-Ledger

@@ -1,4 +1,4 @@
-use Rattle.cm_past.specs.Unnamed.{log_of}
+use Rattle.cm_growing.specs.Unnamed.{log_of}
 use Rattle.register_tests.proofs.closing.a_seat_that_was_dropped_is_missing.Given as goal
 
 abbrev pub ghosts-drops_a_seat-K-Ledger : goal.ghosts-drops_a_seat-K-Ledger

@@ -1,4 +1,4 @@
-use Rattle.cm_past.specs.Unnamed.{log_of}
+use Rattle.cm_growing.specs.Unnamed.{log_of}
 use Rattle.register_tests.proofs.first_use.a_register_is_opened_and_named.Given as goal
 
 abbrev pub ghosts-start-K-Ledger : goal.ghosts-start-K-Ledger

@@ -1,4 +1,4 @@
-use Rattle.cm_past.specs.Unnamed.{log_of}
+use Rattle.cm_growing.specs.Unnamed.{log_of}
 use Rattle.register_tests.proofs.holding.reads_return_while_a_frame_is_held.Given as goal
 
 abbrev pub ghosts-reads_beside_a_held_frame-K-Ledger : goal.ghosts-reads_beside_a_held_frame-K-Ledger

@@ -1,4 +1,4 @@
-use Rattle.cm_past.specs.Unnamed.{log_of}
+use Rattle.cm_growing.specs.Unnamed.{log_of}
 use Rattle.register_tests.proofs.one_book.one_slave_boots.Given as goal
 
 abbrev pub ghosts-boots-K-Ledger : goal.ghosts-boots-K-Ledger

@@ -1,4 +1,4 @@
-use Rattle.cm_past.specs.Unnamed.{log_of}
+use Rattle.cm_growing.specs.Unnamed.{log_of}
 use Rattle.register_tests.proofs.one_seat.one_seat_fills_a_history.Given as goal
 
 abbrev pub ghosts-fills-K-Ledger : goal.ghosts-fills-K-Ledger

@@ -1,4 +1,4 @@
-use Rattle.cm_past.specs.Unnamed.{log_of}
+use Rattle.cm_growing.specs.Unnamed.{log_of}
 use Rattle.register_tests.proofs.operator.an_operator_is_told_what_is_made.Given as goal
 
 abbrev pub ghosts-operates-K-Ledger : goal.ghosts-operates-K-Ledger

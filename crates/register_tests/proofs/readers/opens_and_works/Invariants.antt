@@ -1,4 +1,4 @@
-use Rattle.cm_past.specs.Unnamed.{log_of}
+use Rattle.cm_growing.specs.Unnamed.{log_of}
 use Rattle.register_tests.proofs.readers.opens_and_works.Given as goal
 
 abbrev pub ghosts-works-K-Ledger : goal.ghosts-works-K-Ledger

@@ -1,4 +1,4 @@
-use Rattle.cm_past.specs.Unnamed.{log_of}
+use Rattle.cm_growing.specs.Unnamed.{log_of}
 use Rattle.register_tests.proofs.reading.a_seat_reads_while_workers_boot.Given as goal
 
 abbrev pub ghosts-reads_beside_a_boot-K-Ledger : goal.ghosts-reads_beside_a_boot-K-Ledger

@@ -1,4 +1,4 @@
-use Rattle.cm_past.specs.Unnamed.{log_of}
+use Rattle.cm_growing.specs.Unnamed.{log_of}
 use Rattle.register_tests.proofs.reads.every_node_is_read_as_a_call_answers.Given as goal
 
 abbrev pub ghosts-reads_after_each-K-Ledger : goal.ghosts-reads_after_each-K-Ledger

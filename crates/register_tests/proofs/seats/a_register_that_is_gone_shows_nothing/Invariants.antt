@@ -1,4 +1,4 @@
-use Rattle.cm_past.specs.Unnamed.{log_of}
+use Rattle.cm_growing.specs.Unnamed.{log_of}
 use Rattle.register_tests.proofs.seats.a_register_that_is_gone_shows_nothing.Given as goal
 
 abbrev pub ghosts-reads_no_version-K-Ledger : goal.ghosts-reads_no_version-K-Ledger

@@ -1,4 +1,4 @@
-use Rattle.cm_past.specs.Unnamed.{log_of}
+use Rattle.cm_growing.specs.Unnamed.{log_of}
 use Rattle.register_tests.proofs.seats.a_seat_reads_beside_the_calls_of_another.Given as goal
 
 abbrev pub ghosts-reads_beside_calls-K-Ledger : goal.ghosts-reads_beside_calls-K-Ledger

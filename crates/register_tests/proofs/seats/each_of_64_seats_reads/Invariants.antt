@@ -1,4 +1,4 @@
-use Rattle.cm_past.specs.Unnamed.{log_of}
+use Rattle.cm_growing.specs.Unnamed.{log_of}
 use Rattle.register_tests.proofs.seats.each_of_64_seats_reads.Given as goal
 
 abbrev pub ghosts-each_reads-K-Ledger : goal.ghosts-each_reads-K-Ledger

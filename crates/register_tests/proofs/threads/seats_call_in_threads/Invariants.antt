@@ -1,4 +1,4 @@
-use Rattle.cm_past.specs.Unnamed.{log_of}
+use Rattle.cm_growing.specs.Unnamed.{log_of}
 use Rattle.register_tests.proofs.threads.seats_call_in_threads.Given as goal
 
 abbrev pub ghosts-reads-K-Ledger : goal.ghosts-reads-K-Ledger

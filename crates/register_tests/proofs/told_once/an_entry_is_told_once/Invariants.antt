@@ -1,4 +1,4 @@
-use Rattle.cm_past.specs.Unnamed.{log_of}
+use Rattle.cm_growing.specs.Unnamed.{log_of}
 use Rattle.register_tests.proofs.told_once.an_entry_is_told_once.Given as goal
 
 abbrev pub ghosts-publishes_one-K-Ledger : goal.ghosts-publishes_one-K-Ledger

@@ -1,4 +1,4 @@
-use Rattle.cm_past.specs.Unnamed.{log_of}
+use Rattle.cm_growing.specs.Unnamed.{log_of}
 use Rattle.register_tests.proofs.versions.versions_follow_a_register.Given as goal
 
 abbrev pub ghosts-follow-K-Ledger : goal.ghosts-follow-K-Ledger

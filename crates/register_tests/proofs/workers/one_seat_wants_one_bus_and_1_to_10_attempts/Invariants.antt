@@ -1,4 +1,4 @@
-use Rattle.cm_past.specs.Unnamed.{log_of}
+use Rattle.cm_growing.specs.Unnamed.{log_of}
 use Rattle.register_tests.proofs.workers.one_seat_wants_one_bus_and_1_to_10_attempts.Given as goal
 
 abbrev pub ghosts-refuses-K-Ledger : goal.ghosts-refuses-K-Ledger

@@ -1,4 +1,4 @@
-use Rattle.cm_past.specs.Unnamed.{log_of}
+use Rattle.cm_growing.specs.Unnamed.{log_of}
 use Rattle.register_tests.proofs.workers.there_are_no_17_workers.Given as goal
 
 abbrev pub ghosts-refuses-K-Ledger : goal.ghosts-refuses-K-Ledger

@@ -1,4 +1,4 @@
-use Rattle.cm_past.specs.Unnamed.{log_of}
+use Rattle.cm_growing.specs.Unnamed.{log_of}
 use Rattle.canboot_bench.proofs.memory.registers.open_and_use.Given as goal
 
 abbrev pub ghosts-use_register-K-Ledger : goal.ghosts-use_register-K-Ledger

@@ -1,4 +1,4 @@
-use Rattle.cm_past.specs.Unnamed.{log_of}
+use Rattle.cm_growing.specs.Unnamed.{log_of}
 use Rattle.canboot_bench.proofs.memory.runs.open_and_boot.Given as goal
 
 abbrev pub ghosts-boots-K-Ledger : goal.ghosts-boots-K-Ledger

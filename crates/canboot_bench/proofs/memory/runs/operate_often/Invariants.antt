@@ -1,4 +1,4 @@
-use Rattle.cm_past.specs.Unnamed.{log_of}
+use Rattle.cm_growing.specs.Unnamed.{log_of}
 use Rattle.canboot_bench.proofs.memory.runs.operate_often.Given as goal
 
 abbrev pub ghosts-operates-K-Ledger : goal.ghosts-operates-K-Ledger

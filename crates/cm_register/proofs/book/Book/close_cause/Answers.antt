@@ -1,8 +1,8 @@
 use Rattle.std.proofs.Common.{◌≡◌, ◌∙◌, List, refl, sym, ap, subst, arith}
 use mathlib.Core.Bool.{true≢false}
 use Rattle.cm_history.specs.declared.call.Entry.{Entry}
-use Rattle.cm_seat.specs.Knowing.{AllHaveCallsOf}
-use Rattle.cm_seat.specs.Reads.{AllKnown}
+use Rattle.cm_register.specs.Knowing.{AllHaveCallsOf}
+use Rattle.cm_register.specs.Reads.{AllKnown}
 use Rattle.cm_register.specs.Views.{BookView}
 use Rattle.cm_register.proofs.book.Book.close_cause.Goals as goal
 

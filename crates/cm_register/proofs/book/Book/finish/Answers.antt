@@ -1,9 +1,9 @@
 use Rattle.std.proofs.Common.{◌≡◌, List, length, ap, sym, subst, rules}
 use Rattle.cm_history.specs.declared.call.Entry.{Entry}
-use Rattle.cm_seat.specs.Handing.{count_calls}
-use Rattle.cm_seat.specs.Knowing.{AllHaveCallsOf}
-use Rattle.cm_seat.specs.Reads.{AllKnown}
-use Rattle.cm_seat.proofs.Closing.{seats_have_their_calls}
+use Rattle.cm_register.specs.Handing.{count_calls}
+use Rattle.cm_register.specs.Knowing.{AllHaveCallsOf}
+use Rattle.cm_register.specs.Reads.{AllKnown}
+use Rattle.cm_register.proofs.SeatsClosed.{seats_have_their_calls}
 use Rattle.cm_register.specs.Views.{BookView}
 use Rattle.cm_register.proofs.book.Book.finish.Goals as goal
 

@@ -1,5 +1,5 @@
 use Rattle.std.proofs.Common.{refl, arith}
-use Rattle.cm_past.proofs.Prefixes.{one_longer}
+use Rattle.cm_growing.proofs.Prefixes.{one_longer}
 use Rattle.cm_versions.proofs.next.Next.follows.Goals as goal
 
 pub returns : goal.returns

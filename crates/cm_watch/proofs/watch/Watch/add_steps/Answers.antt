@@ -1,7 +1,7 @@
 use Rattle.std.proofs.Common.{◌≡◌, arith, true, false, refl, rules, sym, ap, ℕ, Bool, ◌∙◌, ◌++◌, ◌∷◌, []}
 use Rattle.std.proofs.lemmas.Grind.{common_steps}
 use Rattle.cm_watch.specs.Watches.{is_given_by, step_by}
-use Rattle.cm_watch.specs.declared.happening.Step.{Step}
+use Rattle.cm_watched.specs.declared.happening.Step.{Step}
 use Rattle.cm_watch.proofs.Lists.{chosen, passed, all_given}
 use Rattle.cm_watch.proofs.watch.Watch.add_steps.Goals as goal
 use Rattle.cm_watch.proofs.watch.Watch.add_steps.Goals.{in-Some+then-is_given+in_ok-push, in-Some+else-is_given, in_default}

@@ -2,7 +2,7 @@ use Rattle.std.proofs.Common.{◌∙◌, List, sym, subst}
 use Rattle.cm_watch.specs.Limits.{AreLimited}
 use Rattle.cm_watch.specs.Steps.{given}
 use Rattle.cm_watch.specs.Watches.{Watches}
-use Rattle.cm_watch.specs.declared.happening.Step.{Step}
+use Rattle.cm_watched.specs.declared.happening.Step.{Step}
 use Rattle.cm_watch.proofs.Sendings.{sendings_limited}
 use Rattle.cm_watch.proofs.Steps.{same_error_control}
 use Rattle.cm_watch.proofs.watch.Watch.error_control.Goals as goal

@@ -1,10 +1,10 @@
 use Rattle.std.proofs.Common.{◌≡◌, ◌∙◌, ◌<◌, ◌+◌, ◌∷◌, [], ◌++◌, List, ap, sym, arith, length, take, subst}
 use Rattle.std.proofs.lemmas.List.{take_more, take_all}
-use Rattle.cm_watch.specs.Pasts.{Past}
+use Rattle.cm_watched.specs.Pasts.{Past}
 use Rattle.cm_watch.specs.Steps.{given}
 use Rattle.cm_watch.specs.Watches.{Watches}
-use Rattle.cm_watch.specs.declared.happening.Moment.TheVariants as moment
-use Rattle.cm_watch.specs.declared.happening.Step.{Step}
+use Rattle.cm_watched.specs.declared.happening.Moment.TheVariants as moment
+use Rattle.cm_watched.specs.declared.happening.Step.{Step}
 use Rattle.cm_watch.proofs.Steps.{given_more}
 use Rattle.cm_watch.proofs.watch.Watch.give.Goals as goal
 

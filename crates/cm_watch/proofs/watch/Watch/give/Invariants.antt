@@ -1,8 +1,8 @@
 use Rattle.std.proofs.Common.{take}
-use Rattle.cm_watch.specs.Pasts.{Past}
+use Rattle.cm_watched.specs.Pasts.{Past}
 use Rattle.cm_watch.specs.Steps.{given}
 use Rattle.cm_watch.specs.Watches.{Watches}
-use Rattle.cm_watch.specs.declared.settings.Settings.{Settings}
+use Rattle.cm_watched.specs.declared.settings.Settings.{Settings}
 use Rattle.cm_watch.proofs.watch.Watch.give.Given as goal
 
 -- the steps so far were given

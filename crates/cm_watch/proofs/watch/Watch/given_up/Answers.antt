@@ -2,8 +2,8 @@ use Rattle.std.proofs.Common.{◌≡◌, ◌∙◌, ◌&&◌, Bool, not, Some, N
 use Rattle.std.specs.Bool.{if◌then◌else◌}
 use Rattle.cm_watch.specs.Telling.{given_up_of, is_given_up_at}
 use Rattle.cm_watch.specs.Watches.{is_given_up_by}
-use Rattle.cm_watch.specs.declared.happening.Happening.{Happening}
-use Rattle.cm_watch.specs.declared.slave.Slave.{Slave}
+use Rattle.cm_watched.specs.declared.happening.Happening.{Happening}
+use Rattle.cm_watched.specs.declared.slave.Slave.{Slave}
 use Rattle.cm_watch.proofs.watch.Watch.given_up.Goals as goal
 
 pub returns-then-is_given_up : goal.returns-then-is_given_up

@@ -1,5 +1,5 @@
 use Rattle.std.proofs.Common.{◌≡◌, ◌∙◌, ◌++◌, Bool, arith, sym, subst}
-use Rattle.cm_watch.specs.Guarding.{counts, heard_if}
+use Rattle.cm_watched.specs.Guarding.{counts, heard_if}
 use Rattle.cm_watch.specs.Watches.{Watches}
 use Rattle.cm_watch.proofs.Steps.{same_counts}
 use Rattle.cm_watch.proofs.watch.Watch.hear.Goals as goal

@@ -1,7 +1,7 @@
 use Rattle.std.proofs.Common.{refl}
 use Rattle.std.proofs.lemmas.List.{get_or-replicate}
 use Rattle.cm_watch.specs.Kept.{blank_slave}
-use Rattle.cm_watch.specs.declared.slave.Slave.{Slave}
+use Rattle.cm_watched.specs.declared.slave.Slave.{Slave}
 use Rattle.cm_watch.proofs.watch.Watch.new.Goals as goal
 
 pub returns : goal.returns

@@ -4,10 +4,10 @@ use Rattle.cm_history.specs.Phases.{is_booting}
 use Rattle.cm_netlist.specs.Network.{listing}
 use Rattle.cm_watch.specs.Ends.{ends_by}
 use Rattle.cm_watch.specs.Kept.{course_after}
-use Rattle.cm_watch.specs.Pasts.{entries_in}
+use Rattle.cm_watched.specs.Pasts.{entries_in}
 use Rattle.cm_watch.specs.Watches.{AreSlaves}
 use Rattle.cm_watch.specs.declared.course.Course.{Course}
-use Rattle.cm_watch.specs.declared.settings.Settings.{Settings}
+use Rattle.cm_watched.specs.declared.settings.Settings.{Settings}
 use Rattle.cm_watch.proofs.Courses.{course_step, course_while, same_open}
 use Rattle.cm_watch.proofs.watch.Watch.note.Goals as goal
 

@@ -1,5 +1,5 @@
 use Rattle.std.proofs.Common.{◌∙◌, ap, arith}
-use Rattle.cm_watch.specs.declared.slave.Slave.{Slave}
+use Rattle.cm_watched.specs.declared.slave.Slave.{Slave}
 use Rattle.cm_watch.proofs.watch.Watch.state_heard.Goals as goal
 
 pub returns : goal.returns

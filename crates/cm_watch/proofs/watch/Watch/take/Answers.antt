@@ -1,10 +1,10 @@
 use Rattle.std.proofs.Common.{◌≡◌, ◌∙◌, ◌∷◌, Bool, ap, refl}
 use Rattle.cm_history.specs.Phases.{is_halted, is_ready}
 use Rattle.cm_watch.specs.Course.{is_stopped_in, phase_in}
-use Rattle.cm_watch.specs.Pasts.{Past}
+use Rattle.cm_watched.specs.Pasts.{Past}
 use Rattle.cm_watch.specs.Telling.{back_while, becomes, told_of}
 use Rattle.cm_watch.specs.declared.course.Course.{Course}
-use Rattle.cm_watch.specs.declared.happening.Moment.TheVariants as moment
+use Rattle.cm_watched.specs.declared.happening.Moment.TheVariants as moment
 use Rattle.cm_watch.proofs.watch.Watch.take.Goals as goal
 
 pub returns-clause-told : goal.returns-clause-told

@@ -1,6 +1,0 @@
-use Rattle.std.proofs.Common.{ℕ, IfSome, subst}
-use Rattle.canboot.specs.DeviceFiles.{IsNumber}
-use Rattle.canboot.proofs.importing.imported.node_number.Goals as goal
-
-pub returns : goal.returns
-returns c = subst (λ (any : ℕ). IfSome c.number.result (IsNumber any c.args.value.now)) c.in_ok-new.ensures.value c.number.ensures

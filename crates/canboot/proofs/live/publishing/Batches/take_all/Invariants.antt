@@ -1,6 +1,0 @@
-use Rattle.std.proofs.Common.{◌≡◌}
-use Rattle.canboot.proofs.live.publishing.Batches.take_all.Given as goal
-
--- to take entries shows readers nothing
-abbrev pub invariant-loop : goal.invariant-loop
-invariant-loop g l = l.publisher.shown ≡ l.initial.publisher.shown

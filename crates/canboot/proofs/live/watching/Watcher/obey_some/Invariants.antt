@@ -1,5 +1,0 @@
-use Rattle.canboot.specs.Going.{GoesOn}
-use Rattle.canboot.proofs.live.watching.Watcher.obey_some.Given as goal
-
-abbrev pub invariant-loop : goal.invariant-loop
-invariant-loop g l = GoesOn l.initial.self.course.network.now l.initial.self.course.progress l.self.course.network.now l.self.course.progress

@@ -1,9 +1,0 @@
-use Rattle.cm_seat.specs.Reads.{HasMadeCalls}
-use Rattle.canboot.proofs.live.workers.boot_handed.Given as goal
-
-abbrev pub invariant-loop : goal.invariant-loop
-invariant-loop g l = record {
-  can : (goal.iterator-loop g).can_next l.iterator';
-  ends : (goal.iterator-loop g).is_finite l.iterator';
-  calls : HasMadeCalls l.initial.booth l.booth;
-}

@@ -1,0 +1,88 @@
+-- What a slave that is made of a device file has of it.
+use Rattle.std.proofs.Common.{◌≡◌, ℕ, Bool, true, false, true≢false, List, ◌++◌, Option, Some, None, IfSome, Result, Ok, Err, IfOk, ◌⊎◌, inl, inr, refl, sym, subst}
+use Rattle.std.specs.Prelude.{codes, is_ok}
+use Rattle.std.specs.Result.{OkIff, result_ok}
+use Rattle.std.specs.List.{All}
+use Rattle.cm_netlist.specs.Network.{terms_of}
+use Rattle.cm_netlist.specs.declared.entry.SlaveEntry.{SlaveEntry}
+use Rattle.cm_netlist.specs.ReadBack.{IsReadBack, manager_text}
+use Rattle.cm_device.specs.DeviceFiles.{IsNumber}
+use Rattle.canboot_import.specs.Imports.{AreTermsOf, GivesNone, IsDeviceInfo, IsIdentity, IsImported, IsNodeOf, IsObjectValue, IsOfFile, IsReadAs}
+use Rattle.cm_device.specs.FileValues.{IsGiven, IsSetting, Stands, StandsNone}
+use Rattle.canboot_import.specs.LinesRead.{IsNumberRead, IsObjectRead, StandsAsNode, number_or_0, or_0}
+use Rattle.cm_device.specs.declared.device_file.Item.{Item}
+use Rattle.canboot_import.specs.declared.imported.ImportWords.{ImportWords}
+use Rattle.canboot_import.specs.declared.made.ImportedText.{ImportedText}
+
+-- the number of a value that stands in the file
+pub given : (file : List ℕ) (node : ℕ) (name key text : List ℕ) (n : ℕ) → Stands file name key text → IsNumber node text n → IsGiven file node name key n
+given file node name key text n stands number = record { text = text; stands = stands; number = number }
+
+-- what follows of each value holds of the one that there is
+pub if_there : {X : Type 0} (r : Option X) (P Q : X → Type 0) → ((x : X) → P x → Q x) → IfSome r P → IfSome r Q
+if_there None P Q more holds = tt
+if_there (Some x) P Q more holds = more x holds
+
+-- the byte that is made of a number is that number
+pub as_byte : {E : Type 0} (tried : Result ℕ E) (P : Type 0) (n found : ℕ) → OkIff tried P n → Some found ≡ result_ok tried → found ≡ n
+as_byte (Ok x) P n found fits is = let same = fits.1 in cc
+as_byte (Err e) P n found fits is = absurd cc
+
+-- the same text under equal names
+pub renamed : (file name other key other_key text : List ℕ) → other ≡ name → other_key ≡ key → Stands file other other_key text → Stands file name key text
+renamed file name other key other_key text same same_key stands =
+    subst (λ (n : List ℕ). Stands file n key text) same (subst (λ (k : List ℕ). Stands file other k text) same_key stands)
+
+pub renamed_none : (file name other key other_key : List ℕ) → other ≡ name → other_key ≡ key → StandsNone file other other_key → StandsNone file name key
+renamed_none file name other key other_key same same_key none =
+    subst (λ (n : List ℕ). StandsNone file n key) same (subst (λ (k : List ℕ). StandsNone file other k) same_key none)
+
+-- the node-ID of a text that stands in the file
+pub node_given : (file text : List ℕ) (n : ℕ) → StandsAsNode file text → IsNumber 1 text n → IsNodeOf file n
+node_given file text n (inl stands) number = inl record { text = text; stands = stands; number = number }
+node_given file text n (inr stands) number = inr record { text = text; stands = stands; number = number }
+
+-- the value of an object that has none of its own is its default
+pub or_default : (file : List ℕ) (node : ℕ) (name : List ℕ) (r : Result (Option ℕ) Item) → StandsNone file name (codes "ParameterValue")
+    → IfOk r (IsNumberRead file node name (codes "DefaultValue")) → IfOk r (IsObjectRead file node name)
+or_default file node name (Ok None) none is = (none, is)
+or_default file node name (Ok (Some n)) none is = inr (none, is)
+or_default file node name (Err item) none is = tt
+
+-- what an object's value says where it is 0 or isn't there, and where it is another
+pub is_0 : (file : List ℕ) (node : ℕ) (name : List ℕ) (v : Option ℕ) → IsObjectRead file node name v → or_0 v ≡ 0 → GivesNone file name ⊎ IsObjectValue file node name 0
+is_0 file node name None read is = inl read
+is_0 file node name (Some n) read is = inr (subst (λ (m : ℕ). IsObjectValue file node name m) is read)
+
+pub is_value : (file : List ℕ) (node : ℕ) (name : List ℕ) (v : Option ℕ) → IsObjectRead file node name v → (or_0 v ≡ 0 → ⊥) → IsObjectValue file node name (or_0 v)
+is_value file node name None read other = absurd (other refl)
+is_value file node name (Some n) read other = read
+
+-- an identity that isn't given among the objects is what the file says of its device
+pub of_info : (file : List ℕ) (node : ℕ) (name key : List ℕ) (r : Result ℕ Item) → GivesNone file name ⊎ IsObjectValue file node name 0 → IfOk r (IsDeviceInfo file node key)
+    → IfOk r (IsIdentity file node name key)
+of_info file node name key (Ok n) none is = inr (none, is)
+of_info file node name key (Err item) none is = tt
+
+-- the slave that is read back is the one of the file
+pub imported : {E : Type 0} (r : Result ImportedText E) (file : List ℕ) (words : ImportWords) (node : ℕ) (entry : SlaveEntry)
+    → IsOfFile file words node (terms_of entry) entry.writes.items → IfOk r (λ t. IsReadBack (manager_text node ++ t.slave.items) node entry)
+    → IfOk r (λ t. IsImported file words t.slave.items)
+imported (Ok t) file words node entry slave back = record {
+  node = node;
+  e = back.e;
+  list = back.list;
+  slave = record {
+    device = slave.device;
+    node_is = slave.node_is;
+    listed = subst (AreTermsOf file words node) (sym back.same.listed) slave.listed;
+    set = subst (All (IsSetting file node)) (sym back.same.set) slave.set;
+  };
+}
+imported (Err f) file words node entry slave back = tt
+
+-- what is listed of a number that was read, or of what stands in the file and is none
+pub listed : (r : Result ℕ Item) (n : ℕ) (mandatory : Bool) (P : ℕ → Type 0) → n ≡ number_or_0 r → IfOk r P → (mandatory ≡ true → is_ok r ≡ true) → IsReadAs mandatory P n
+listed (Ok m) n mandatory P is holds read = inl (subst P (sym is) holds)
+listed (Err item) n true P is holds read = absurd (true≢false (sym (read refl)))
+listed (Err item) n false P is holds read = inr (refl, is)

@@ -1,0 +1,3 @@
+pub mod LinesRead
+pub mod Importing
+pub mod Imports

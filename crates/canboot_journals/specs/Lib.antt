@@ -1,0 +1,6 @@
+pub mod Ended
+pub mod Mend
+pub mod Replay
+pub mod Expected
+pub mod Json
+pub mod ExpectedAnswer

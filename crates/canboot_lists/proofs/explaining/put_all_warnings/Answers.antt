@@ -1,0 +1,22 @@
+use Rattle.std.proofs.Common.{◌∙◌, subst}
+use Rattle.std.specs.Prelude.{flat_map}
+use Rattle.std.specs.Io.KnownBytes.{Appends}
+use Rattle.std.proofs.KnownBytes.{Appends-nil}
+use Rattle.canboot_lists.specs.Explained.{slave_warnings_of}
+use Rattle.cm_netlist.proofs.Lines.{of_all, one_more}
+use Rattle.canboot_lists.proofs.explaining.put_all_warnings.Goals as goal
+
+pub loop-id-init : goal.loop-id-init
+loop-id-init g c = Appends-nil (g.W.Write.contents c.args.out.now)
+
+pub loop-id-preserved : goal.loop-id-preserved
+loop-id-preserved g c =
+    one_more (slave_warnings_of c.args.network.now) c.as_slice-id-items.result.now c.loop-id.id-index c.id-item.result _ _ _ c.loop-id-test.true c.id-item.is
+    c.loop-id.invariant c.in_ok-put_warnings_of.ensures
+
+pub returns : goal.returns
+returns g c =
+    let text = slave_warnings_of c.args.network.now in
+    let all = of_all text c.as_slice-id-items.result.now c.loop-id.id-index _ _ c.loop-id-test.false c.loop-id.invariant in
+    subst (λ ids. Appends (g.W.Write.contents c.args.out.now) (g.W.Write.contents c.loop-id.out) (flat_map text ids))
+    (c.as_slice-id-items.ensures.value ∙ c.listed_ids.ensures) all

@@ -1,0 +1,350 @@
+//! The files of a live run.
+
+ghost use Rattle.std.specs.Prelude.{◌≡◌, ◌≤◌, ◌⊎◌, IfErr};
+
+use crate::live::{Followed, LiveEnds, live_text};
+use canboot_cli::{JournalPath, LivePaths, LiveWords};
+use canboot_faults::{FAILED, MISUSED, REFUSED, fault_line, read_fault, write_fault};
+use canboot_live_files::{
+    EventFile, JournalFile, OperatorInput, ReplaceFile, StatusFile, make_journal, open_operator,
+    wrong_path,
+};
+use canboot_refusing::{explain_names, read_fault_of, read_file, refuse_explained, write_fault_of};
+use cm_bus::{
+    BusPaths, LiveOptions, Outlet, Unopened, channel_closing, channel_opening, format_of, open_bus,
+    writers_to,
+};
+use cm_netlist::list_of;
+use cm_recorder::JournalOutput;
+use cm_report::ReportForm;
+use cm_shown::{Names, NamesFault, ShownLines, read_names};
+use std::alloc::Global;
+use std::fs::File;
+use std::io::{self, BufWriter, ErrorKind, StdinLock, Write};
+use std::rt::Files;
+use std::sync::Wait;
+use std::thread::Threads;
+use std::time::Clock;
+
+/// How the network is booted and watched, as these words say.
+fn options_of(words: &LiveWords<'_>) -> LiveOptions
+    ensures { result.workers ≡ words.now.workers }
+{
+    LiveOptions {
+        workers: words.workers,
+        attempts: words.attempts,
+        answer_ms: words.answer_ms,
+        settle_ms: words.settle_ms,
+        heartbeat_ms: words.heartbeat_ms,
+        seconds: words.seconds,
+        format: format_of(&words.bus),
+    }
+}
+
+/// The fault of an operator's file that can't be opened, or is no FIFO.
+fn operator_fault<E: Write>(err: &mut E, kind: ErrorKind) -> u8
+    ensures { result ≡ 3 }
+{
+    match kind {
+        ErrorKind::InvalidInput => fault_line(err, FAILED, "the operator's file isn't a FIFO"),
+        _ => read_fault(err, kind),
+    }
+}
+
+/// Writes the line of fault of a text of names, and behind it where it applies. The answer is the exit status.
+fn refuse_names<E: Write>(
+    alloc: Global,
+    path: &str,
+    text: &[u8],
+    fault: NamesFault,
+    err: &mut E,
+) -> u8
+    ensures { (result ≡ 1) ⊎ (result ≡ 3) }
+{
+    let status = match fault {
+        NamesFault::OutOfMemory => fault_line(err, FAILED, "out of memory"),
+        NamesFault::NotToml => fault_line(err, REFUSED, "names: not TOML"),
+        NamesFault::BadNode => fault_line(err, REFUSED, "names: bad node-ID"),
+        NamesFault::BadName => fault_line(err, REFUSED, "names: bad name"),
+    };
+    explain_names(alloc, path, text, fault, err);
+    status
+}
+
+/// The names of the file of this path; none without a path.
+fn read_names_file<R: Files + AllocGlobal, E: Write>(
+    rt: &R,
+    path: Option<&str>,
+    err: &mut E,
+) -> Result<Names, u8>
+    ensures { IfErr result (λ status. (status ≡ 1) ⊎ (status ≡ 3)) }
+{
+    let Some(path) = path else {
+        return Ok(Names::new(rt.alloc()));
+    };
+    let text = match read_file(rt, path, err) {
+        Ok(text) => text,
+        Err(status) => return Err(status),
+    };
+    let bytes = text.as_slice();
+    match read_names(rt.alloc(), bytes) {
+        Ok(names) => Ok(names),
+        Err(fault) => Err(refuse_names(rt.alloc(), path, bytes, fault, err)),
+    }
+}
+
+/// Opens what events are written to, if they are. The answer is else the exit status.
+fn open_events<R: Files<File = File>, E: Write>(
+    rt: &R,
+    path: Option<&str>,
+    err: &mut E,
+) -> Result<Option<EventFile>, u8>
+    ensures { IfErr result (λ status. status ≡ 3) }
+{
+    let Some(path) = path else {
+        return Ok(None);
+    };
+    match EventFile::open(rt, path) {
+        Ok(file) => Ok(Some(file)),
+        Err(error) => Err(write_fault_of(err, path, error.kind())),
+    }
+}
+
+/// Where the report so far is written, if it is.
+fn status_file<F: Drop>(
+    alloc: Global,
+    path: Option<&str>,
+    files: F,
+) -> io::Result<Option<StatusFile<F>>> {
+    let Some(path) = path else {
+        return Ok(None);
+    };
+    let path = String::from_str(alloc, path)?;
+    Ok(Some(StatusFile { files, path }))
+}
+
+/// Opens where other programs follow a live run. The answer is else the exit status.
+fn open_followed<R: Files<File = File> + AllocGlobal, F: Drop, E: Write>(
+    rt: &R,
+    paths: &LivePaths<'_>,
+    files: F,
+    err: &mut E,
+) -> Result<Followed<EventFile, F>, u8>
+    ensures { IfErr result (λ status. status ≡ 3) }
+{
+    let events = match open_events(rt, paths.events, err) {
+        Ok(events) => events,
+        Err(status) => return Err(status),
+    };
+    match status_file(rt.alloc(), paths.status, files) {
+        Ok(status) => Ok(Followed { events, status }),
+        Err(error) => Err(write_fault(err, error.kind())),
+    }
+}
+
+/// What a live run reads and writes, opened.
+#[derive(Drop)]
+struct OpenEnds<F> {
+    ends: LiveEnds<File, OperatorInput, BufWriter<File>, EventFile, F>,
+    messages: Outlet<BufWriter<File>>,
+    /// The bus itself.
+    sent: File,
+}
+
+/// Opens what a live run reads and writes, but for its journal. The answer is else the exit status.
+fn open_ends<
+    R: Files<File = File> + Input<Reader = StdinLock<'static>> + AllocGlobal,
+    F: Drop,
+    E: Write,
+>(
+    rt: &R,
+    paths: &LivePaths<'_>,
+    bus: &BusPaths<'_>,
+    options: &LiveOptions,
+    files: F,
+    err: &mut E,
+) -> Result<OpenEnds<F>, u8>
+    requires workers { (1 ≤ options.now.workers) × (options.now.workers ≤ 16) }
+    ensures { IfErr result (λ status. status ≡ 3) }
+{
+    let typed = match open_operator(rt, paths.operator) {
+        Ok(typed) => typed,
+        Err(error) => return Err(operator_fault(err, error.kind())),
+    };
+    let (received, sent) = match open_bus(rt, bus) {
+        Ok(opened) => opened,
+        Err(Unopened { path, kind }) => return Err(read_fault_of(err, path, kind)),
+    };
+    // One for each worker, one for error control, and one for the NMT messages.
+    let mut written = match writers_to(rt.alloc(), &sent, options.workers + 2) {
+        Ok(writers) => writers,
+        Err(error) => return Err(write_fault(err, error.kind())),
+    };
+    let (Some(writer), Some(error_control)) = (written.pop(), written.pop()) else {
+        return Err(fault_line(err, FAILED, "out of memory"));
+    };
+    let followed = match open_followed(rt, paths, files, err) {
+        Ok(followed) => followed,
+        Err(status) => return Err(status),
+    };
+    Ok(OpenEnds {
+        ends: LiveEnds {
+            received,
+            typed,
+            written,
+            error_control,
+            followed,
+        },
+        messages: Outlet::new(writer, options.format),
+        sent,
+    })
+}
+
+/// Makes the file of the journal, if there is one. Where another is taken than the path's own, that is told as a line of the run is.
+fn make_journal_told<R: Files<File = File> + Clock + AllocGlobal, E: Write>(
+    rt: &R,
+    journal: JournalPath<'_>,
+    err: &mut E,
+    is_coloured: bool,
+) -> io::Result<JournalOutput<JournalFile<File>>> {
+    let names = Names::new(rt.alloc());
+    let mut shown = ShownLines::new(rt, rt.alloc(), err, is_coloured, Some(&names));
+    make_journal(rt, journal.path, journal.is_synced, &mut shown)
+}
+
+/// The same. The answer is else the exit status.
+fn open_journal<R: Files<File = File> + Clock + AllocGlobal, E: Write>(
+    rt: &R,
+    journal: JournalPath<'_>,
+    err: &mut E,
+    is_coloured: bool,
+) -> Result<JournalOutput<JournalFile<File>>, u8>
+    ensures { IfErr result (λ status. status ≡ 3) }
+{
+    let made = make_journal_told(rt, journal, err, is_coloured);
+    match (made, journal.path) {
+        (Ok(output), _) => Ok(output),
+        (Err(error), Some(path)) => Err(write_fault_of(err, path, error.kind())),
+        (Err(error), None) => Err(write_fault(err, error.kind())),
+    }
+}
+
+/// Runs over what was opened, and its journal's file. Each line of the run on `err` has its time, and words in colour and with names
+/// where these are asked for.
+fn live_over<
+    R: Files<File = File>
+        + Clock
+        + AllocGlobal
+        + Wait
+        + Threads
+        + Clone
+        + Send
+        + Sync
+        + Drop
+        + 'static,
+    F: ReplaceFile + Send + Drop + 'static,
+    O: Write,
+    E: Write,
+>(
+    rt: &R,
+    text: &[u8],
+    mut journal: JournalOutput<JournalFile<File>>,
+    options: LiveOptions,
+    report: ReportForm,
+    opened: OpenEnds<F>,
+    out: &mut O,
+    shown: &mut ShownLines<'_, R, E>,
+) -> u8
+    requires workers { (1 ≤ options.workers) × (options.workers ≤ 16) }
+    ensures statuses { (result ≡ 0) ⊎ ((result ≡ 1) ⊎ (result ≡ 3)) }
+{
+    let OpenEnds {
+        ends,
+        messages,
+        mut sent,
+    } = opened;
+    let mut messages = Some(messages);
+    let _ = sent.write_all(channel_opening(options.format));
+    let mut list = text;
+    let status = live_text(
+        rt,
+        rt.alloc(),
+        &mut list,
+        options,
+        report,
+        ends,
+        out,
+        shown,
+        &mut messages,
+        &mut journal,
+    );
+    let _ = sent.write_all(channel_closing(options.format));
+    status
+}
+
+/// `canboot live`, over the files that these words name. The list is read first; where it has no fault, the names are read and the
+/// rest is opened, and then the journal's file is made, if there is one, before a byte goes to the bus. Where the start will be
+/// refused no journal is made.
+pub(crate) fn live_file<
+    R: Files<File = File>
+        + Input<Reader = StdinLock<'static>>
+        + Clock
+        + AllocGlobal
+        + Wait
+        + Threads
+        + Clone
+        + Send
+        + Sync
+        + Drop
+        + 'static,
+    F: ReplaceFile + Send + Drop + 'static,
+    O: Write,
+    E: Write,
+>(rt: &R, words: &LiveWords<'_>, files: F, out: &mut O, err: &mut E, is_coloured: bool) -> u8
+    requires workers { (1 ≤ words.now.workers) × (words.now.workers ≤ 16) }
+    ensures statuses { result ≤ 3 }
+{
+    let (paths, options) = (&words.paths, options_of(words));
+    let text = match read_file(rt, paths.network, err) {
+        Ok(text) => text,
+        Err(status) => return status,
+    };
+    let is_master = match list_of(rt.alloc(), text.as_slice()) {
+        Ok(network) => network.startup().is_master(),
+        Err(fault) => return refuse_explained(rt.alloc(), text.as_slice(), fault, err),
+    };
+    if let Some(wrong) = wrong_path(rt, paths) {
+        return fault_line(err, MISUSED, wrong);
+    }
+    let names = match read_names_file(rt, paths.names, err) {
+        Ok(names) => names,
+        Err(status) => return status,
+    };
+    let opened = match open_ends(rt, paths, &words.bus, &options, files, err) {
+        Ok(opened) => opened,
+        Err(status) => return status,
+    };
+    let journal = if is_master {
+        paths.journal
+    } else {
+        JournalPath {
+            path: None,
+            is_synced: false,
+        }
+    };
+    let journal = match open_journal(rt, journal, err, is_coloured) {
+        Ok(output) => output,
+        Err(status) => return status,
+    };
+    let mut shown = ShownLines::new(rt, rt.alloc(), err, is_coloured, Some(&names));
+    live_over(
+        rt,
+        text.as_slice(),
+        journal,
+        options,
+        words.report,
+        opened,
+        out,
+        &mut shown,
+    )
+}

@@ -1,0 +1,32 @@
+//! The marks of a picture.
+
+use crate::drawing::Drawing;
+use crate::mark::{Mark, PlaceMarks};
+use crate::scale::Scale;
+use cm_history::Entry;
+use cm_netlist::Network;
+use cm_sequential::Manager;
+use std::alloc::{AllocError, Global};
+
+/// The marks of a picture: boots, frames, holds and losses of the lanes; where the network is ready or halted, across all of them; the
+/// numbers of entries along the top, and the legend. In a place in which several of one kind would stand the worst one does.
+#[derive(Clone, Copy)]
+pub(crate) struct Marks;
+
+impl PlaceMarks for Marks {
+    fn marks_of(
+        &self,
+        alloc: Global,
+        network: &Network,
+        entries: &[Entry],
+        scale: Scale,
+        managers: &[Manager],
+    ) -> Result<Vec<Mark>, AllocError> {
+        let mut drawing = Drawing::new(alloc, network, scale);
+        drawing.put_places(u32::try_from(managers.len()).unwrap_or(u32::MAX))?;
+        drawing.put_entries(network, entries)?;
+        drawing.put_phases(managers)?;
+        drawing.put_legend()?;
+        Ok(drawing.marks)
+    }
+}

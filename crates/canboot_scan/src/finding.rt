@@ -1,0 +1,119 @@
+//! The devices on a bus are asked what they are.
+
+ghost use Rattle.std.specs.Prelude.{◌≡◌, All, IfOk};
+ghost use Rattle.canboot_scan.specs.Scanning.{IsHeardDevice};
+
+use crate::asking::ask_nodes;
+use crate::scan::{ScanEnds, ScanOptions};
+use crate::scanned::{BusSaid, NoScan, Scanned, in_order};
+use cm_bus::{LiveOptions, set_up};
+use cm_can::{BusState, CanError, Remark};
+use cm_netlist::Network;
+use cm_nmt::NodeId;
+use cm_receiving::{BusName, Happening};
+use cm_text::ENDLESS;
+use crossbeam_channel::Receiver;
+use std::alloc::Global;
+use std::io::{Read, Write};
+use std::marker::Brand;
+use std::sync::Wait;
+use std::sync::atomic::Ordering;
+use std::thread::Threads;
+use std::time::Clock;
+
+/// The options of a live run that a scan has in common with it.
+fn live_options(options: ScanOptions) -> LiveOptions
+    ensures { result.format ≡ options.format }
+{
+    LiveOptions {
+        workers: options.workers,
+        attempts: 1,
+        answer_ms: options.answer_ms,
+        settle_ms: 0,
+        heartbeat_ms: 0,
+        seconds: None,
+        format: options.format,
+    }
+}
+
+/// The interface says this of the bus.
+fn take_error(said: &mut BusSaid, error: &CanError) {
+    if error.is_unacknowledged() {
+        said.is_unacknowledged = true;
+    }
+    if let Some(state) = error.state() {
+        said.state = Some(state);
+    }
+}
+
+/// What was told of the bus so far, while its nodes were asked.
+fn told_of<R: Wait>(rt: &R, happenings: &Receiver<Happening>) -> BusSaid {
+    let mut said = BusSaid {
+        is_over: false,
+        are_strange: false,
+        is_unacknowledged: false,
+        state: None,
+    };
+    for _told in 0..ENDLESS {
+        match happenings.try_recv(rt) {
+            Ok(Happening::NoMoreHeard) => said.is_over = true,
+            Ok(Happening::NoFrames) => said.are_strange = true,
+            Ok(Happening::Said(Remark::Error(error))) => take_error(&mut said, &error),
+            Ok(_) => {}
+            Err(_) => break,
+        }
+    }
+    said
+}
+
+/// Asks these nodes on a bus that has a name.
+fn find_on<
+    R: Wait + Threads + Clock + Clone + Send + Sync + Drop + 'static,
+    B: BusName + Send + Sync + 'static,
+    I: Read + Send + Drop + 'static,
+    W: Write + Drop + Send,
+>(
+    rt: &R,
+    alloc: Global,
+    network: &Network,
+    nodes: &[NodeId],
+    options: ScanOptions,
+    ends: ScanEnds<I, W>,
+) -> Result<Scanned, NoScan>
+    requires format { options.format ≡ B.format }
+    requires text { I.remaining ends.received ≡ B.text }
+    ensures { IfOk result (λ s. All (IsHeardDevice B.format B.text) s.found.items) }
+{
+    let (setting, happenings) = set_up(rt, alloc, network, live_options(options))?;
+    let ScanEnds { received, written } = ends;
+    let devices = ask_nodes::<_, B, _, _>(&setting, nodes, received, written)?;
+    if setting.broken.load(Ordering::SeqCst) {
+        return Err(NoScan::NotWritten);
+    }
+    let said = told_of(rt, &happenings);
+    if said.is_over {
+        return Err(NoScan::NotHeard);
+    }
+    if said.state == Some(BusState::Off) {
+        return Err(NoScan::BusOff);
+    }
+    Ok(in_order(alloc, devices, said)?)
+}
+
+/// Asks these nodes what they are; those that answered, in rising order.
+pub(crate) fn find_devices<
+    R: Wait + Threads + Clock + Clone + Send + Sync + Drop + 'static,
+    I: Read + Send + Drop + 'static,
+    W: Write + Drop + Send,
+>(
+    rt: &R,
+    alloc: Global,
+    network: &Network,
+    nodes: &[NodeId],
+    options: ScanOptions,
+    ends: ScanEnds<I, W>,
+) -> Result<Scanned, NoScan>
+    ensures { IfOk result (λ s. All (IsHeardDevice options.format (I.remaining ends.received)) s.found.items) }
+{
+    find_on::<_, Brand, _, _>(rt, alloc, network, nodes, options, ends)
+}

@@ -1,0 +1,239 @@
+//! `canboot scan`: the network list of the devices on a CAN bus, and how they differ from one.
+
+ghost use Rattle.std.specs.Prelude.{◌≡◌, ◌⊎◌, ℕ, List, [], Option, All, OnOk};
+ghost use Rattle.std.specs.Io.KnownBytes.{Appends};
+ghost use Rattle.cm_can.specs.declared.format.Format.{Format as Lines};
+ghost use Rattle.canboot_scan.specs.Scanning.{AreHeardAsListed, FailsToScan, IsHeardDevice, Scans};
+
+use crate::comparing::compare;
+use crate::difference::Difference;
+use crate::differences::{put_lines, put_object};
+use crate::finding::find_devices;
+use crate::listing::{ScanFault, list_found};
+use crate::scanned::{BusSaid, NoScan, Scanned};
+use canboot_faults::{DONE, FAILED, REFUSED, fault_line, output_status};
+use cm_can::Format;
+use cm_netlist::Network;
+use cm_nmt::{NodeId, Startup};
+use cm_report::ReportForm;
+use cm_telling::{ErrorNotice, Notice};
+use cm_words::{NoFrames, say_notice};
+use std::alloc::Global;
+use std::io::{self, Read, Write};
+use std::sync::Wait;
+use std::thread::Threads;
+use std::time::Clock;
+
+/// How `canboot scan` asks.
+#[derive(Clone, Copy)]
+pub struct ScanOptions {
+    /// How many workers ask nodes, 1 to 16.
+    pub workers: u8,
+    /// How long an answer is waited for, in ms.
+    pub answer_ms: u32,
+    /// In what lines frames come and go.
+    pub format: Format,
+}
+
+/// Where the frames of a scan come from and go to.
+#[derive(Drop)]
+pub struct ScanEnds<I, W> {
+    /// Where frames are received.
+    pub received: I,
+    /// Where the frames of the workers are written, one for each.
+    pub written: Vec<W>,
+}
+
+/// What is printed of the devices that were found.
+#[derive(Clone, Copy)]
+pub struct ListForm {
+    /// The manager's own node-ID in the list.
+    pub own: NodeId,
+    /// Whether a comment says what each one's device profile is about.
+    pub with_profiles: bool,
+}
+
+/// Writes why a scan gives nothing, and gives the exit status.
+fn no_scan_line<E: Write>(err: &mut E, none: NoScan) -> u8
+    ensures { result ≡ 3 }
+{
+    let words = match none {
+        NoScan::OutOfMemory => "out of memory",
+        NoScan::NoWorker => "no worker",
+        NoScan::NotHeard => "read failed",
+        NoScan::NotWritten => "write failed",
+        NoScan::BusOff => "bus: off",
+    };
+    fault_line(err, FAILED, words)
+}
+
+/// Says what the bus said of itself.
+fn tell_bus<E: Write>(err: &mut E, network: &Network, said: BusSaid) -> io::Result<()> {
+    if said.is_unacknowledged {
+        err.write_all(b"canboot: ")?;
+        say_notice(err, network, Some(Notice::Bus(ErrorNotice::Unacknowledged)))?;
+    }
+    if let Some(state) = said.trouble() {
+        err.write_all(b"canboot: ")?;
+        say_notice(err, network, Some(Notice::Bus(ErrorNotice::State(state))))?;
+    }
+    Ok(())
+}
+
+/// Says beside the list that nothing that was received is a frame, that no device was heard, what the bus said of itself, and at which
+/// nodes two devices answer, each where it is so.
+fn tell_beside<E: Write>(
+    err: &mut E,
+    network: &Network,
+    format: Format,
+    scanned: &Scanned,
+) -> io::Result<()> {
+    if scanned.said.are_strange {
+        let words = NoFrames(format);
+        writeln!(err, "canboot: {words}")?;
+    }
+    if scanned.found.is_empty() {
+        err.write_all(b"canboot: no device was heard\n")?;
+    }
+    tell_bus(err, network, scanned.said)?;
+    for double in scanned.doubles.as_slice() {
+        writeln!(err, "canboot: {double}")?;
+    }
+    Ok(())
+}
+
+/// Writes a text, and all of it.
+fn put_text<O: Write>(text: &[u8], out: &mut O) -> io::Result<()>
+    ensures { OnOk result (Appends (O.contents out.old) (O.contents out.new) text.now) }
+{
+    out.write_all(text)?;
+    out.flush()
+}
+
+/// Writes the network list of what was found, and gives the exit status.
+fn put_list<O: Write, E: Write>(
+    alloc: Global,
+    scanned: &Scanned,
+    form: ListForm,
+    out: &mut O,
+    err: &mut E,
+) -> u8
+    ensures done { (lines : Lines) (received : Option (List ℕ)) → All (IsHeardDevice lines received) scanned.now.found.items
+        → result ≡ 0 → Scans lines received form.own (O.contents out.old) (O.contents out.new) }
+    ensures failed { (lines : Lines) (received : Option (List ℕ)) → All (IsHeardDevice lines received) scanned.now.found.items
+        → result ≡ 3 → FailsToScan lines received form.own (O.contents out.old) (O.contents out.new) }
+    ensures statuses { (result ≡ 0) ⊎ (result ≡ 3) }
+{
+    let found = scanned.found.as_slice();
+    let names = scanned.names.as_slice();
+    match list_found(alloc, form.own, found, names, form.with_profiles) {
+        Ok(text) => output_status(err, put_text(text.as_slice(), out)),
+        Err(ScanFault::OutOfMemory) => fault_line(err, FAILED, "out of memory"),
+        Err(ScanFault::NoList) => fault_line(err, FAILED, "no network list has these devices"),
+    }
+}
+
+/// Asks these nodes on a CAN bus, workers side by side, what they are: 1000h, and of those that answer it 1018h sub 1 to 4 and 1008h
+/// (CiA 301); and writes a network list in TOML of the devices that answered, in rising order of their node-IDs: each is to be booted
+/// (1F81h bits 0 and 2), and the values that it gave are the expected ones; a value that it didn't give is left out. No NMT message is
+/// sent. `ends` has a writer for each worker. The answer is the exit status:
+///
+/// - 0: the list is written, of whatever was found; `err` has a line where no device was heard, where the bus says that it isn't well, and
+///   for each node at which two devices answer;
+/// - 3: frames could no longer be received or sent, the bus is off, the list couldn't be written, memory or a thread was refused; `err` has one line
+///   that says which.
+pub fn scan_text<
+    R: Wait + Threads + Clock + Clone + Send + Sync + Drop + 'static,
+    I: Read + Send + Drop + 'static,
+    W: Write + Drop + Send,
+    O: Write,
+    E: Write,
+>(
+    rt: &R,
+    alloc: Global,
+    nodes: &[NodeId],
+    options: ScanOptions,
+    form: ListForm,
+    ends: ScanEnds<I, W>,
+    out: &mut O,
+    err: &mut E,
+) -> u8
+    ensures done { result ≡ 0 → Scans options.format (I.remaining ends.received) form.own
+        (O.contents out.old) (O.contents out.new) }
+    ensures failed { result ≡ 3 → FailsToScan options.format (I.remaining ends.received) form.own
+        (O.contents out.old) (O.contents out.new) }
+    ensures statuses { (result ≡ 0) ⊎ (result ≡ 3) }
+{
+    let network = Network::new(alloc, form.own, Startup(1), 0);
+    match find_devices(rt, alloc, &network, nodes, options, ends) {
+        Ok(scanned) => {
+            let _ = tell_beside(err, &network, options.format, &scanned);
+            put_list(alloc, &scanned, form, out, err)
+        }
+        Err(none) => no_scan_line(err, none),
+    }
+}
+
+/// Writes the differences in this form, and gives the exit status: 0 only where there is none.
+fn put_compared<O: Write, E: Write>(
+    differences: &[Difference],
+    slaves: usize,
+    form: ReportForm,
+    out: &mut O,
+    err: &mut E,
+) -> u8
+    ensures none { result ≡ 0 → differences.now ≡ [] }
+    ensures statuses { (result ≡ 0) ⊎ ((result ≡ 1) ⊎ (result ≡ 3)) }
+{
+    let output = match form {
+        ReportForm::Text => put_lines(differences, slaves, out),
+        ReportForm::Json => put_object(differences, slaves, out),
+    };
+    match (output, differences) {
+        (Ok(()), []) => DONE,
+        (Ok(()), _) => REFUSED,
+        (Err(_), _) => fault_line(err, FAILED, "write failed"),
+    }
+}
+
+/// Asks these nodes as [`scan_text`] does, and writes how the devices that answered differ from those that the network list has, a
+/// line for each listed node without a device, for each value that isn't the expected one, and for each device that isn't listed; or
+/// these as one JSON object on a line. The answer is the exit status:
+///
+/// - 0: each listed slave answered each value that is expected of it, and no other node that was asked answered;
+/// - 1: not so; `out` has the lines;
+/// - 3: as [`scan_text`]'s.
+pub fn scan_check<
+    R: Wait + Threads + Clock + Clone + Send + Sync + Drop + 'static,
+    I: Read + Send + Drop + 'static,
+    W: Write + Drop + Send,
+    O: Write,
+    E: Write,
+>(
+    rt: &R,
+    alloc: Global,
+    network: &Network,
+    nodes: &[NodeId],
+    options: ScanOptions,
+    form: ReportForm,
+    ends: ScanEnds<I, W>,
+    out: &mut O,
+    err: &mut E,
+) -> u8
+    ensures done { result ≡ 0
+        → AreHeardAsListed options.format (I.remaining ends.received) network.now }
+    ensures statuses { (result ≡ 0) ⊎ ((result ≡ 1) ⊎ (result ≡ 3)) }
+{
+    let scanned = match find_devices(rt, alloc, network, nodes, options, ends) {
+        Ok(scanned) => scanned,
+        Err(none) => return no_scan_line(err, none),
+    };
+    let _ = tell_beside(err, network, options.format, &scanned);
+    match compare(alloc, network, scanned.found.as_slice()) {
+        Ok(differences) => {
+            let slaves = network.listed_ids().len();
+            put_compared(differences.as_slice(), slaves, form, out, err)
+        }
+        Err(_) => fault_line(err, FAILED, "out of memory"),
+    }
+}

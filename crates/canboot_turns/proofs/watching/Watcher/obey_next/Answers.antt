@@ -1,0 +1,8 @@
+use Rattle.std.proofs.Common.{inr}
+use Rattle.canboot_turns.proofs.Going.{both_ok}
+use Rattle.canboot_turns.proofs.watching.Watcher.obey_next.Goals as goal
+
+pub returns-in-Ok-clause-obeyed : goal.returns-in-Ok-clause-obeyed
+returns-in-Ok-clause-obeyed g c = λ s past f.
+    both_ok c.obey.result (c.obey.ensures.told s past f) c.obey.ensures.made
+    (λ follows made. inr (record { place = c.in-Ok.line.place; line = c.in-Ok.line.line; stands = c.obey.ensures.stands; follows = follows; made = made }))

@@ -1,0 +1,64 @@
+ghost use Rattle.std.specs.Prelude.{◌≡◌};
+ghost use Rattle.canboot_turns.specs.Ending.{going_on, is_end_step, is_ended_by};
+
+use cm_history::CallFault;
+use cm_watched::Step;
+use std::alloc::AllocError;
+
+/// How a live run ends.
+#[derive(Clone, Copy)]
+pub enum Ending {
+    /// As its operator asked.
+    Asked,
+    /// No frames come any more.
+    NotHeard,
+    /// A frame couldn't be written.
+    NotWritten,
+    /// Memory was refused.
+    OutOfMemory,
+    /// A call couldn't be made.
+    NotCalled(CallFault),
+}
+
+impl From<AllocError> for Ending {
+    fn from(_refused: AllocError) -> Ending
+        ensures { result ≡ Ending.OutOfMemory }
+    {
+        Ending::OutOfMemory
+    }
+}
+
+impl From<CallFault> for Ending {
+    fn from(fault: CallFault) -> Ending
+        ensures { result ≡ Ending.NotCalled fault }
+    {
+        Ending::NotCalled(fault)
+    }
+}
+
+/// Why the run can't go on, if it can't: a frame or an entry was lost.
+pub(crate) fn can_go_on(is_broken: bool, is_untold: bool) -> Result<(), Ending>
+    ensures { result ≡ going_on is_broken is_untold }
+{
+    if is_broken {
+        Err(Ending::NotWritten)
+    } else if is_untold {
+        Err(Ending::OutOfMemory)
+    } else {
+        Ok(())
+    }
+}
+
+/// Whether the step is the end of the run.
+fn is_end(step: &Step) -> bool
+    ensures { result ≡ is_end_step step.now }
+{
+    matches!(step, Step::End)
+}
+
+/// Whether the run ends with these steps.
+pub(crate) fn is_ended_by(steps: &[Step]) -> bool
+    ensures { result ≡ is_ended_by steps.now }
+{
+    steps.iter().any(|step| is_end(step))
+}

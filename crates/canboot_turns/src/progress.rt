@@ -1,0 +1,359 @@
+//! How far a live run has come.
+
+ghost use Rattle.std.specs.Prelude.{◌≡◌, ◌<◌, ◌^◌, [], ◌∷◌, ◌++◌, ℕ, List, Option, false, IfNone, IfOk, IfSome, OnOk, Some};
+ghost use Rattle.cm_register.specs.SeatViews.{SeatView};
+ghost use Rattle.cm_netlist.specs.Network.{Network as NetworkList};
+ghost use Rattle.cm_watched.specs.Guarding.{guard_of, heard_at};
+ghost use Rattle.cm_watched.specs.Pasts.{Past};
+ghost use Rattle.cm_watched.specs.Signals.{state_heard};
+ghost use Rattle.cm_telling.specs.Tried.{may_change_boots};
+ghost use Rattle.cm_watch.specs.Watches.{Watches};
+ghost use Rattle.canboot_turns.specs.Again.{HasHeardAgain, state_again};
+ghost use Rattle.canboot_turns.specs.Going.{ComesNext, Follows, GoesOn, HasTaken, HasToldEntries, ends_behind};
+ghost use Rattle.cm_watched.specs.declared.happening.Happening.TheVariants.{Called, Ended};
+ghost use Rattle.cm_watched.specs.declared.happening.Moment.TheVariants.{Happened};
+ghost use Rattle.cm_watched.specs.declared.settings.Settings.{Settings as WatchSettings};
+
+use crate::ending::{Ending, can_go_on};
+use crate::watching::{MOST_TAKEN, is_set};
+use canboot_saying::{Boots, Events, Teller, count_sent};
+use cm_bus::{Outlet, Setting};
+use cm_history::{CallFault, Entry};
+use cm_netlist::Network;
+use cm_nmt::NodeId;
+use cm_receiving::{Happening as Heard, Heartbeats};
+use cm_register::{RunName, Seat};
+use cm_sequential::frames;
+use cm_telling::{Tried, Waiting};
+use cm_versions::VersionReader;
+use cm_watch::Watch;
+use cm_watched::{Happening, Settings, guard_of};
+use cm_words::given_up;
+use crossbeam_channel::Receiver;
+use std::alloc::{AllocError, Global};
+use std::io::Write;
+use std::sync::Wait;
+use std::time::Clock;
+
+/// What the watch keeps of a live run, what waits to be told in words, and what came of the boots of slaves.
+#[derive(Drop)]
+pub(crate) struct Progress<T> {
+    pub(crate) watch: Watch,
+    pub(crate) waiting: Waiting<T>,
+    pub(crate) tried: Tried,
+}
+
+impl Progress<Entry> {
+    /// Nothing has happened.
+    pub(crate) fn new(alloc: Global, settings: Settings) -> Progress<Entry>
+        ensures { (net : NetworkList) → Follows result net settings [] }
+    {
+        Progress {
+            watch: Watch::new(settings),
+            waiting: Waiting::new(alloc),
+            tried: Tried::new(),
+        }
+    }
+
+    /// What the watch is told beside entries. The answer is the slave that is given up with it, if one is while the network isn't
+    /// halted.
+    pub(crate) fn note(
+        &mut self,
+        network: &Network,
+        happening: &Happening,
+        now: u64,
+    ) -> Option<NodeId>
+        requires time { now < 2 ^ 63 }
+        requires other { may_change_boots (Happened happening.now) ≡ false }
+        ensures { (s : WatchSettings) (past : Past) → Follows self.old network.now s past
+            → Follows self.new network.now s ((now, Happened happening.now) ∷ past) }
+    {
+        let told = self.watch.take(network, now, happening);
+        if self.watch.phase().is_halted() {
+            None
+        } else {
+            told.given_up
+        }
+    }
+
+    /// An error control message of a node came, with this byte.
+    pub(crate) fn hear(&mut self, network: &Network, id: NodeId, byte: u8, now: u64)
+        requires { now < 2 ^ 63 }
+        ensures { (s : WatchSettings) (past : Past) → Follows self.old network.now s past
+            → Follows self.new network.now s (heard_at network.now past now id byte ++ past) }
+    {
+        self.watch.hear(network, now, id, byte);
+    }
+
+    /// The entry that comes next in the history, where it has come.
+    pub(crate) fn next_entry(&mut self) -> Option<Entry>
+        ensures next { (net : NetworkList) (s : WatchSettings) (past : Past) → Follows self.old net s past
+            → IfSome result (ComesNext self.new net s past) }
+        ensures none { (net : NetworkList) (s : WatchSettings) (past : Past) → Follows self.old net s past
+            → IfNone result (Follows self.new net s past) }
+    {
+        self.waiting.next()
+    }
+
+    /// The entry that comes next is told to the watch, and waits to be told in words.
+    pub(crate) fn take_entry(
+        &mut self,
+        network: &Network,
+        entry: Entry,
+        now: u64,
+    ) -> Result<(), AllocError>
+        requires { now < 2 ^ 63 }
+        ensures { (s : WatchSettings) (past : Past) → ComesNext self.old network.now s past entry
+            → OnOk result (Follows self.new network.now s ((now, Happened (Called entry)) ∷ past)) }
+    {
+        let is_halted = self.watch.phase().is_halted();
+        let told = self.watch.take(network, now, &Happening::Called(entry));
+        self.tried.count(&entry);
+        let count = frames(network, entry.orders).len() as u64;
+        self.waiting.wait(entry, told, is_halted, count)
+    }
+
+    /// The entries that come next in the history are told to the watch, and wait to be told in words.
+    fn take_entries<R: Wait>(
+        &mut self,
+        rt: &R,
+        network: &Network,
+        now: u64,
+    ) -> Result<(), AllocError>
+        requires { now < 2 ^ 63 }
+        ensures { (s : WatchSettings) (past : Past) → Follows self.old network.now s past
+            → IfOk result (λ _. HasToldEntries self.new network.now s past now) }
+    {
+        for _ in rt.forever() {
+            match self.next_entry() {
+                Some(entry) => self.take_entry(network, entry, now)?,
+                None => break,
+            }
+        }
+        Ok(())
+    }
+
+    /// An entry of the history was recorded, before which so many stand.
+    fn enter<R: Wait>(
+        &mut self,
+        rt: &R,
+        network: &Network,
+        position: u64,
+        entry: Entry,
+        now: u64,
+    ) -> Result<(), AllocError>
+        requires { now < 2 ^ 63 }
+        ensures { (s : WatchSettings) (past : Past) → Follows self.old network.now s past
+            → IfOk result (λ _. HasToldEntries self.new network.now s past now) }
+    {
+        self.waiting.take(position, entry)?;
+        self.take_entries(rt, network, now)
+    }
+}
+
+/// How a live run goes on: how far it has come, and by what it is told.
+#[derive(Drop)]
+pub(crate) struct Course<'w, 'a, 'n, R> {
+    pub(crate) setting: &'w Setting<'a, 'n, R>,
+    pub(crate) network: &'n Network,
+    pub(crate) progress: Progress<Entry>,
+    pub(crate) teller: Teller,
+}
+
+impl<'w, 'a, 'n, R: Wait + Clock> Course<'w, 'a, 'n, R> {
+    /// Nothing has happened.
+    pub(crate) fn new(setting: &'w Setting<'a, 'n, R>, events: Events) -> Course<'w, 'a, 'n, R>
+        ensures network { result.network ≡ setting.now.network }
+        ensures follows { (net : NetworkList) → Follows result.progress net
+            (record { settle_ms = setting.now.options.settle_ms; heartbeat_ms = setting.now.options.heartbeat_ms }) [] }
+    {
+        let settings = Settings {
+            settle_ms: setting.options.settle_ms,
+            heartbeat_ms: setting.options.heartbeat_ms,
+        };
+        Course {
+            setting,
+            network: setting.network,
+            progress: Progress::new(setting.alloc, settings),
+            teller: Teller::new(events),
+        }
+    }
+
+    /// What the watch is told beside entries. A slave that is given up with it is told behind the entries that came by now.
+    pub(crate) fn note(&mut self, happening: &Happening, now: u64)
+        requires time { now < 2 ^ 63 }
+        requires other { may_change_boots (Happened happening.now) ≡ false }
+        ensures told { (s : WatchSettings) (past : Past) → Follows self.old.progress self.old.network.now s past
+            → Follows self.new.progress self.old.network.now s ((now, Happened happening.now) ∷ past) }
+        ensures network { self.new.network ≡ self.old.network }
+    {
+        if let Some(id) = self.progress.note(self.network, happening, now) {
+            let told = given_up(&self.progress.tried, self.network, id);
+            let boots = Boots {
+                attempts: told.attempts,
+                status: told.status,
+                place: self.progress.waiting.count(),
+            };
+            self.teller.given_up.put_off(id, boots);
+        }
+    }
+
+    /// A worker's attempts at a slave have ended; where a call couldn't be made, the run does.
+    fn end(&mut self, id: NodeId, fault: Option<CallFault>, now: u64) -> Result<(), Ending>
+        requires { now < 2 ^ 63 }
+        ensures told { (s : WatchSettings) (past : Past) → Follows self.old.progress self.old.network.now s past
+            → IfOk result (λ _. Follows self.new.progress self.old.network.now s ((now, Happened (Ended id)) ∷ past)) }
+        ensures network { self.new.network ≡ self.old.network }
+    {
+        if let Some(fault) = fault {
+            return Err(Ending::NotCalled(fault));
+        }
+        self.note(&Happening::Ended(id), now);
+        Ok(())
+    }
+
+    /// The operator types no more: the run is to end so many seconds later, if it was said how many.
+    fn end_behind(&mut self, now: u64)
+        requires { now < 2 ^ 63 }
+        ensures told { (s : WatchSettings) (past : Past) → Follows self.old.progress self.old.network.now s past
+            → Follows self.new.progress self.old.network.now s
+            (ends_behind self.old.setting.now.options.seconds now ++ past) }
+        ensures network { self.new.network ≡ self.old.network }
+    {
+        match self.setting.options.seconds {
+            Some(seconds) => {
+                let rest_ms = u64::from(seconds) * 1000;
+                self.note(&Happening::Ends(now + rest_ms), now);
+            }
+            None => {}
+        }
+    }
+
+    /// Takes one thing that has happened; a line that was typed is left to whoever obeys it.
+    pub(crate) fn take<E: Write>(
+        &mut self,
+        err: &mut E,
+        happening: Heard,
+        now: u64,
+    ) -> Result<(), Ending>
+        requires { now < 2 ^ 63 }
+        ensures told { (s : WatchSettings) (past : Past) → Follows self.old.progress self.old.network.now s past → IfOk result
+            (λ _. (typed : Option (List ℕ)) (seat : SeatView) → HasTaken happening self.old.setting.now.options.seconds typed
+            self.new.progress self.old.network.now s past now seat seat) }
+        ensures network { self.new.network ≡ self.old.network }
+    {
+        let rt = self.setting.rt;
+        match happening {
+            Heard::Entered(position, entry) => {
+                count_sent(&mut self.teller.notices, self.network, &entry);
+                self.progress.enter(rt, self.network, position, entry, now)?;
+            }
+            Heard::Ended(id, fault) => self.end(id, fault, now)?,
+            Heard::Told(id, byte) => self.progress.hear(self.network, id, byte, now),
+            Heard::Said(remark) => {
+                let _ = self.teller.tell_remark(err, rt, self.network, &remark, now);
+            }
+            Heard::Typed => {}
+            Heard::NoMoreTyped => self.end_behind(now),
+            Heard::NoFrames => self
+                .teller
+                .tell_no_frames(err, rt, self.setting.options.format),
+            Heard::NoMoreHeard => return Err(Ending::NotHeard),
+        }
+        Ok(())
+    }
+
+    /// At the end of the run, takes the entries that were recorded by now and weren't taken yet.
+    pub(crate) fn take_rest(&mut self, happenings: &Receiver<Heard>) {
+        let rt = self.setting.rt;
+        for _ in 0..MOST_TAKEN {
+            let Ok(happening) = happenings.try_recv(rt) else {
+                return;
+            };
+            if let Heard::Entered(position, entry) = happening {
+                let now = self.setting.now();
+                let entered = self.progress.enter(rt, self.network, position, entry, now);
+                if entered.is_err() {
+                    return;
+                }
+            }
+        }
+    }
+
+    /// Notes which slaves were heard again, tells what is to be told by now, and sends what is to be sent for error control. Where
+    /// a frame or an entry was lost, the run ends.
+    pub(crate) fn keep_up<K: RunName, E: Write, W: Write + Drop>(
+        &mut self,
+        err: &mut E,
+        outlet: &mut Outlet<W>,
+        versions: &mut VersionReader<K>,
+        seat: &Seat<K>,
+        now: u64,
+    ) -> Result<(), Ending>
+        requires { now < 2 ^ 63 }
+        ensures { IfOk result
+            (λ _. GoesOn self.old.network.now self.old.progress self.new.network.now self.new.progress) }
+    {
+        let heartbeats = &self.setting.heartbeats;
+        note_heartbeats(&mut self.progress.watch, self.network, heartbeats, now);
+        self.tell(err, versions, seat, false);
+        let rt = self.setting.rt;
+        let _ = self.teller.tell_left_out(err, rt, self.network, now);
+        self.send_error_control(outlet, now)?;
+        can_go_on(is_set(&self.setting.broken), is_set(&self.setting.untold))
+    }
+}
+
+/// The state in the error control message of a node that came last, where it came after the watch noted one and has the state
+/// that it noted last: another state, and a boot-up message, comes as a happening of its own, and so does each answer of a node
+/// that is guarded.
+fn state_again(
+    guard_ms: u16,
+    last: Option<(u64, u8)>,
+    noted: Option<u64>,
+    state_noted: Option<u8>,
+) -> Option<u8>
+    ensures again { result ≡ state_again guard_ms last noted state_noted }
+    ensures state { IfSome result (λ state. (guard_ms ≡ 0) × (state_noted ≡ Some state)) }
+{
+    let (at, byte) = last?;
+    let noted = noted?;
+    let state = byte % 128;
+    if guard_ms == 0 && state != 0 && state_noted == Some(state) && noted < at {
+        Some(state)
+    } else {
+        None
+    }
+}
+
+/// The state of a node that was heard again.
+fn heard_again(watch: &Watch, network: &Network, heartbeats: &Heartbeats, id: NodeId) -> Option<u8>
+    ensures { (s : WatchSettings) (past : Past) → Watches watch.now network.now s past
+        → IfSome result (λ state. (guard_of network.now id ≡ 0) × (state_heard past id ≡ Some state)) }
+{
+    let last = heartbeats.last(id);
+    state_again(
+        guard_of(network, id),
+        last,
+        watch.heard(id),
+        watch.state_heard(id),
+    )
+}
+
+/// The slaves that were heard again are noted.
+pub(crate) fn note_heartbeats(
+    watch: &mut Watch,
+    network: &Network,
+    heartbeats: &Heartbeats,
+    now: u64,
+)
+    requires { now < 2 ^ 63 }
+    ensures told { (s : WatchSettings) (past : Past) → Watches watch.old network.now s past
+        → HasHeardAgain watch.new network.now s past now }
+{
+    for id in network.listed_ids().as_slice() {
+        if let Some(state) = heard_again(watch, network, heartbeats, *id) {
+            let _told = watch.take(network, now, &Happening::Heard(*id, state));
+        }
+    }
+}

@@ -1,0 +1,305 @@
+//! How a live run goes on: what happens is told to the watch, and the steps that it gives are made.
+
+ghost use Rattle.std.specs.Prelude.{◌≡◌, ◌<◌, ◌^◌, ◌++◌, ◌∷◌, [], IfOk};
+ghost use Rattle.cm_netlist.specs.Network.{Network as NetworkList};
+ghost use Rattle.cm_watched.specs.Pasts.{Past};
+ghost use Rattle.cm_watched.specs.declared.settings.Settings.{Settings as WatchSettings};
+ghost use Rattle.canboot_turns.specs.Going.{Follows, GoesOn, HasTaken};
+ghost use Rattle.cm_crew.specs.CallsMade.{calls_made};
+ghost use Rattle.cm_crew.specs.Typing.{IsUntyped};
+
+use crate::console::show_report;
+use crate::ending::Ending;
+use crate::progress::Course;
+use crate::publishing::Batches;
+use crate::register::LiveRegister;
+use crate::saying::running;
+use crate::typing::Typing;
+use canboot_saying::Events;
+use cm_bus::{Outlet, Setting};
+use cm_crew::OperatorSeat;
+use cm_history::Call;
+use cm_nmt::NodeId;
+use cm_operator::TypedLine;
+use cm_receiving::{BusName, Happening};
+use cm_register::RunName;
+use cm_versions::{Publisher, VersionReader};
+use cm_watch::Pace;
+use crossbeam_channel::{Receiver, Sender};
+use std::io::Write;
+use std::sync::Wait;
+use std::sync::atomic::{AtomicBool, Ordering};
+use std::time::{Clock, Duration};
+
+/// How long nothing may happen before the time is looked at, in ms.
+const TURN_MS: u64 = 5;
+
+/// How many happenings are taken at most before the time is looked at.
+pub(crate) const MOST_TAKEN: u32 = 65_536;
+
+/// How many typed lines are obeyed at most before the time is looked at.
+const MOST_OBEYED: u32 = 256;
+
+/// For how long typed lines are obeyed before the time is looked at, in ms: less than a look at the input may be late.
+const MOST_OBEYED_MS: u64 = 10;
+
+/// What a live run is watched with.
+#[derive(Drop)]
+pub struct Watcher<
+    'w,
+    'a,
+    'n,
+    R: Wait + Clock + Drop,
+    K: RunName,
+    B: BusName,
+    M: LiveRegister<K, R>,
+> {
+    pub(crate) course: Course<'w, 'a, 'n, R>,
+    pub(crate) register: &'w M,
+    pub(crate) operator: OperatorSeat<K, B>,
+    /// The lines that the operator types.
+    pub(crate) typed: Receiver<TypedLine<B>>,
+    /// What of these is put off until all else was taken.
+    typing: Typing,
+    /// The slaves that each worker is to boot.
+    pub(crate) jobs: Vec<Sender<NodeId>>,
+    /// Who reads versions of the history.
+    versions: VersionReader<K>,
+    batches: Batches,
+    /// The operator has asked for the report.
+    pub(crate) is_report_due: bool,
+    pace: Pace,
+}
+
+/// Whether this was set by another thread.
+pub(crate) fn is_set(flag: &AtomicBool) -> bool {
+    flag.load(Ordering::SeqCst)
+}
+
+impl<'w, 'a, 'n, R: Wait + Clock + Drop, K: RunName, B: BusName, M: LiveRegister<K, R>> Watcher<
+    'w,
+    'a,
+    'n,
+    R,
+    K,
+    B,
+    M,
+> {
+    /// A watcher of the register's network, which the operator has started.
+    pub fn new(
+        setting: &'w Setting<'a, 'n, R>,
+        register: &'w M,
+        operator: OperatorSeat<K, B>,
+        typed: Receiver<TypedLine<B>>,
+        jobs: Vec<Sender<NodeId>>,
+        events: Events,
+        versions: VersionReader<K>,
+    ) -> Watcher<'w, 'a, 'n, R, K, B, M>
+        ensures operator { result.operator ≡ operator }
+        ensures network { result.course.network ≡ setting.now.network }
+        ensures follows { (net : NetworkList) → Follows result.course.progress net
+            (record { settle_ms = setting.now.options.settle_ms; heartbeat_ms = setting.now.options.heartbeat_ms }) [] }
+    {
+        Watcher {
+            course: Course::new(setting, events),
+            register,
+            operator,
+            typed,
+            typing: Typing::new(),
+            jobs,
+            versions,
+            batches: Batches::new(setting.alloc),
+            is_report_due: false,
+            pace: Pace::new(),
+        }
+    }
+
+    /// No slave is handed to a worker any more, by which each ends once it has done what it has.
+    pub fn release_workers(&mut self) {
+        self.jobs.clear();
+    }
+
+    /// The operator's seat, once nothing is watched any more.
+    pub fn into_operator(self) -> OperatorSeat<K, B>
+        ensures { result ≡ self.entry.operator }
+    {
+        let Watcher { operator, .. } = self;
+        operator
+    }
+
+    /// Makes a call that is neither a report nor a request, but for one that wakes a slave.
+    pub(crate) fn call(&mut self, call: Call) -> Result<(), Ending>
+        requires { IsUntyped call }
+        ensures made { IfOk result (λ _. calls_made self.new.operator ≡ calls_made self.old.operator ++ call ∷ []) }
+        ensures course { self.new.course ≡ self.old.course }
+    {
+        let rt = self.course.setting.rt;
+        self.operator.call(rt, self.register, call)?;
+        Ok(())
+    }
+
+    /// Takes one thing that has happened.
+    fn take<E: Write>(&mut self, err: &mut E, happening: Happening, now: u64) -> Result<(), Ending>
+        requires { now < 2 ^ 63 }
+        ensures told { (s : WatchSettings) (past : Past) → Follows self.old.course.progress self.old.course.network.now s past
+            → IfOk result (λ _. HasTaken happening self.old.course.setting.now.options.seconds B.typed
+            self.new.course.progress self.old.course.network.now s past now self.old.operator self.new.operator) }
+        ensures network { IfOk result (λ _. self.new.course.network ≡ self.old.course.network) }
+    {
+        match happening {
+            Happening::Typed => self.obey_next(err, now),
+            _ => self.course.take(err, happening, now),
+        }
+    }
+
+    /// Takes one thing that has happened; one of typing is put off.
+    fn hear<E: Write>(&mut self, err: &mut E, happening: Happening) -> Result<(), Ending>
+        ensures goes_on { IfOk result (λ _. GoesOn self.old.course.network.now self.old.course.progress
+            self.new.course.network.now self.new.course.progress) }
+    {
+        let now = self.course.setting.now();
+        let Some(happening) = self.typing.put_off(happening) else {
+            return Ok(());
+        };
+        self.take(err, happening, now)?;
+        Ok(())
+    }
+
+    /// Takes what has happened, if something has within a turn's time, and then all else that has. What is received is taken before
+    /// another is received, so that none is lost where the turn ends. What is typed is put off.
+    fn hear_all<E: Write>(
+        &mut self,
+        err: &mut E,
+        happenings: &Receiver<Happening>,
+    ) -> Result<(), Ending>
+        ensures goes_on { IfOk result (λ _. GoesOn self.old.course.network.now self.old.course.progress
+            self.new.course.network.now self.new.course.progress) }
+    {
+        let setting = self.course.setting;
+        let mut wait = if self.typing.is_empty() {
+            Duration::from_millis(TURN_MS)
+        } else {
+            Duration::ZERO
+        };
+        for _ in 0..MOST_TAKEN {
+            let Ok(happening) = happenings.recv_timeout(setting.rt, wait) else {
+                return Ok(());
+            };
+            self.hear(err, happening)?;
+            wait = Duration::ZERO;
+        }
+        Ok(())
+    }
+
+    /// Takes what was typed, so long and so much that a turn doesn't last.
+    fn obey_some<E: Write>(&mut self, err: &mut E) -> Result<(), Ending>
+        ensures goes_on { IfOk result (λ _. GoesOn self.old.course.network.now self.old.course.progress
+            self.new.course.network.now self.new.course.progress) }
+    {
+        let began = self.course.setting.now();
+        for _ in 0..MOST_OBEYED {
+            let now = self.course.setting.now();
+            if MOST_OBEYED_MS <= now.saturating_sub(began) {
+                return Ok(());
+            }
+            let Some(happening) = self.typing.next() else {
+                return Ok(());
+            };
+            self.take(err, happening, now)?;
+        }
+        Ok(())
+    }
+
+    /// Takes what has happened: what is typed behind all else, and not so much that the network isn't watched meanwhile.
+    fn take_all<E: Write>(
+        &mut self,
+        err: &mut E,
+        happenings: &Receiver<Happening>,
+    ) -> Result<(), Ending>
+        ensures goes_on { IfOk result (λ _. GoesOn self.old.course.network.now self.old.course.progress
+            self.new.course.network.now self.new.course.progress) }
+    {
+        self.hear_all(err, happenings)?;
+        self.obey_some(err)?;
+        Ok(())
+    }
+
+    /// Shows readers a version with all that the register has; where memory is refused the next turn does. Then shows the report, if
+    /// the operator has asked for it.
+    fn show<E: Write>(&mut self, err: &mut E, publisher: &mut Publisher<K, R>)
+        ensures course { self.new.course ≡ self.old.course }
+        ensures calls { self.new.operator ≡ self.old.operator }
+    {
+        let setting = self.course.setting;
+        let _ = self.batches.show(setting.rt, self.register, publisher);
+        if self.is_report_due {
+            self.is_report_due = false;
+            let network = self.register.network();
+            let seat = self.operator.as_seat();
+            show_report(err, setting.alloc, &mut self.versions, network, seat);
+        }
+    }
+
+    /// One turn: takes what has happened, shows readers a version of it, sends what is to be sent for error control, and looks at the
+    /// time once that was all that was received.
+    fn turn<E: Write, W: Write + Drop>(
+        &mut self,
+        err: &mut E,
+        happenings: &Receiver<Happening>,
+        outlet: &mut Outlet<W>,
+        publisher: &mut Publisher<K, R>,
+    ) -> Result<(), Ending>
+        ensures goes_on { IfOk result (λ _. GoesOn self.old.course.network.now self.old.course.progress
+            self.new.course.network.now self.new.course.progress) }
+    {
+        self.take_all(err, happenings)?;
+        self.show(err, publisher);
+        let setting = self.course.setting;
+        let now = setting.now();
+        let seat = self.operator.as_seat();
+        self.course
+            .keep_up(err, outlet, &mut self.versions, seat, now)?;
+        if !self.pace.look(now, setting.listening.received()) {
+            return Ok(());
+        }
+        if self.make_steps(err, now)? {
+            return Err(Ending::Asked);
+        }
+        Ok(())
+    }
+
+    /// Tells what was recorded by now and wasn't told yet, at the end of the run, and which nodes run on. The workers have ended.
+    pub fn tell_rest<E: Write>(
+        &mut self,
+        err: &mut E,
+        happenings: &Receiver<Happening>,
+        publisher: &mut Publisher<K, R>,
+    )
+        ensures calls { self.new.operator ≡ self.old.operator }
+    {
+        self.course.take_rest(happenings);
+        self.show(err, publisher);
+        let seat = self.operator.as_seat();
+        self.course.tell(err, &mut self.versions, seat, true);
+        let running = running(&mut self.versions, self.course.network, seat);
+        let rt = self.course.setting.rt;
+        self.course.teller.tell_end(err, rt, &running);
+    }
+
+    /// Watches the network until the run is to end. What is sent for error control is written to this outlet, and versions are shown
+    /// by this publisher.
+    pub fn watch<E: Write, W: Write + Drop>(
+        &mut self,
+        err: &mut E,
+        happenings: &Receiver<Happening>,
+        outlet: &mut Outlet<W>,
+        publisher: &mut Publisher<K, R>,
+    ) -> Ending {
+        for _ in self.course.setting.rt.forever() {
+            if let Err(ending) = self.turn(err, happenings, outlet, publisher) {
+                return ending;
+            }
+        }
+        unreachable!()
+    }
+}

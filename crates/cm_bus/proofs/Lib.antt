@@ -1,0 +1,4 @@
+pub mod Given
+pub mod Giving
+pub mod Messages
+pub mod Waiting

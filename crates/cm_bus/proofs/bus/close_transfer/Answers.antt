@@ -1,0 +1,10 @@
+use Rattle.std.proofs.Common.{[], ◌∷◌, refl, inr, subst}
+use Rattle.std.specs.Prelude.{Option}
+use Rattle.cm_can.specs.declared.frame.CanFrame.{CanFrame}
+use Rattle.cm_bus.specs.Talk.{IsAbort}
+use Rattle.cm_bus.specs.declared.event.Event.TheVariants.{Sent}
+use Rattle.cm_bus.proofs.bus.close_transfer.Goals as goal
+
+pub returns-in-Some-clause-closing : goal.returns-in-Some-clause-closing
+returns-in-Some-clause-closing g c =
+    record { events = Sent c.in-Some.abort ∷ []; is = inr (c.in-Some.abort, subst (λ (last : Option CanFrame). IsAbort c.args.id c.args.question.now last c.in-Some.abort) c.frame_in.ensures c.in-Some.ensures.some, refl); grown = c.send.ensures.log }

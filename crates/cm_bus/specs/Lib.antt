@@ -1,0 +1,7 @@
+pub mod Identifying
+pub mod Opening
+pub mod Outlets
+pub mod Patience
+pub mod Receiving
+pub mod Talk
+pub mod Waits

@@ -1,0 +1,22 @@
+//! How a network is booted and watched over a bus.
+
+use cm_can::Format;
+
+/// How `canboot live` boots and watches a network.
+#[derive(Clone, Copy)]
+pub struct LiveOptions {
+    /// How many workers boot slaves, 1 to 16.
+    pub workers: u8,
+    /// How often a slave is tried at most, 1 to 10.
+    pub attempts: u8,
+    /// How long an SDO answer or a guard answer is waited for, in ms.
+    pub answer_ms: u32,
+    /// How long boot-up messages are waited for behind a reset, in ms.
+    pub settle_ms: u32,
+    /// How often the manager sends its own heartbeat, in ms, 10 or more; 0: it sends none (CiA 301, 1017h).
+    pub heartbeat_ms: u16,
+    /// How long the run goes on behind the end of what the operator types, in seconds; none: until it ends otherwise.
+    pub seconds: Option<u32>,
+    /// In what lines frames come and go.
+    pub format: Format,
+}

@@ -1,0 +1,11 @@
+pub mod Talking
+pub mod ReceivedRounds
+pub mod Attempts
+pub mod Calls
+pub mod Fresh
+pub mod Lists
+pub mod Operated
+pub mod Requests
+pub mod Starts
+pub mod StartsOfAll
+pub mod Working

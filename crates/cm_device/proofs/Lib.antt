@@ -1,0 +1,2 @@
+pub mod DeviceFiles
+pub mod Added

@@ -1,0 +1,4 @@
+pub mod DeviceFiles
+pub mod FileLines
+pub mod FileValues
+pub mod SettingsMade

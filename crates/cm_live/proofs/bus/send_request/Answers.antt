@@ -1,6 +1,0 @@
-use Rattle.std.proofs.Common.{[], ◌∷◌, refl, inr}
-use Rattle.cm_live.specs.declared.event.Event.TheVariants.{Sent}
-use Rattle.cm_live.proofs.bus.send_request.Goals as goal
-
-pub returns-in-Some-clause-asking : goal.returns-in-Some-clause-asking
-returns-in-Some-clause-asking g c = record { events = Sent c.in-Some.request ∷ []; is = inr (c.in-Some.request, c.in-Some.ensures.some, refl); grown = c.send.ensures.log }

@@ -1,9 +1,0 @@
-use crate::bus_name::BusName;
-use crate::port::Port;
-
-/// What is said with a device beside the questions of a boot, as when it is asked for its name. It needs no clause: nothing of it stands
-/// in the log of a bus, and a frame that it hears answers no question.
-pub trait Talk<B: BusName> {
-    /// Talks over a port; an answer is waited for so many ms.
-    fn over<P: Port<B>>(&mut self, port: &mut P, wait_ms: u32);
-}

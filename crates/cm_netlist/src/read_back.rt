@@ -1,0 +1,113 @@
+//! Whether the text of a slave is read back as that slave.
+
+ghost use Rattle.std.specs.Prelude.{◌≡◌, [], ◌∷◌, ◌++◌, IfOk, IsTrue};
+ghost use Rattle.cm_netlist.specs.ReadBack.{AreSameEntries, IsReadBack, ListsOnly, manager_text};
+
+use crate::entry::SlaveEntry;
+use crate::fault::NetFault;
+use crate::network::Network;
+use cm_nmt::{NodeId, Terms, Write as Configuring};
+use std::alloc::{AllocError, Global};
+use std::str;
+
+/// The lines of a manager that isn't the slave itself.
+fn manager_lines(slave: NodeId) -> &'static str
+    ensures { result.now ≡ manager_text slave }
+{
+    if slave.get() == 1 {
+        "own = 2\nstartup = 1\n"
+    } else {
+        "own = 1\nstartup = 1\n"
+    }
+}
+
+/// Whether the terms are the same.
+fn are_same_terms(one: Terms, other: Terms) -> bool
+    ensures { IsTrue result → one ≡ other }
+{
+    one == other
+}
+
+/// Whether the write is the same.
+fn is_same_write(one: Configuring, other: Configuring) -> bool
+    ensures { IsTrue result → one ≡ other }
+{
+    one == other
+}
+
+/// Whether the writes are the same.
+fn are_same_writes(one: &[Configuring], other: &[Configuring]) -> bool
+    ensures { IsTrue result → one.now ≡ other.now }
+{
+    if one.len() != other.len() {
+        return false;
+    }
+    for at in 0..one.len() {
+        if !is_same_write(one[at], other[at]) {
+            return false;
+        }
+    }
+    true
+}
+
+/// Whether both entries are the same.
+fn is_same_entry(one: &SlaveEntry, other: &SlaveEntry) -> bool
+    ensures { IsTrue result → AreSameEntries one.now other.now }
+{
+    are_same_terms(one.terms(), other.terms())
+        && are_same_writes(one.writes.as_slice(), other.writes.as_slice())
+}
+
+/// Whether this node-ID alone is among them.
+fn is_only(ids: &[NodeId], id: NodeId) -> bool
+    ensures { IsTrue result → ids.now ≡ id ∷ [] }
+{
+    ids.len() == 1 && ids[0] == id
+}
+
+/// Whether just this slave is listed.
+fn lists_only(network: &Network, id: NodeId, entry: &SlaveEntry) -> bool
+    ensures { IsTrue result → ListsOnly network.now id entry.now }
+{
+    if !is_only(network.listed_ids().as_slice(), id) {
+        return false;
+    }
+    match network.entry(id) {
+        Some(listed) => is_same_entry(listed, entry),
+        None => false,
+    }
+}
+
+/// Whether the text is a network list of just this slave.
+fn is_list_of(
+    alloc: Global,
+    text: &[u8],
+    id: NodeId,
+    entry: &SlaveEntry,
+) -> Result<bool, AllocError>
+    ensures { IfOk result (λ is. IsTrue is → IsReadBack text.now id entry.now) }
+{
+    let Ok(text) = str::from_utf8(text) else {
+        return Ok(false);
+    };
+    match Network::from_toml(alloc, text) {
+        Ok(network) => Ok(lists_only(&network, id, entry)),
+        Err(NetFault::OutOfMemory) => Err(AllocError),
+        Err(_) => Ok(false),
+    }
+}
+
+/// Whether a text, behind the lines of a manager, is read as a network list of just this slave, with this entry. It fails only where memory
+/// is refused.
+pub fn is_read_back(
+    alloc: Global,
+    text: &[u8],
+    id: NodeId,
+    entry: &SlaveEntry,
+) -> Result<bool, AllocError>
+    ensures { IfOk result (λ is. IsTrue is → IsReadBack (manager_text id ++ text.now) id entry.now) }
+{
+    let mut list = Vec::from_slice(alloc, manager_lines(id).as_bytes())?;
+    list.extend_from_slice(text)?;
+    is_list_of(alloc, list.as_slice(), id, entry)
+}

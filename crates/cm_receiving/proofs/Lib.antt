@@ -1,0 +1,5 @@
+mod BootUps
+pub mod Lines
+mod OneLine
+mod Untold
+pub mod Nodes

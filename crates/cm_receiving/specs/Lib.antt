@@ -1,0 +1,8 @@
+pub mod BootUps
+pub mod Cutting
+pub mod Doubling
+pub mod Heartbeats
+pub mod Identifiers
+pub mod Places
+pub mod Routing
+pub mod Strangers

@@ -1,0 +1,3 @@
+pub mod ReportForms
+pub mod SlaveReports
+pub mod Written

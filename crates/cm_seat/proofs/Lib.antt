@@ -1,5 +1,0 @@
-pub mod Takes
-pub mod SeatCalls
-pub mod Knowing
-pub mod MadeCalls
-pub mod Closing

@@ -1,0 +1,2 @@
+pub mod NodeNames
+pub mod ShownWords

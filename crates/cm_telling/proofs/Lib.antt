@@ -1,0 +1,4 @@
+pub mod Entries
+pub mod Limiting
+pub mod Tries
+pub mod Waits

@@ -1,0 +1,10 @@
+pub mod BootFaults
+pub mod BusErrors
+pub mod Echoes
+pub mod InOrder
+pub mod Limiting
+pub mod Notices
+pub mod Starts
+pub mod Tried
+pub mod Waiting
+pub mod Spellings

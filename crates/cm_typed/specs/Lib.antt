@@ -1,0 +1,2 @@
+pub mod NodeLists
+pub mod Numbers

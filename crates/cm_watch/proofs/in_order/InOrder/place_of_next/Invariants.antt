@@ -1,7 +1,0 @@
-use Rattle.std.proofs.Common.{◌≡◌, None, take}
-use Rattle.cm_watch.specs.InOrder.{entry_at}
-use Rattle.cm_watch.proofs.in_order.InOrder.place_of_next.Given as goal
-
--- none of those so far is the next
-abbrev pub invariant-loop-place : goal.invariant-loop-place
-invariant-loop-place g l = entry_at (take l.place l.self.waiting.items) l.self.next ≡ None

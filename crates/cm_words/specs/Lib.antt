@@ -1,0 +1,4 @@
+pub mod AbortCodes
+pub mod NoticeWords
+pub mod ToldLines
+pub mod Words
