@@ -8,21 +8,23 @@ mod simulated;
 
 pub use canboot_check::{check_as_json, check_text};
 pub use canboot_cli::{
-    Action, CheckOutput, NoAction, ReplayOutput, RunWords, SlaveWords, read_words,
+    Action, CheckOutput, Host, NoAction, ReplayOutput, RunWords, SlaveWords, read_words,
 };
 pub use canboot_faults::{DONE, FAILED, MISUSED, REFUSED};
 pub use canboot_import::{ImportWords, LONGEST_DEVICE_FILE, import_text};
 pub use canboot_journals::{LONGEST_JOURNAL, replay_as_json, replay_explained, replay_text};
 pub use canboot_lists::explain_text;
-pub use canboot_live::{Followed, LONGEST_LIVE, LiveEnds, live_text};
+pub use canboot_live::{
+    Followed, LONGEST_LIVE, LiveEnds, LiveIo, LiveOutputs, LiveTrace, live_text,
+};
 pub use canboot_live_files::{HostFiles, NoFiles, ReplaceFile, StatusFile};
 pub use canboot_picture::picture_text;
-pub use canboot_run::{LONGEST_RUN, Options, SlaveFaults, run_text, run_text_as};
-pub use canboot_scan::{ListForm, ScanEnds, ScanOptions, scan_check, scan_text};
+pub use canboot_run::{Asked, LONGEST_RUN, Options, SlaveFaults, run_text, run_text_as};
+pub use canboot_scan::{ListForm, Scan, ScanEnds, ScanOptions, scan_check, scan_text};
 pub use canboot_tell::tell_text;
 pub use cm_bus::{LiveOptions, Outlet};
 pub use cm_crew::{UntilOver, live_round};
 pub use cm_netlist::LONGEST_LIST;
 pub use cm_recorder::JournalOutput;
-pub use cm_report::{ReportForm, ReportLines, ReportObject, WriteReport};
-pub use program::{run, run_words};
+pub use cm_report::ReportForm;
+pub use program::{Streams, run, run_words};

@@ -3,8 +3,8 @@ ghost use Rattle.std.specs.Io.KnownBytes.{Appends};
 ghost use Rattle.canboot.specs.Program.{EndsWithout};
 
 use crate::simulated::run_simulated;
-use canboot_check::{check_file, check_file_as_json};
-use canboot_cli::{Action, CheckOutput, NoAction, ReplayOutput, read_words};
+use canboot_check::check_file;
+use canboot_cli::{Action, CheckOutput, Host, NoAction, ReplayOutput, read_words};
 use canboot_faults::{FAILED, FaultObjects, MISUSED, fault_line, output_status, read_fault};
 use canboot_import::{ImportWords, import_file};
 use canboot_journals::{mend_text, replay_as_json, replay_explained, replay_text};
@@ -14,33 +14,18 @@ use canboot_live_files::ReplaceFile;
 use canboot_picture::picture_text;
 use canboot_scan::scan_file;
 use canboot_tell::tell_text;
+use cm_report::ReportForm;
 use std::alloc::Global;
 use std::env;
-use std::fs::File;
 use std::io::{self, BufWriter, IsTerminal, Read, StdinLock, Write};
 use std::process::ExitCode;
 use std::rt::{Env, Files};
-use std::sync::Wait;
-use std::thread::Threads;
-use std::time::Clock;
 
 /// Runs canboot on the words of its command line and its standard input and output, with `err` for
 /// what goes to standard error, and gives its exit status. What a live run tells goes there by a thread of its own, since whoever reads
 /// there may keep it waiting.
 pub fn run<
-    R: Env
-        + Files<File = File>
-        + Print
-        + Input<Reader = StdinLock<'static>>
-        + Clock
-        + AllocGlobal
-        + Wait
-        + Threads
-        + Clone
-        + Send
-        + Sync
-        + Drop
-        + 'static,
+    R: Env + Host + Print + Input<Reader = StdinLock<'static>>,
     E: Write + IsTerminal + Copy + Send + Drop + 'static,
     F: ReplaceFile + Send + Drop + 'static,
 >(rt: &R, err: &mut E, files: F) -> ExitCode {
@@ -48,19 +33,7 @@ pub fn run<
 }
 
 fn run_here<
-    R: Env
-        + Files<File = File>
-        + Print
-        + Input<Reader = StdinLock<'static>>
-        + Clock
-        + AllocGlobal
-        + Wait
-        + Threads
-        + Clone
-        + Send
-        + Sync
-        + Drop
-        + 'static,
+    R: Env + Host + Print + Input<Reader = StdinLock<'static>>,
     E: Write + IsTerminal + Copy + Send + Drop + 'static,
     F: ReplaceFile + Send + Drop + 'static,
 >(rt: &R, err: &mut E, files: F) -> u8
@@ -73,20 +46,19 @@ fn run_here<
     let Ok(words) = args.collect::<Vec<String>>(rt.alloc()) else {
         return fault_line(err, FAILED, "out of memory");
     };
-    let Ok(mut out) = BufWriter::new(rt.alloc(), io::writer(rt)) else {
+    let Ok(out) = BufWriter::new(rt.alloc(), io::writer(rt)) else {
         return fault_line(err, FAILED, "out of memory");
     };
     let is_coloured = err.is_terminal() && !has_no_color(rt);
-    run_words(
-        rt,
-        words.as_slice(),
-        &mut rt.reader(),
-        &mut out,
-        err,
-        Some(*err),
-        files,
+    let told = Some(*err);
+    let mut streams = Streams {
+        input: rt.reader(),
+        out,
+        err: &mut *err,
+        told,
         is_coloured,
-    )
+    };
+    run_words(rt, words.as_slice(), &mut streams, files)
 }
 
 /// Whether the environment asks for no colour: `NO_COLOR` is there, and isn't empty.
@@ -97,6 +69,21 @@ fn has_no_color<R: Env + AllocGlobal>(rt: &R) -> bool {
     }
 }
 
+/// With what streams canboot runs.
+#[derive(Drop)]
+pub struct Streams<I, W, E, S> {
+    /// What is read where no file is named.
+    pub input: I,
+    /// Where results are written.
+    pub out: W,
+    /// Where faults and warnings are told.
+    pub err: E,
+    /// Where a live run tells what it tells, if not on `err`.
+    pub told: Option<S>,
+    /// Whether words of what a live run tells are coloured.
+    pub is_coloured: bool,
+}
+
 /// Runs canboot on these words, of which the first is the program's name, with these streams, and gives its exit status: that of
 /// [`check_file`], [`explain_text`](canboot_lists::explain_text), [`import_text`](canboot_import::import_text), [`scan_text`](canboot_scan::scan_text),
 /// [`scan_check`](canboot_scan::scan_check), [`run_network`](canboot_run::run_network), [`live_text`](canboot_live::live_text), [`replay_text`],
@@ -105,34 +92,22 @@ fn has_no_color<R: Env + AllocGlobal>(rt: &R) -> bool {
 /// `err`: a thread of its own writes it, which isn't joined; where nobody takes it, 16,384 lines wait at most, and more are left out
 /// and counted.
 pub fn run_words<
-    R: Files<File = File>
-        + Input<Reader = StdinLock<'static>>
-        + Clock
-        + AllocGlobal
-        + Wait
-        + Threads
-        + Clone
-        + Send
-        + Sync
-        + Drop
-        + 'static,
+    R: Host + Input<Reader = StdinLock<'static>>,
     I: Read,
     W: Write,
     E: Write,
     S: Write + Send + Drop + 'static,
     F: ReplaceFile + Send + Drop + 'static,
->(
-    rt: &R,
-    words: &[String],
-    input: &mut I,
-    out: &mut W,
-    err: &mut E,
-    told: Option<S>,
-    files: F,
-    is_coloured: bool,
-) -> u8
+>(rt: &R, words: &[String], streams: &mut Streams<I, W, E, S>, files: F) -> u8
     ensures statuses { result ≤ 3 }
 {
+    let Streams {
+        input,
+        out,
+        err,
+        told,
+        is_coloured,
+    } = streams;
     match read_words(rt.alloc(), words) {
         Ok(Action::Check { network, output }) => check_as(rt, network, output, out, err),
         Ok(
@@ -160,7 +135,9 @@ pub fn run_words<
             let status = scan_file(rt, &words, out, &mut err);
             err.end(status)
         }
-        Ok(Action::Live(words)) => live_told(rt, &words, files, out, err, told, is_coloured),
+        Ok(Action::Live(words)) => {
+            live_told(rt, &words, files, out, err, told.take(), *is_coloured)
+        }
         Ok(Action::Replay(output)) => replay_as(rt.alloc(), output, input, out, err),
         Ok(Action::Mend) => mend_text(rt.alloc(), input, out, err),
         Ok(Action::Tell { node, is_explained }) => {
@@ -199,9 +176,9 @@ fn check_as<R: Files + AllocGlobal, W: Write, E: Write>(
     ensures statuses { result ≤ 3 }
 {
     match output {
-        CheckOutput::Line => check_file(rt, path, out, err),
+        CheckOutput::Line => check_file(rt, path, ReportForm::Text, out, err),
         CheckOutput::Words => explain_file(rt, path, out, err),
-        CheckOutput::Json => check_file_as_json(rt, path, out, err),
+        CheckOutput::Json => check_file(rt, path, ReportForm::Json, out, err),
     }
 }
 

@@ -6,11 +6,9 @@ use canboot_cli::{RunWords, SlaveWords};
 use canboot_faults::FaultObjects;
 use canboot_refusing::{read_fault_of, refuse_explained};
 use canboot_run::{
-    NoNetwork, Options, SlaveFaults, SlaveOption, network_of_file, refuse_run, run_network,
+    Asked, NoNetwork, Options, SlaveFaults, SlaveOption, network_of_file, refuse_run, run_network,
     set_fault,
 };
-use cm_netlist::Network;
-use cm_report::{ReportForm, ReportLines, ReportObject};
 use std::alloc::Global;
 use std::io::Write;
 use std::rt::Files;
@@ -58,26 +56,6 @@ fn faults_of<E: Write>(
     Ok(faults)
 }
 
-/// Runs this network in the form that these words ask for.
-fn run_in_form<R: Files + AllocGlobal + Wait + Threads + Send + Sync, W: Write, E: Write>(
-    rt: &R,
-    words: &RunWords<'_>,
-    network: &Network,
-    options: &Options,
-    out: &mut W,
-    err: &mut E,
-) -> u8
-    requires workers { (1 ≤ options.now.workers) × (options.now.workers ≤ 16) }
-    requires attempts { (1 ≤ options.now.attempts) × (options.now.attempts ≤ 10) }
-    ensures statuses { result ≤ 3 }
-{
-    let journal = words.journal;
-    match words.report {
-        ReportForm::Text => run_network(rt, network, options, &ReportLines, journal, out, err),
-        ReportForm::Json => run_network(rt, network, options, &ReportObject, journal, out, err),
-    }
-}
-
 /// Writes why there is no network to run, and where these words ask for it, behind that where the list has its fault, or the path of the
 /// file that can't be opened. The answer is the exit status.
 fn refuse_words<E: Write>(alloc: Global, words: &RunWords<'_>, none: &NoNetwork, err: &mut E) -> u8
@@ -104,8 +82,12 @@ fn run_list<R: Files + AllocGlobal + Wait + Threads + Send + Sync, W: Write, E: 
     requires attempts { (1 ≤ options.now.attempts) × (options.now.attempts ≤ 10) }
     ensures statuses { result ≤ 3 }
 {
+    let asked = Asked {
+        options,
+        form: words.report,
+    };
     match network_of_file(rt, words.network, words.journal) {
-        Ok(network) => run_in_form(rt, words, &network, options, out, err),
+        Ok(network) => run_network(rt, &network, asked, words.journal, out, err),
         Err(none) => refuse_words(rt.alloc(), words, &none, err),
     }
 }

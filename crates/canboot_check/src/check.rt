@@ -1,11 +1,13 @@
-//! `canboot check NET`: how many slaves a network list has, in a line.
+//! `canboot check NET`: how many slaves a network list has, in a line or as one JSON object.
 
 ghost use Rattle.std.specs.Prelude.{◌≡◌, ◌⊎◌, OnOk, length};
 ghost use Rattle.std.specs.Io.KnownBytes.{Appends};
-ghost use Rattle.canboot_check.specs.Check.{Checks, FailsToCheck, RefusesList, check_line, kept_ids, mandatory_ids};
+ghost use Rattle.canboot_check.specs.Check.{Checks, ChecksAsJson, ChecksIn, FailsToCheck, RefusesList};
+ghost use Rattle.canboot_check.specs.Check.{check_in, check_line, counts_in, counts_json, counts_line, kept_ids, mandatory_ids};
 
-use canboot_faults::{output_status, read_fault, refuse};
+use canboot_faults::{tell_list, tell_output, tell_unopened};
 use cm_netlist::{Network, read_list};
+use cm_report::ReportForm;
 use std::alloc::Global;
 use std::fs;
 use std::io::{self, Read, Write};
@@ -27,17 +29,86 @@ pub fn count_kept(network: &Network) -> usize
     ids.iter().filter(|id| network.kept(**id)).count()
 }
 
+/// Writes these numbers of slaves, mandatory slaves and slaves that are kept alive, as a line.
+fn put_line<W: Write>(slaves: usize, mandatory: usize, kept: usize, out: &mut W) -> io::Result<()>
+    ensures { OnOk result
+        (Appends (W.contents out.old) (W.contents out.new) (counts_line slaves mandatory kept)) }
+{
+    writeln!(out, "ok slaves {slaves} mandatory {mandatory} kept {kept}")
+}
+
+/// Writes them as an object.
+fn put_object<W: Write>(slaves: usize, mandatory: usize, kept: usize, out: &mut W) -> io::Result<()>
+    ensures { OnOk result
+        (Appends (W.contents out.old) (W.contents out.new) (counts_json slaves mandatory kept)) }
+{
+    writeln!(
+        out,
+        r#"{{"slaves":{slaves},"mandatory":{mandatory},"kept":{kept}}}"#
+    )
+}
+
+/// Writes them in this form.
+fn put_counts<W: Write>(
+    form: ReportForm,
+    slaves: usize,
+    mandatory: usize,
+    kept: usize,
+    out: &mut W,
+) -> io::Result<()>
+    ensures { OnOk result
+        (Appends (W.contents out.old) (W.contents out.new) (counts_in form slaves mandatory kept)) }
+{
+    match form {
+        ReportForm::Text => put_line(slaves, mandatory, kept, out),
+        ReportForm::Json => put_object(slaves, mandatory, kept, out),
+    }
+}
+
+/// Writes what is printed of a network list in this form, and all of it.
+fn put_check_in<W: Write>(form: ReportForm, network: &Network, out: &mut W) -> io::Result<()>
+    ensures { OnOk result
+        (Appends (W.contents out.old) (W.contents out.new) (check_in form network.now)) }
+{
+    let slaves = network.listed_ids().len();
+    let mandatory = count_mandatory(network);
+    let kept = count_kept(network);
+    put_counts(form, slaves, mandatory, kept, out)?;
+    out.flush()
+}
+
 /// Writes the line of a network list: how many slaves it lists, how many of them are mandatory, and how many are kept
 /// alive; and all of it. It fails only where the writer does, and then says nothing of how much was written.
 pub fn put_check<W: Write>(network: &Network, out: &mut W) -> io::Result<()>
     ensures { OnOk result
         (Appends (W.contents out.old) (W.contents out.new) (check_line network.now)) }
 {
-    let slaves = network.listed_ids().len();
-    let mandatory = count_mandatory(network);
-    let kept = count_kept(network);
-    writeln!(out, "ok slaves {slaves} mandatory {mandatory} kept {kept}")?;
-    out.flush()
+    put_check_in(ReportForm::Text, network, out)
+}
+
+/// Reads a network list, and prints it or its fault in this form, as [`check_text`] does. The answer is the exit status.
+fn check_in<R: Read, W: Write, E: Write>(
+    alloc: Global,
+    form: ReportForm,
+    reader: &mut R,
+    out: &mut W,
+    err: &mut E,
+) -> u8
+    ensures done { result ≡ 0
+        → ChecksIn form (R.remaining reader.old) (R.remaining reader.new)
+        (W.contents out.old) (W.contents out.new) }
+    ensures refused { result ≡ 1
+        → RefusesList (R.remaining reader.old) (R.remaining reader.new)
+        (W.contents out.old) (W.contents out.new) }
+    ensures failed { result ≡ 3
+        → FailsToCheck (R.remaining reader.old) (R.remaining reader.new)
+        (W.contents out.old) (W.contents out.new) }
+    ensures statuses { (result ≡ 0) ⊎ ((result ≡ 1) ⊎ (result ≡ 3)) }
+{
+    match read_list(alloc, reader) {
+        Ok(network) => tell_output(form, put_check_in(form, &network, out), err),
+        Err(fault) => tell_list(form, fault, err),
+    }
 }
 
 /// Reads a network list in TOML to the end of the input, and writes how many slaves it lists, how
@@ -67,23 +138,44 @@ pub fn check_text<R: Read, W: Write, E: Write>(
         (W.contents out.old) (W.contents out.new) }
     ensures statuses { (result ≡ 0) ⊎ ((result ≡ 1) ⊎ (result ≡ 3)) }
 {
-    match read_list(alloc, reader) {
-        Ok(network) => output_status(err, put_check(&network, out)),
-        Err(fault) => refuse(err, fault),
-    }
+    check_in(alloc, ReportForm::Text, reader, out, err)
 }
 
-/// `canboot check`, over the file of this path: [`check_text`], or 3 where it can't be opened.
+/// Reads a network list in TOML to the end of the input, and writes how many slaves it lists, how many of them are mandatory,
+/// and how many are kept alive, as one JSON object on a line. The answer is the exit status, as that of
+/// [`check_text`]; in the place of a line of fault `err` has an object with `status` and `fault`.
+pub fn check_as_json<R: Read, W: Write, E: Write>(
+    alloc: Global,
+    reader: &mut R,
+    out: &mut W,
+    err: &mut E,
+) -> u8
+    ensures done { result ≡ 0
+        → ChecksAsJson (R.remaining reader.old) (R.remaining reader.new)
+        (W.contents out.old) (W.contents out.new) }
+    ensures refused { result ≡ 1
+        → RefusesList (R.remaining reader.old) (R.remaining reader.new)
+        (W.contents out.old) (W.contents out.new) }
+    ensures failed { result ≡ 3
+        → FailsToCheck (R.remaining reader.old) (R.remaining reader.new)
+        (W.contents out.old) (W.contents out.new) }
+    ensures statuses { (result ≡ 0) ⊎ ((result ≡ 1) ⊎ (result ≡ 3)) }
+{
+    check_in(alloc, ReportForm::Json, reader, out, err)
+}
+
+/// `canboot check` in this form, over the file of this path: [`check_text`] or [`check_as_json`], or 3 where it can't be opened.
 pub fn check_file<R: Files + AllocGlobal, W: Write, E: Write>(
     rt: &R,
     path: &str,
+    form: ReportForm,
     out: &mut W,
     err: &mut E,
 ) -> u8
     ensures statuses { (result ≡ 0) ⊎ ((result ≡ 1) ⊎ (result ≡ 3)) }
 {
     match fs::open(rt, path) {
-        Ok(mut file) => check_text(rt.alloc(), &mut file, out, err),
-        Err(error) => read_fault(err, error.kind()),
+        Ok(mut file) => check_in(rt.alloc(), form, &mut file, out, err),
+        Err(error) => tell_unopened(form, error.kind(), err),
     }
 }

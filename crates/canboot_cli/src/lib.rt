@@ -2,7 +2,8 @@
 //!
 //! [`read_words`] gives the [`Action`] that the words ask for, with what belongs to it ([`RunWords`], [`ScanWords`], [`LiveWords`]), or
 //! what is printed in its place, and whether that is a fault ([`NoAction`]). Each number lies in the range that its option takes. Nothing
-//! is opened here: where a bus is, and how it is talked to, are values of cm_bus, and the forms of a report those of cm_report.
+//! is opened here: where a bus is, and how it is talked to, are values of cm_bus, and the forms of a report those of cm_report. On what
+//! commands run that talk over a bus is said by [`Host`].
 #![tactic(auto)]
 
 mod command_line;
@@ -17,6 +18,7 @@ mod help_replay;
 mod help_run;
 mod help_scan;
 mod help_tell;
+mod host;
 mod importing;
 mod journals;
 mod live;
@@ -26,5 +28,6 @@ mod scanning;
 pub use command_line::{
     Action, CheckOutput, JournalPath, LivePaths, LiveWords, NoAction, ReplayOutput, read_words,
 };
+pub use host::Host;
 pub use running::{RunWords, SlaveWords};
 pub use scanning::{ScanOutput, ScanWords};

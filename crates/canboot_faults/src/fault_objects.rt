@@ -2,6 +2,7 @@
 
 ghost use Rattle.std.specs.Prelude.{◌≡◌};
 
+use crate::json_text::put_escaped;
 use cm_report::ReportForm;
 use std::alloc::Global;
 use std::io::{self, Write};
@@ -20,16 +21,6 @@ pub struct FaultObjects<'e, E: Write> {
     fault: Vec<u8>,
     /// The lines behind it that explain it.
     explained: Vec<u8>,
-}
-
-/// Puts the character of a text behind another, as it stands in a string of JSON.
-fn put_escaped(text: &mut Vec<u8>, byte: u8) -> io::Result<()> {
-    match byte {
-        b'"' => write!(text, "\\\""),
-        b'\\' => write!(text, "\\\\"),
-        0..=31 => write!(text, "\\u{byte:04x}"),
-        _ => text.write_all(&[byte]),
-    }
 }
 
 /// Puts a text as a string of JSON behind another.

@@ -1,60 +1,124 @@
-//! A fault in a line, and the exit status that it comes to.
+//! Faults that several commands have, and the exit status that each comes to.
 
 ghost use Rattle.std.specs.Prelude.{◌≡◌, ◌↔◌, ◌⊎◌, if◌then◌else◌, is_ok};
 ghost use Rattle.cm_netlist.specs.ListsRead.{IsFaultOfList};
 
+use crate::fault::{Fault, Place, tell};
 use crate::status::{DONE, FAILED, REFUSED};
 use cm_netlist::CheckFault;
+use cm_report::ReportForm;
 use cm_text::InputFault;
 use std::fmt::Display;
 use std::io::{self, Write};
+
+/// Tells a fault whose words say where it is, and gives its exit status on.
+pub fn tell_words<E: Write>(
+    form: ReportForm,
+    status: u8,
+    what: impl Display + Drop,
+    err: &mut E,
+) -> u8
+    ensures { result ≡ status }
+{
+    let fault = Fault {
+        status,
+        place: Place::Unsaid,
+        what,
+    };
+    tell(form, &fault, err)
+}
+
+/// Tells that an input wasn't read, and gives its exit status.
+pub fn tell_input<E: Write>(form: ReportForm, fault: InputFault, err: &mut E) -> u8
+    ensures { result ≡ 3 }
+{
+    match fault {
+        InputFault::Read => tell_words(form, FAILED, "read failed", err),
+        InputFault::Memory => tell_words(form, FAILED, "out of memory", err),
+    }
+}
+
+/// The exit status of what was to be written; where it couldn't be, its fault is told.
+pub fn tell_output<E: Write>(form: ReportForm, output: io::Result<()>, err: &mut E) -> u8
+    ensures { result ≡ (if is_ok output then 0 else 3) }
+{
+    match output {
+        Ok(()) => DONE,
+        Err(_) => tell_words(form, FAILED, "write failed", err),
+    }
+}
+
+/// Tells that a command line can't be read, or a file can't be opened, and gives the exit status.
+pub fn tell_unopened<E: Write>(form: ReportForm, kind: io::ErrorKind, err: &mut E) -> u8
+    ensures { result ≡ 3 }
+{
+    match kind {
+        io::ErrorKind::OutOfMemory => tell_input(form, InputFault::Memory, err),
+        _ => tell_input(form, InputFault::Read, err),
+    }
+}
+
+/// Tells that a file can't be made, and gives the exit status.
+pub fn tell_unmade<E: Write>(form: ReportForm, kind: io::ErrorKind, err: &mut E) -> u8
+    ensures { result ≡ 3 }
+{
+    match kind {
+        io::ErrorKind::OutOfMemory => tell_input(form, InputFault::Memory, err),
+        _ => tell_words(form, FAILED, "write failed", err),
+    }
+}
+
+/// Tells the fault of a network list that wasn't read, and gives its exit status: 1 for a fault of the list, 3 for any other.
+pub fn tell_list<E: Write>(form: ReportForm, fault: CheckFault, err: &mut E) -> u8
+    ensures list { IsFaultOfList fault ↔ (result ≡ 1) }
+    ensures statuses { (result ≡ 1) ⊎ (result ≡ 3) }
+{
+    match fault {
+        CheckFault::List(what) => {
+            let fault = Fault {
+                status: REFUSED,
+                place: Place::List,
+                what,
+            };
+            tell(form, &fault, err)
+        }
+        CheckFault::Input(fault) => tell_input(form, fault, err),
+    }
+}
 
 /// Writes one line of fault, and gives the exit status on.
 pub fn fault_line<E: Write>(err: &mut E, status: u8, text: impl Display + Drop) -> u8
     ensures { result ≡ status }
 {
-    let _ = writeln!(err, "canboot: {text}");
-    status
+    tell_words(ReportForm::Text, status, text, err)
 }
 
 /// Writes the line of an input that wasn't read, and gives its exit status.
 pub fn input_fault_line<E: Write>(err: &mut E, fault: InputFault) -> u8
     ensures { result ≡ 3 }
 {
-    match fault {
-        InputFault::Read => fault_line(err, FAILED, "read failed"),
-        InputFault::Memory => fault_line(err, FAILED, "out of memory"),
-    }
+    tell_input(ReportForm::Text, fault, err)
 }
 
 /// The exit status of what was to be written; where it couldn't be, its line of fault is.
 pub fn output_status<E: Write>(err: &mut E, output: io::Result<()>) -> u8
     ensures { result ≡ (if is_ok output then 0 else 3) }
 {
-    match output {
-        Ok(()) => DONE,
-        Err(_) => fault_line(err, FAILED, "write failed"),
-    }
+    tell_output(ReportForm::Text, output, err)
 }
 
 /// The fault of a command line that can't be read, or of a file that can't be opened.
 pub fn read_fault<E: Write>(err: &mut E, kind: io::ErrorKind) -> u8
     ensures { result ≡ 3 }
 {
-    match kind {
-        io::ErrorKind::OutOfMemory => fault_line(err, FAILED, "out of memory"),
-        _ => fault_line(err, FAILED, "read failed"),
-    }
+    tell_unopened(ReportForm::Text, kind, err)
 }
 
 /// The fault of a file that can't be made.
 pub fn write_fault<E: Write>(err: &mut E, kind: io::ErrorKind) -> u8
     ensures { result ≡ 3 }
 {
-    match kind {
-        io::ErrorKind::OutOfMemory => fault_line(err, FAILED, "out of memory"),
-        _ => fault_line(err, FAILED, "write failed"),
-    }
+    tell_unmade(ReportForm::Text, kind, err)
 }
 
 /// Writes the line of fault of a network list that wasn't read, and gives its exit status: 1 for a fault
@@ -63,11 +127,5 @@ pub fn refuse<E: Write>(err: &mut E, fault: CheckFault) -> u8
     ensures list { IsFaultOfList fault ↔ (result ≡ 1) }
     ensures statuses { (result ≡ 1) ⊎ (result ≡ 3) }
 {
-    match fault {
-        CheckFault::List(fault) => {
-            let _ = writeln!(err, "canboot: network: {fault}");
-            REFUSED
-        }
-        CheckFault::Input(fault) => input_fault_line(err, fault),
-    }
+    tell_list(ReportForm::Text, fault, err)
 }

@@ -12,13 +12,10 @@ mod watching;
 use crate::cases::case::Case;
 use crate::cases::run::{Outcome, run_case};
 use crate::cases::scanner::Scanner;
+use canboot::Host;
 use cm_text::ENDLESS;
-use std::fs::{self, File};
+use std::fs;
 use std::io::{self, StdinLock};
-use std::rt::Files;
-use std::sync::Wait;
-use std::thread::Threads;
-use std::time::Clock;
 
 /// How many cases were run, and how many of them differ.
 #[derive(Clone, Copy)]
@@ -57,20 +54,11 @@ fn tell(rt: &impl Print, case: &Case<'_>, outcome: &Outcome) -> io::Result<()> {
 }
 
 /// Runs the cases of one file.
-fn run_file<
-    R: Files<File = File>
-        + Input<Reader = StdinLock<'static>>
-        + Clock
-        + Print
-        + AllocGlobal
-        + Wait
-        + Threads
-        + Clone
-        + Send
-        + Sync
-        + Drop
-        + 'static,
->(rt: &R, path: &str, count: &mut Count) -> io::Result<()> {
+fn run_file<R: Host + Input<Reader = StdinLock<'static>> + Print>(
+    rt: &R,
+    path: &str,
+    count: &mut Count,
+) -> io::Result<()> {
     let bytes = fs::read(rt, path)?;
     let mut scanner = Scanner::new(&bytes);
     for _ in 0..ENDLESS {
@@ -95,20 +83,10 @@ fn run_file<
 
 /// Runs the cases of these files, and says how many there are and how many of them differ. `false` where
 /// one does.
-pub fn run_files<
-    R: Files<File = File>
-        + Input<Reader = StdinLock<'static>>
-        + Clock
-        + Print
-        + AllocGlobal
-        + Wait
-        + Threads
-        + Clone
-        + Send
-        + Sync
-        + Drop
-        + 'static,
->(rt: &R, paths: &[String]) -> io::Result<bool> {
+pub fn run_files<R: Host + Input<Reader = StdinLock<'static>> + Print>(
+    rt: &R,
+    paths: &[String],
+) -> io::Result<bool> {
     let mut count = Count {
         cases: 0,
         differing: 0,

@@ -2,5 +2,4 @@ pub mod Ended
 pub mod Mend
 pub mod Replay
 pub mod Expected
-pub mod Json
 pub mod ExpectedAnswer

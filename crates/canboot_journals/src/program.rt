@@ -4,6 +4,7 @@ use crate::mend::mend_text;
 use crate::replay::replay_text;
 use canboot_check::check_file;
 use canboot_faults::{MISUSED, fault_line};
+use cm_report::ReportForm;
 use std::io::{Read, Write};
 use std::rt::Files;
 
@@ -21,7 +22,7 @@ pub fn run_words<R: Files + AllocGlobal, I: Read, W: Write, E: Write>(
         [_, command] if command.as_str() == "replay" => replay_text(rt.alloc(), input, out, err),
         [_, command] if command.as_str() == "mend" => mend_text(rt.alloc(), input, out, err),
         [_, command, network] if command.as_str() == "check" => {
-            check_file(rt, network.as_str(), out, err)
+            check_file(rt, network.as_str(), ReportForm::Text, out, err)
         }
         _ => fault_line(
             err,

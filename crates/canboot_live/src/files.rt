@@ -2,8 +2,9 @@
 
 ghost use Rattle.std.specs.Prelude.{◌≡◌, ◌≤◌, ◌⊎◌, IfErr};
 
-use crate::live::{Followed, LiveEnds, live_text};
-use canboot_cli::{JournalPath, LivePaths, LiveWords};
+use crate::ends::{Followed, LiveEnds, LiveIo, LiveOutputs, LiveTrace};
+use crate::live::live_text;
+use canboot_cli::{Host, JournalPath, LivePaths, LiveWords};
 use canboot_faults::{FAILED, MISUSED, REFUSED, fault_line, read_fault, write_fault};
 use canboot_live_files::{
     EventFile, JournalFile, OperatorInput, ReplaceFile, StatusFile, make_journal, open_operator,
@@ -16,14 +17,12 @@ use cm_bus::{
 };
 use cm_netlist::list_of;
 use cm_recorder::JournalOutput;
-use cm_report::ReportForm;
 use cm_shown::{Names, NamesFault, ShownLines, read_names};
 use std::alloc::Global;
 use std::fs::File;
 use std::io::{self, BufWriter, ErrorKind, StdinLock, Write};
+use std::marker::PhantomData;
 use std::rt::Files;
-use std::sync::Wait;
-use std::thread::Threads;
 use std::time::Clock;
 
 /// How the network is booted and watched, as these words say.
@@ -142,10 +141,29 @@ fn open_followed<R: Files<File = File> + AllocGlobal, F: Drop, E: Write>(
     }
 }
 
+/// A live run over files, whose status is kept by this.
+struct OverFiles<F> {
+    of: PhantomData<F>,
+}
+
+impl<F: ReplaceFile + Send + Drop + 'static> LiveIo for OverFiles<F> {
+    type Received = File;
+
+    type Typed = OperatorInput;
+
+    type Sent = BufWriter<File>;
+
+    type Events = EventFile;
+
+    type Files = F;
+
+    type Journal = JournalFile<File>;
+}
+
 /// What a live run reads and writes, opened.
 #[derive(Drop)]
-struct OpenEnds<F> {
-    ends: LiveEnds<File, OperatorInput, BufWriter<File>, EventFile, F>,
+struct OpenEnds<F: ReplaceFile + Send + Drop + 'static> {
+    ends: LiveEnds<OverFiles<F>>,
     messages: Outlet<BufWriter<File>>,
     /// The bus itself.
     sent: File,
@@ -154,7 +172,7 @@ struct OpenEnds<F> {
 /// Opens what a live run reads and writes, but for its journal. The answer is else the exit status.
 fn open_ends<
     R: Files<File = File> + Input<Reader = StdinLock<'static>> + AllocGlobal,
-    F: Drop,
+    F: ReplaceFile + Send + Drop + 'static,
     E: Write,
 >(
     rt: &R,
@@ -229,33 +247,17 @@ fn open_journal<R: Files<File = File> + Clock + AllocGlobal, E: Write>(
     }
 }
 
-/// Runs over what was opened, and its journal's file. Each line of the run on `err` has its time, and words in colour and with names
-/// where these are asked for.
-fn live_over<
-    R: Files<File = File>
-        + Clock
-        + AllocGlobal
-        + Wait
-        + Threads
-        + Clone
-        + Send
-        + Sync
-        + Drop
-        + 'static,
-    F: ReplaceFile + Send + Drop + 'static,
-    O: Write,
-    E: Write,
->(
+/// Runs over what was opened, as these words say.
+fn live_over<R: Host, F: ReplaceFile + Send + Drop + 'static, O: Write, E: Write>(
     rt: &R,
+    words: &LiveWords<'_>,
     text: &[u8],
-    mut journal: JournalOutput<JournalFile<File>>,
-    options: LiveOptions,
-    report: ReportForm,
     opened: OpenEnds<F>,
+    journal: JournalOutput<JournalFile<File>>,
     out: &mut O,
-    shown: &mut ShownLines<'_, R, E>,
+    err: &mut E,
 ) -> u8
-    requires workers { (1 ≤ options.workers) × (options.workers ≤ 16) }
+    requires workers { (1 ≤ words.now.workers) × (words.now.workers ≤ 16) }
     ensures statuses { (result ≡ 0) ⊎ ((result ≡ 1) ⊎ (result ≡ 3)) }
 {
     let OpenEnds {
@@ -263,40 +265,28 @@ fn live_over<
         messages,
         mut sent,
     } = opened;
-    let mut messages = Some(messages);
+    let options = options_of(words);
+    let mut outputs = LiveOutputs {
+        form: words.report,
+        out: &mut *out,
+        err: &mut *err,
+        trace: LiveTrace {
+            messages: Some(messages),
+            journal,
+        },
+    };
     let _ = sent.write_all(channel_opening(options.format));
     let mut list = text;
-    let status = live_text(
-        rt,
-        rt.alloc(),
-        &mut list,
-        options,
-        report,
-        ends,
-        out,
-        shown,
-        &mut messages,
-        &mut journal,
-    );
+    let status = live_text(rt, rt.alloc(), &mut list, options, ends, &mut outputs);
     let _ = sent.write_all(channel_closing(options.format));
     status
 }
 
 /// `canboot live`, over the files that these words name. The list is read first; where it has no fault, the names are read and the
 /// rest is opened, and then the journal's file is made, if there is one, before a byte goes to the bus. Where the start will be
-/// refused no journal is made.
+/// refused no journal is made. Each line of the run on `err` has its time, and words in colour and with names where these are asked for.
 pub(crate) fn live_file<
-    R: Files<File = File>
-        + Input<Reader = StdinLock<'static>>
-        + Clock
-        + AllocGlobal
-        + Wait
-        + Threads
-        + Clone
-        + Send
-        + Sync
-        + Drop
-        + 'static,
+    R: Host + Input<Reader = StdinLock<'static>>,
     F: ReplaceFile + Send + Drop + 'static,
     O: Write,
     E: Write,
@@ -337,14 +327,5 @@ pub(crate) fn live_file<
         Err(status) => return status,
     };
     let mut shown = ShownLines::new(rt, rt.alloc(), err, is_coloured, Some(&names));
-    live_over(
-        rt,
-        text.as_slice(),
-        journal,
-        options,
-        words.report,
-        opened,
-        out,
-        &mut shown,
-    )
+    live_over(rt, words, text.as_slice(), opened, journal, out, &mut shown)
 }

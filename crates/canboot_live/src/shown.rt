@@ -1,7 +1,7 @@
 //! By what a live run is followed: events for other programs, and versions of its history for readers.
 ghost use Rattle.std.specs.Prelude.{◌≡◌, Err};
 
-use crate::live::Followed;
+use crate::ends::Followed;
 use canboot_live_files::{ReplaceFile, StatusFile, StatusKeeper};
 use canboot_saying::{Events, LastLines, start_events};
 use canboot_turns::{LiveRegister, open_versions};

@@ -3,7 +3,7 @@
 ghost use Rattle.std.specs.Prelude.{◌≡◌, ◌≤◌, Err};
 
 use crate::files::live_file;
-use canboot_cli::LiveWords;
+use canboot_cli::{Host, LiveWords};
 use canboot_faults::FaultObjects;
 use canboot_live_files::ReplaceFile;
 use canboot_run::no_history_line;
@@ -11,10 +11,8 @@ use cm_run::{NoHistory, kept};
 use cm_shown::{Names, ShownLines};
 use crossbeam_channel::{Receiver, Sender};
 use std::alloc::{AllocError, Global};
-use std::fs::File;
 use std::io::{self, StdinLock, Write};
 use std::mem;
-use std::rt::Files;
 use std::sync::atomic::{AtomicU64, Ordering};
 use std::sync::{Arc, Wait};
 use std::thread::{self, Threads};
@@ -191,17 +189,7 @@ fn start_told<
 
 /// Does what [`live_file`] does; with `--json` its fault is an object.
 fn live_words<
-    R: Files<File = File>
-        + Input<Reader = StdinLock<'static>>
-        + Clock
-        + AllocGlobal
-        + Wait
-        + Threads
-        + Clone
-        + Send
-        + Sync
-        + Drop
-        + 'static,
+    R: Host + Input<Reader = StdinLock<'static>>,
     F: ReplaceFile + Send + Drop + 'static,
     O: Write,
     E: Write,
@@ -217,17 +205,7 @@ fn live_words<
 /// `canboot live`, over the files that these words name. What it tells goes to `told`, if that is there, by a thread of its own, and
 /// else to `err`.
 pub fn live_told<
-    R: Files<File = File>
-        + Input<Reader = StdinLock<'static>>
-        + Clock
-        + AllocGlobal
-        + Wait
-        + Threads
-        + Clone
-        + Send
-        + Sync
-        + Drop
-        + 'static,
+    R: Host + Input<Reader = StdinLock<'static>>,
     F: ReplaceFile + Send + Drop + 'static,
     O: Write,
     E: Write,

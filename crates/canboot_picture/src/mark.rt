@@ -5,14 +5,9 @@ ghost use Rattle.std.specs.Io.KnownBytes.{Appends};
 ghost use Rattle.canboot_picture.specs.Marks.{beside, beside_head, class_words, command_words, entry_text, label_of, legend_words, letter_words, mark_head, mark_text, mark_title, node_text, outcome_text, outcome_words, sample_words, state_class, subject_text, subject_words};
 ghost use Rattle.canboot_picture.specs.Xml.{escaped};
 
-use crate::scale::Scale;
 use crate::spans::state_words;
 use crate::xml::put_escaped;
-use cm_history::Entry;
-use cm_netlist::Network;
 use cm_nmt::{Command, Status};
-use cm_sequential::Manager;
-use std::alloc::{AllocError, Global};
 use std::io::{self, Write};
 
 /// What a mark says.
@@ -67,20 +62,6 @@ pub struct Mark {
     /// Where the text beside it stands.
     pub text_x: u32,
     pub text_y: u32,
-}
-
-/// Who gives a picture its marks. Nothing is proved of where they stand.
-pub trait PlaceMarks {
-    /// The marks of a history, whose entries are given with the oldest first, beside the columns for which these managers stand. It fails
-    /// only where memory is refused.
-    fn marks_of(
-        &self,
-        alloc: Global,
-        network: &Network,
-        entries: &[Entry],
-        scale: Scale,
-        managers: &[Manager],
-    ) -> Result<Vec<Mark>, AllocError>;
 }
 
 /// The class of a state.

@@ -11,7 +11,8 @@ ghost use Rattle.canboot_picture.specs.Pictures.{WritesPicture, head_text, headi
 
 use crate::columns::columns_of;
 use crate::drawn::Picture;
-use crate::mark::{PlaceMarks, put_marks};
+use crate::mark::put_marks;
+use crate::marks::marks_of;
 use crate::scale::Scale;
 use crate::spans::put_lanes;
 use cm_history::Entry;
@@ -59,12 +60,11 @@ fn pitch_of(columns: u32) -> u32 {
 }
 
 /// The picture with so many columns at most.
-fn picture_with<M: PlaceMarks>(
+fn picture_with(
     alloc: Global,
     network: &Network,
     entries: &[Entry],
     most: u32,
-    places: &M,
 ) -> Result<Picture, AllocError>
     requires some { 0 < most }
     requires few { length entries.now ≤ most_entries }
@@ -79,7 +79,7 @@ fn picture_with<M: PlaceMarks>(
         pitch: pitch_of(managers.len() as u32),
         entries: count,
     };
-    let marks = places.marks_of(alloc, network, entries, scale, managers.as_slice())?;
+    let marks = marks_of(alloc, network, entries, scale, managers.as_slice())?;
     Ok(Picture {
         scale,
         managers,
@@ -87,25 +87,24 @@ fn picture_with<M: PlaceMarks>(
     })
 }
 
-/// The picture of a legal history, whose entries are given with the oldest first, and the marks that it gets. It fails only where memory
+/// The picture of a legal history, whose entries are given with the oldest first, and its marks. It fails only where memory
 /// is refused.
-pub fn picture_of<M: PlaceMarks>(
+pub fn picture_of(
     alloc: Global,
     network: &Network,
     entries: &[Entry],
-    places: &M,
 ) -> Result<Picture, AllocError>
     requires few { length entries.now ≤ most_entries }
     requires legal { IsLegal (listing network.now) (reverse entries.now) }
     ensures { IfOk result (λ p. IsPictureOf p network.now entries.now) }
 {
     for most in [1000u32, 500, 250, 120, 60, 30] {
-        let picture = picture_with(alloc, network, entries, most, places)?;
+        let picture = picture_with(alloc, network, entries, most)?;
         if fits(&picture, network) {
             return Ok(picture);
         }
     }
-    picture_with(alloc, network, entries, 10, places)
+    picture_with(alloc, network, entries, 10)
 }
 
 /// Writes what stands before the content of the document.

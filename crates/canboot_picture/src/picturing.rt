@@ -10,13 +10,11 @@ ghost use Rattle.canboot_picture.specs.Pictures.{WritesPicture};
 ghost use Rattle.canboot_picture.specs.Picture.{PicturesJournal};
 
 use crate::drawn::Picture;
-use crate::marks::Marks;
 use crate::picture::{picture_of, put_picture};
-use canboot_faults::{FAILED, fault_line, input_fault_line, output_status};
-use canboot_journals::{LONGEST_JOURNAL, refuse_journal};
-use cm_journal::{Journal, journal_read};
+use canboot_faults::{FAILED, fault_line, output_status};
+use canboot_journals::{read_journal, refuse_unread};
+use cm_journal::Journal;
 use cm_netlist::Network;
-use cm_text::read_input;
 use std::alloc::Global;
 use std::io::{self, Read, Write};
 
@@ -37,7 +35,7 @@ fn draw<W: Write, E: Write>(alloc: Global, journal: &Journal, out: &mut W, err: 
         (W.contents out.old) (W.contents out.new) }
     ensures statuses { (result ≡ 0) ⊎ (result ≡ 3) }
 {
-    match picture_of(alloc, &journal.network, journal.entries.as_slice(), &Marks) {
+    match picture_of(alloc, &journal.network, journal.entries.as_slice()) {
         Ok(picture) => {
             let written = put_drawn(&picture, &journal.network, out);
             output_status(err, written)
@@ -71,12 +69,8 @@ pub fn picture_text<R: Read, W: Write, E: Write>(
         (W.contents out.old) (W.contents out.new) }
     ensures statuses { (result ≡ 0) ⊎ ((result ≡ 1) ⊎ (result ≡ 3)) }
 {
-    let bytes = match read_input(alloc, reader, LONGEST_JOURNAL) {
-        Ok(bytes) => bytes,
-        Err(fault) => return input_fault_line(err, fault),
-    };
-    match journal_read(alloc, bytes.as_slice()) {
+    match read_journal(alloc, reader) {
         Ok(journal) => draw(alloc, &journal, out, err),
-        Err(fault) => refuse_journal(err, fault),
+        Err(unread) => refuse_unread(alloc, &unread, false, err),
     }
 }

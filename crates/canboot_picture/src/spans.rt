@@ -103,22 +103,31 @@ fn put_letter<W: Write>(state: u8, x: u64, y: u64, width: u64, out: &mut W) -> i
     put_letter_at(state, x + 6, y + 12, out)
 }
 
-/// Writes a span of the node at this place.
+/// Where a span stands in the picture.
+#[derive(Clone, Copy)]
+struct SpanPlace {
+    /// Its left edge.
+    x: u64,
+    /// Its upper edge.
+    y: u64,
+    width: u64,
+}
+
+/// Writes a span of the node at this place, which is shown behind the entries from the one to the other.
 fn put_span_at<W: Write>(
     state: u8,
     node: u8,
-    x: u64,
-    y: u64,
-    width: u64,
-    from: u64,
-    to: u64,
+    place: SpanPlace,
+    entries: (u64, u64),
     out: &mut W,
 ) -> io::Result<()>
-    requires left { x < 2 ^ 64 - 6 }
-    requires high { y < 2 ^ 64 - 12 }
+    requires left { place.x < 2 ^ 64 - 6 }
+    requires high { place.y < 2 ^ 64 - 12 }
     ensures { OnOk result (Appends (W.contents out.old) (W.contents out.new)
-        (span_at state node x y width from to)) }
+        (span_at state node place.x place.y place.width entries.0 entries.1)) }
 {
+    let SpanPlace { x, y, width } = place;
+    let (from, to) = entries;
     put_head(state, x, y, width, out)?;
     put_title(node, state, from, to, out)?;
     put_letter(state, x, y, width, out)
@@ -134,7 +143,8 @@ fn put_span<W: Write>(scale: &Scale, row: u32, node: u8, span: Span, out: &mut W
     let width = product(span.end - span.first, scale.pitch);
     let from = product(span.first, scale.width) + 1;
     let to = product(span.end, scale.width).min(scale.entries as u64);
-    put_span_at(span.state, node, x, y, width, from, to, out)
+    let place = SpanPlace { x, y, width };
+    put_span_at(span.state, node, place, (from, to), out)
 }
 
 /// The end of the columns beside each other, from this one on, in which the node is shown in one state.

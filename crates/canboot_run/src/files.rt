@@ -2,13 +2,11 @@
 
 ghost use Rattle.std.specs.Prelude.{◌≡◌, ◌≤◌, IfOk, None, false, is_some, true};
 
-use crate::running::{run_listed, unlisted_line};
-use crate::simulation::Options;
+use crate::running::{Asked, run_listed, unlisted_line};
 use canboot_faults::{
     MISUSED, fault_line, input_fault_line, is_list, read_fault, refuse, write_fault,
 };
 use cm_netlist::{CheckFault, LONGEST_LIST, Network, list_of};
-use cm_report::WriteReport;
 use cm_text::{InputFault, read_input};
 use std::fs;
 use std::io::{self, BufWriter, ErrorKind, Write};
@@ -91,38 +89,23 @@ fn list_text<R: Files + AllocGlobal>(
 
 /// `canboot run`, over the network of a list that was read, as [`run_text_as`](crate::run_text_as) does: 3 also for a journal's file that
 /// can't be made. That file, if there is one, is made behind the look whether the slaves with faults are listed.
-pub fn run_network<
-    R: Files + AllocGlobal + Wait + Threads + Send + Sync,
-    P: WriteReport,
-    W: Write,
-    E: Write,
->(
+pub fn run_network<R: Files + AllocGlobal + Wait + Threads + Send + Sync, W: Write, E: Write>(
     rt: &R,
     network: &Network,
-    options: &Options,
-    report: &P,
+    asked: Asked<'_>,
     journal: Option<&str>,
     out: &mut W,
     err: &mut E,
 ) -> u8
-    requires workers { (1 ≤ options.now.workers) × (options.now.workers ≤ 16) }
-    requires attempts { (1 ≤ options.now.attempts) × (options.now.attempts ≤ 10) }
+    requires workers { (1 ≤ asked.options.now.workers) × (asked.options.now.workers ≤ 16) }
+    requires attempts { (1 ≤ asked.options.now.attempts) × (asked.options.now.attempts ≤ 10) }
     ensures { result ≤ 3 }
 {
-    if let Some(node) = options.faults.unlisted(network) {
+    if let Some(node) = asked.options.faults.unlisted(network) {
         return unlisted_line(err, node);
     }
     match make(rt, journal) {
-        Ok(mut file) => run_listed(
-            rt,
-            rt.alloc(),
-            network,
-            options,
-            report,
-            out,
-            err,
-            &mut file,
-        ),
+        Ok(mut file) => run_listed(rt, rt.alloc(), network, asked, out, err, &mut file),
         Err(error) => write_fault(err, error.kind()),
     }
 }

@@ -5,9 +5,9 @@ ghost use Rattle.canboot_run_main.specs.Words.{AreInRange};
 
 use canboot_faults::{FAILED, MISUSED, fault_line, read_fault};
 use canboot_run::{
-    Options, SlaveFaults, SlaveOption, network_of_file, refuse_run, run_network, set_fault,
+    Asked, Options, SlaveFaults, SlaveOption, network_of_file, refuse_run, run_network, set_fault,
 };
-use cm_report::ReportLines;
+use cm_report::ReportForm;
 use std::env;
 use std::io::{self, BufWriter, Write};
 use std::rt::{Env, Files};
@@ -160,8 +160,12 @@ fn run_file<R: Files + AllocGlobal + Wait + Threads + Send + Sync, W: Write, E: 
     requires { AreInRange options.now }
     ensures { result ≤ 3 }
 {
+    let asked = Asked {
+        options,
+        form: ReportForm::Text,
+    };
     match network_of_file(rt, path, journal) {
-        Ok(network) => run_network(rt, &network, options, &ReportLines, journal, out, err),
+        Ok(network) => run_network(rt, &network, asked, journal, out, err),
         Err(none) => refuse_run(err, &none),
     }
 }

@@ -5,6 +5,7 @@ ghost use Rattle.std.specs.Prelude.{◌≡◌, ◌<◌};
 use crate::device::{HeardDevice, hear_device};
 use crate::scanned::NoScan;
 use cm_bus::{LiveBus, LivePort, Port, Setting, make_bus, start_receiving};
+use cm_netlist::worker_at;
 use cm_nmt::NodeId;
 use cm_receiving::{BusName, Received, Routes, Source};
 use crossbeam_channel::Sender;
@@ -59,7 +60,7 @@ fn share(
 {
     let mut share = Vec::new(alloc);
     for (place, id) in nodes.iter().enumerate() {
-        if place % workers == worker {
+        if worker_at(workers, place) == worker {
             share.push(*id)?;
         }
     }
@@ -98,7 +99,7 @@ fn make_routes<'a, 'n, R, B: BusName>(
         listening: Arc::try_clone(&setting.listening)?,
         heartbeats: Arc::try_clone(&setting.heartbeats)?,
         workers,
-        happenings: setting.happenings.clone()?,
+        notifications: setting.notifications.clone()?,
     })
 }
 

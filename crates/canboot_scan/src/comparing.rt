@@ -4,10 +4,11 @@ ghost use Rattle.std.specs.Prelude.{◌≡◌, ◌≢◌, [], All, Contains, IfO
 ghost use Rattle.cm_netlist.specs.Network.{is_listed, listed_ids, terms};
 ghost use Rattle.canboot_scan.specs.Compared.{HasExpected, IsAsListed, IsFoundAsListed};
 
-use crate::difference::{Difference, ExpectedValue};
+use crate::difference::Difference;
 use crate::found::Found;
 use cm_netlist::Network;
 use cm_nmt::{NodeId, Terms};
+use cm_telling::Compared;
 use std::alloc::{AllocError, Global};
 
 /// The device that was found at this node, if there is one.
@@ -25,7 +26,7 @@ fn find(found: &[Found], id: NodeId) -> Option<Found>
 /// Puts down that a value isn't the expected one, where it isn't.
 fn compare_value(
     id: NodeId,
-    value: ExpectedValue,
+    value: Compared,
     expected: u32,
     found: u32,
     differences: &mut Vec<Difference>,
@@ -56,35 +57,35 @@ fn compare_device(
     let id = found.id;
     compare_value(
         id,
-        ExpectedValue::DeviceType,
+        Compared::DeviceType,
         terms.device_type,
         found.device_type,
         differences,
     )?;
     compare_value(
         id,
-        ExpectedValue::Vendor,
+        Compared::VendorId,
         terms.vendor,
         found.vendor,
         differences,
     )?;
     compare_value(
         id,
-        ExpectedValue::Product,
+        Compared::ProductCode,
         terms.product,
         found.product,
         differences,
     )?;
     compare_value(
         id,
-        ExpectedValue::Revision,
+        Compared::RevisionNumber,
         terms.revision,
         found.revision,
         differences,
     )?;
     compare_value(
         id,
-        ExpectedValue::Serial,
+        Compared::SerialNumber,
         terms.serial,
         found.serial,
         differences,

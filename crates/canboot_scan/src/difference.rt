@@ -2,17 +2,8 @@
 
 use crate::found::Found;
 use cm_nmt::NodeId;
+use cm_telling::Compared;
 use std::fmt;
-
-/// A value of a device, of those that a network list may expect (CiA 302-2, 1F84h to 1F88h).
-#[derive(Clone, Copy)]
-pub enum ExpectedValue {
-    DeviceType,
-    Vendor,
-    Product,
-    Revision,
-    Serial,
-}
 
 /// How what was found differs from what is listed.
 #[derive(Clone, Copy)]
@@ -24,34 +15,10 @@ pub enum Difference {
     /// The slave that was found has another value than the expected one.
     Other {
         id: NodeId,
-        value: ExpectedValue,
+        value: Compared,
         expected: u32,
         found: u32,
     },
-}
-
-impl ExpectedValue {
-    /// Its name in CiA 301.
-    pub fn words(self) -> &'static str {
-        match self {
-            ExpectedValue::DeviceType => "device type",
-            ExpectedValue::Vendor => "vendor-ID",
-            ExpectedValue::Product => "product code",
-            ExpectedValue::Revision => "revision number",
-            ExpectedValue::Serial => "serial number",
-        }
-    }
-
-    /// The key of the network list under which it stands.
-    pub fn key(self) -> &'static str {
-        match self {
-            ExpectedValue::DeviceType => "device_type",
-            ExpectedValue::Vendor => "vendor",
-            ExpectedValue::Product => "product",
-            ExpectedValue::Revision => "revision",
-            ExpectedValue::Serial => "serial",
-        }
-    }
 }
 
 impl fmt::Display for Difference {
@@ -75,7 +42,7 @@ impl fmt::Display for Difference {
                 expected,
                 found,
             } => {
-                let (node, words) = (id.get(), value.words());
+                let (node, words) = (id.get(), value.name());
                 write!(
                     f,
                     "node {node}: {words} {found:08X}, expected {expected:08X}"

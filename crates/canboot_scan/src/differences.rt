@@ -1,7 +1,8 @@
 //! How the devices on a bus differ from a network list, as lines and as a JSON object.
 
-use crate::difference::{Difference, ExpectedValue};
+use crate::difference::Difference;
 use crate::found::Found;
+use cm_telling::Compared;
 use std::io::{self, Write};
 
 /// Writes a line for each difference, or one that says how many slaves are listed, where there is none.
@@ -35,15 +36,26 @@ fn put_unknown<O: Write>(found: &Found, out: &mut O) -> io::Result<()> {
     )
 }
 
+/// The key of the network list under which a value stands.
+fn key_of(value: Compared) -> &'static str {
+    match value {
+        Compared::DeviceType => "device_type",
+        Compared::VendorId => "vendor",
+        Compared::ProductCode => "product",
+        Compared::RevisionNumber => "revision",
+        Compared::SerialNumber => "serial",
+    }
+}
+
 /// Writes the object of a value that isn't the expected one.
 fn put_other<O: Write>(
     node: u8,
-    value: ExpectedValue,
+    value: Compared,
     expected: u32,
     found: u32,
     out: &mut O,
 ) -> io::Result<()> {
-    let key = value.key();
+    let key = key_of(value);
     write!(
         out,
         r#"{{"node":{node},"is":"other","key":"{key}","expected":"{expected:08X}","found":"{found:08X}"}}"#

@@ -2,8 +2,8 @@
 
 ghost use Rattle.std.specs.Prelude.{◌≡◌, ◌≤◌, ◌⊎◌, IfErr};
 
-use crate::scan::{ListForm, ScanEnds, ScanOptions, scan_check, scan_text};
-use canboot_cli::{ScanOutput, ScanWords};
+use crate::scan::{ListForm, Scan, ScanEnds, ScanOptions, scan_check, scan_text};
+use canboot_cli::{Host, ScanOutput, ScanWords};
 use canboot_faults::{FAILED, MISUSED, fault_line, write_fault};
 use canboot_refusing::{read_fault_of, read_file, refuse_explained};
 use cm_bus::{Unopened, channel_closing, channel_opening, format_of, open_bus, writers_to};
@@ -16,9 +16,6 @@ use std::alloc::{AllocError, Global};
 use std::fs::File;
 use std::io::{BufWriter, Write};
 use std::rt::Files;
-use std::sync::Wait;
-use std::thread::Threads;
-use std::time::Clock;
 
 /// What is printed, with the network list that what is found is compared with, if it is.
 #[derive(Drop)]
@@ -74,25 +71,10 @@ fn is_asked(nodes: &NodeSet, output: &Output, id: NodeId) -> bool {
 }
 
 /// A scan over a bus that was opened.
-fn scan_over<
-    R: Files<File = File>
-        + Clock
-        + AllocGlobal
-        + Wait
-        + Threads
-        + Clone
-        + Send
-        + Sync
-        + Drop
-        + 'static,
-    O: Write,
-    E: Write,
->(
+fn scan_over<R: Host, O: Write, E: Write>(
     rt: &R,
-    nodes: &[NodeId],
-    options: ScanOptions,
+    scan: Scan<'_, File, BufWriter<File>>,
     output: Output,
-    ends: ScanEnds<File, BufWriter<File>>,
     out: &mut O,
     err: &mut E,
 ) -> u8
@@ -100,28 +82,18 @@ fn scan_over<
 {
     let alloc = rt.alloc();
     match output {
-        Output::List(form) => scan_text(rt, alloc, nodes, options, form, ends, out, err),
-        Output::Differences(network, form) => {
-            scan_check(rt, alloc, &network, nodes, options, form, ends, out, err)
-        }
+        Output::List(form) => scan_text(rt, alloc, scan, form, out, err),
+        Output::Differences(network, form) => scan_check(rt, alloc, &network, scan, form, out, err),
     }
 }
 
 /// `canboot scan`, over the files that these words name. A network list is read before the bus is opened.
-pub fn scan_file<
-    R: Files<File = File>
-        + Clock
-        + AllocGlobal
-        + Wait
-        + Threads
-        + Clone
-        + Send
-        + Sync
-        + Drop
-        + 'static,
-    O: Write,
-    E: Write,
->(rt: &R, words: &ScanWords<'_>, out: &mut O, err: &mut E) -> u8
+pub fn scan_file<R: Host, O: Write, E: Write>(
+    rt: &R,
+    words: &ScanWords<'_>,
+    out: &mut O,
+    err: &mut E,
+) -> u8
     ensures statuses { result ≤ 3 }
 {
     let alloc = rt.alloc();
@@ -148,9 +120,13 @@ pub fn scan_file<
         Ok(written) => written,
         Err(error) => return write_fault(err, error.kind()),
     };
-    let ends = ScanEnds { received, written };
+    let scan = Scan {
+        nodes: asked.as_slice(),
+        options,
+        ends: ScanEnds { received, written },
+    };
     let _ = sent.write_all(channel_opening(options.format));
-    let status = scan_over(rt, asked.as_slice(), options, output, ends, out, err);
+    let status = scan_over(rt, scan, output, out, err);
     let _ = sent.write_all(channel_closing(options.format));
     status
 }

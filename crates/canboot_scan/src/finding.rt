@@ -4,13 +4,12 @@ ghost use Rattle.std.specs.Prelude.{◌≡◌, All, IfOk};
 ghost use Rattle.canboot_scan.specs.Scanning.{IsHeardDevice};
 
 use crate::asking::ask_nodes;
-use crate::scan::{ScanEnds, ScanOptions};
+use crate::scan::{Scan, ScanEnds, ScanOptions};
 use crate::scanned::{BusSaid, NoScan, Scanned, in_order};
 use cm_bus::{LiveOptions, set_up};
 use cm_can::{BusState, CanError, Remark};
 use cm_netlist::Network;
-use cm_nmt::NodeId;
-use cm_receiving::{BusName, Happening};
+use cm_receiving::{BusName, Notification};
 use cm_text::ENDLESS;
 use crossbeam_channel::Receiver;
 use std::alloc::Global;
@@ -47,7 +46,7 @@ fn take_error(said: &mut BusSaid, error: &CanError) {
 }
 
 /// What was told of the bus so far, while its nodes were asked.
-fn told_of<R: Wait>(rt: &R, happenings: &Receiver<Happening>) -> BusSaid {
+fn told_of<R: Wait>(rt: &R, notifications: &Receiver<Notification>) -> BusSaid {
     let mut said = BusSaid {
         is_over: false,
         are_strange: false,
@@ -55,10 +54,10 @@ fn told_of<R: Wait>(rt: &R, happenings: &Receiver<Happening>) -> BusSaid {
         state: None,
     };
     for _told in 0..ENDLESS {
-        match happenings.try_recv(rt) {
-            Ok(Happening::NoMoreHeard) => said.is_over = true,
-            Ok(Happening::NoFrames) => said.are_strange = true,
-            Ok(Happening::Said(Remark::Error(error))) => take_error(&mut said, &error),
+        match notifications.try_recv(rt) {
+            Ok(Notification::NoMoreHeard) => said.is_over = true,
+            Ok(Notification::NoFrames) => said.are_strange = true,
+            Ok(Notification::Said(Remark::Error(error))) => take_error(&mut said, &error),
             Ok(_) => {}
             Err(_) => break,
         }
@@ -72,25 +71,23 @@ fn find_on<
     B: BusName + Send + Sync + 'static,
     I: Read + Send + Drop + 'static,
     W: Write + Drop + Send,
->(
-    rt: &R,
-    alloc: Global,
-    network: &Network,
-    nodes: &[NodeId],
-    options: ScanOptions,
-    ends: ScanEnds<I, W>,
-) -> Result<Scanned, NoScan>
-    requires format { options.format ≡ B.format }
-    requires text { I.remaining ends.received ≡ B.text }
+>(rt: &R, alloc: Global, network: &Network, scan: Scan<'_, I, W>) -> Result<Scanned, NoScan>
+    requires format { scan.options.format ≡ B.format }
+    requires text { I.remaining scan.ends.received ≡ B.text }
     ensures { IfOk result (λ s. All (IsHeardDevice B.format B.text) s.found.items) }
 {
-    let (setting, happenings) = set_up(rt, alloc, network, live_options(options))?;
+    let Scan {
+        nodes,
+        options,
+        ends,
+    } = scan;
+    let (setting, notifications) = set_up(rt, alloc, network, live_options(options))?;
     let ScanEnds { received, written } = ends;
     let devices = ask_nodes::<_, B, _, _>(&setting, nodes, received, written)?;
     if setting.broken.load(Ordering::SeqCst) {
         return Err(NoScan::NotWritten);
     }
-    let said = told_of(rt, &happenings);
+    let said = told_of(rt, &notifications);
     if said.is_over {
         return Err(NoScan::NotHeard);
     }
@@ -105,15 +102,8 @@ pub(crate) fn find_devices<
     R: Wait + Threads + Clock + Clone + Send + Sync + Drop + 'static,
     I: Read + Send + Drop + 'static,
     W: Write + Drop + Send,
->(
-    rt: &R,
-    alloc: Global,
-    network: &Network,
-    nodes: &[NodeId],
-    options: ScanOptions,
-    ends: ScanEnds<I, W>,
-) -> Result<Scanned, NoScan>
-    ensures { IfOk result (λ s. All (IsHeardDevice options.format (I.remaining ends.received)) s.found.items) }
+>(rt: &R, alloc: Global, network: &Network, scan: Scan<'_, I, W>) -> Result<Scanned, NoScan>
+    ensures { IfOk result (λ s. All (IsHeardDevice scan.entry.options.format (I.remaining scan.entry.ends.received)) s.found.items) }
 {
-    find_on::<_, Brand, _, _>(rt, alloc, network, nodes, options, ends)
+    find_on::<_, Brand, _, _>(rt, alloc, network, scan)
 }

@@ -44,6 +44,17 @@ pub struct ScanEnds<I, W> {
     pub written: Vec<W>,
 }
 
+/// Which nodes a scan asks, how, and over what.
+#[derive(Drop)]
+pub struct Scan<'s, I, W> {
+    /// The nodes that are asked.
+    pub nodes: &'s [NodeId],
+    /// How they are asked.
+    pub options: ScanOptions,
+    /// Where frames come from and go to.
+    pub ends: ScanEnds<I, W>,
+}
+
 /// What is printed of the devices that were found.
 #[derive(Clone, Copy)]
 pub struct ListForm {
@@ -136,7 +147,7 @@ fn put_list<O: Write, E: Write>(
 /// Asks these nodes on a CAN bus, workers side by side, what they are: 1000h, and of those that answer it 1018h sub 1 to 4 and 1008h
 /// (CiA 301); and writes a network list in TOML of the devices that answered, in rising order of their node-IDs: each is to be booted
 /// (1F81h bits 0 and 2), and the values that it gave are the expected ones; a value that it didn't give is left out. No NMT message is
-/// sent. `ends` has a writer for each worker. The answer is the exit status:
+/// sent. `scan.ends` has a writer for each worker. The answer is the exit status:
 ///
 /// - 0: the list is written, of whatever was found; `err` has a line where no device was heard, where the bus says that it isn't well, and
 ///   for each node at which two devices answer;
@@ -148,26 +159,18 @@ pub fn scan_text<
     W: Write + Drop + Send,
     O: Write,
     E: Write,
->(
-    rt: &R,
-    alloc: Global,
-    nodes: &[NodeId],
-    options: ScanOptions,
-    form: ListForm,
-    ends: ScanEnds<I, W>,
-    out: &mut O,
-    err: &mut E,
-) -> u8
-    ensures done { result ≡ 0 → Scans options.format (I.remaining ends.received) form.own
+>(rt: &R, alloc: Global, scan: Scan<'_, I, W>, form: ListForm, out: &mut O, err: &mut E) -> u8
+    ensures done { result ≡ 0 → Scans scan.entry.options.format (I.remaining scan.entry.ends.received) form.own
         (O.contents out.old) (O.contents out.new) }
-    ensures failed { result ≡ 3 → FailsToScan options.format (I.remaining ends.received) form.own
+    ensures failed { result ≡ 3 → FailsToScan scan.entry.options.format (I.remaining scan.entry.ends.received) form.own
         (O.contents out.old) (O.contents out.new) }
     ensures statuses { (result ≡ 0) ⊎ (result ≡ 3) }
 {
     let network = Network::new(alloc, form.own, Startup(1), 0);
-    match find_devices(rt, alloc, &network, nodes, options, ends) {
+    let format = scan.options.format;
+    match find_devices(rt, alloc, &network, scan) {
         Ok(scanned) => {
-            let _ = tell_beside(err, &network, options.format, &scanned);
+            let _ = tell_beside(err, &network, format, &scanned);
             put_list(alloc, &scanned, form, out, err)
         }
         Err(none) => no_scan_line(err, none),
@@ -213,22 +216,21 @@ pub fn scan_check<
     rt: &R,
     alloc: Global,
     network: &Network,
-    nodes: &[NodeId],
-    options: ScanOptions,
+    scan: Scan<'_, I, W>,
     form: ReportForm,
-    ends: ScanEnds<I, W>,
     out: &mut O,
     err: &mut E,
 ) -> u8
     ensures done { result ≡ 0
-        → AreHeardAsListed options.format (I.remaining ends.received) network.now }
+        → AreHeardAsListed scan.entry.options.format (I.remaining scan.entry.ends.received) network.now }
     ensures statuses { (result ≡ 0) ⊎ ((result ≡ 1) ⊎ (result ≡ 3)) }
 {
-    let scanned = match find_devices(rt, alloc, network, nodes, options, ends) {
+    let format = scan.options.format;
+    let scanned = match find_devices(rt, alloc, network, scan) {
         Ok(scanned) => scanned,
         Err(none) => return no_scan_line(err, none),
     };
-    let _ = tell_beside(err, network, options.format, &scanned);
+    let _ = tell_beside(err, network, format, &scanned);
     match compare(alloc, network, scanned.found.as_slice()) {
         Ok(differences) => {
             let slaves = network.listed_ids().len();

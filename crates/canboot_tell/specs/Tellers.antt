@@ -12,10 +12,10 @@ use Rattle.cm_watched.specs.declared.happening.Happening.TheVariants.{Called}
 use Rattle.canboot_tell.specs.ToldHistory.{no_settings, past_of, running_if}
 use Rattle.cm_words.specs.ToldLines.{started_too}
 use Rattle.canboot_tell.specs.declared.history.Said.{Said}
-use Rattle.canboot_tell.specs.declared.history.Teller.{Teller}
+use Rattle.canboot_tell.specs.declared.history.HistoryTeller.{HistoryTeller}
 
 -- the teller keeps what these entries say
-pub record Knows (t : Teller) (net : Network) (before : List Entry) : Type 0 where
+pub record Knows (t : HistoryTeller) (net : Network) (before : List Entry) : Type 0 where
   pub network : t.network.now ≡ net
   pub stands : Stands t.manager net before
   pub watches : Watches t.watch net no_settings (past_of before)

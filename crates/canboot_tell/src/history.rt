@@ -80,7 +80,7 @@ impl<'a> Said<'a> {
 
 /// What is known behind the entries of a history that were taken.
 #[derive(Drop)]
-struct Teller<'a> {
+struct HistoryTeller<'a> {
     network: &'a Network,
     manager: Manager,
     watch: Watch,
@@ -89,16 +89,16 @@ struct Teller<'a> {
     count: u64,
 }
 
-impl<'a> Teller<'a> {
+impl<'a> HistoryTeller<'a> {
     /// None was taken.
-    fn new(network: &'a Network) -> Teller<'a>
+    fn new(network: &'a Network) -> HistoryTeller<'a>
         ensures { Knows result network.now [] }
     {
         let settings = Settings {
             settle_ms: 0,
             heartbeat_ms: 0,
         };
-        Teller {
+        HistoryTeller {
             network,
             manager: Manager::new(network),
             watch: Watch::new(settings),
@@ -169,7 +169,7 @@ pub fn tell_history<'a, W: Write>(
     ensures { OnOk result (Appends (W.contents out.old) (W.contents out.new)
         (history_told network.now node (reverse entries.now))) }
 {
-    let mut teller = Teller::new(network);
+    let mut teller = HistoryTeller::new(network);
     for entry in entries {
         let said = teller.take(entry);
         let is_told = concerns(&node, &entry.call);

@@ -9,11 +9,10 @@ ghost use Rattle.canboot_tell.specs.ToldHistory.{history_told};
 ghost use Rattle.canboot_tell.specs.Tell.{TellsJournal};
 
 use crate::history::tell_history;
-use canboot_faults::{input_fault_line, output_status};
-use canboot_journals::{LONGEST_JOURNAL, refuse_bytes};
-use cm_journal::{Journal, journal_read};
+use canboot_faults::output_status;
+use canboot_journals::{read_journal, refuse_unread};
+use cm_journal::Journal;
 use cm_nmt::NodeId;
-use cm_text::read_input;
 use std::alloc::Global;
 use std::io::{self, Read, Write};
 
@@ -55,12 +54,8 @@ pub fn tell_text<R: Read, W: Write, E: Write>(
         (W.contents out.old) (W.contents out.new) }
     ensures statuses { (result ≡ 0) ⊎ ((result ≡ 1) ⊎ (result ≡ 3)) }
 {
-    let bytes = match read_input(alloc, reader, LONGEST_JOURNAL) {
-        Ok(bytes) => bytes,
-        Err(fault) => return input_fault_line(err, fault),
-    };
-    match journal_read(alloc, bytes.as_slice()) {
+    match read_journal(alloc, reader) {
         Ok(journal) => output_status(err, put_told(&journal, node, out)),
-        Err(fault) => refuse_bytes(alloc, bytes.as_slice(), fault, is_explained, err),
+        Err(unread) => refuse_unread(alloc, &unread, is_explained, err),
     }
 }

@@ -4,7 +4,7 @@
 ghost use Rattle.std.specs.Prelude.{◌≡◌, ◌≤◌, length};
 
 use canboot_journals::replay_text;
-use canboot_live::{Followed, LiveEnds, live_text};
+use canboot_live::{Followed, LiveEnds, LiveIo, LiveOutputs, LiveTrace, live_text};
 use canboot_live_files::NoFiles;
 use cm_bus::{LiveOptions, Outlet};
 use cm_can::{CanFrame, Format, Kind, read_log_line};
@@ -13,6 +13,7 @@ use cm_report::ReportForm;
 use crossbeam_channel::{Receiver, Sender};
 use std::alloc::{AllocError, Global};
 use std::io::{self, ErrorKind, Read, Write};
+use std::marker::PhantomData;
 use std::process::Abort;
 use std::sync::Wait;
 use std::test::Fail;
@@ -173,7 +174,8 @@ struct Typing<R: Wait + Drop> {
     rt: R,
     starts: Receiver<u8>,
     wanted: u32,
-    text: &'static [u8],
+    text: Vec<u8>,
+    at: usize,
 }
 
 impl<R: Wait + Drop> Typing<R> {
@@ -189,16 +191,38 @@ impl<R: Wait + Drop> Typing<R> {
 impl<R: Wait + Drop> Read for Typing<R> {
     fn read(&mut self, buf: &mut [u8]) -> io::Result<usize> {
         self.wait();
-        let count = copy_front(self.text, buf);
-        self.text = &self.text[count..];
+        if self.at >= self.text.len() {
+            return Ok(0);
+        }
+        let count = copy_front(&self.text.as_slice()[self.at..], buf);
+        self.at = self.at.saturating_add(count);
         Ok(count)
     }
 }
 
+/// A live run over a bus in memory.
+struct InMemory<R> {
+    of: PhantomData<R>,
+}
+
+impl<R: Wait + Send + Drop + 'static> LiveIo for InMemory<R> {
+    type Received = Answered<R>;
+
+    type Typed = Typing<R>;
+
+    type Sent = Devices<R>;
+
+    type Events = Vec<u8>;
+
+    type Files = NoFiles;
+
+    type Journal = Vec<u8>;
+}
+
 /// The ends of a bus, with a writer for each of four workers, and the one for NMT messages.
 #[derive(Drop)]
-struct Bus<R: Wait + Drop> {
-    ends: LiveEnds<Answered<R>, Typing<R>, Devices<R>, Vec<u8>, NoFiles>,
+struct Bus<R: Wait + Send + Drop + 'static> {
+    ends: LiveEnds<InMemory<R>>,
     messages: Outlet<Devices<R>>,
 }
 
@@ -235,11 +259,11 @@ fn writers<R: Wait + Clone + Drop>(
 }
 
 /// A bus that takes so many NMT messages, with an operator who types this text once so many slaves were started.
-fn bus_of<R: Wait + Clone + Drop>(
+fn bus_of<R: Wait + Clone + Send + Drop + 'static>(
     rt: &R,
     alloc: Global,
     wanted: u32,
-    text: &'static [u8],
+    text: &[u8],
     most: u32,
 ) -> Result<Bus<R>, Fail> {
     let (answers, heard) = crossbeam_channel::unbounded(alloc)?;
@@ -257,7 +281,8 @@ fn bus_of<R: Wait + Clone + Drop>(
         rt: rt.clone()?,
         starts: started,
         wanted,
-        text,
+        text: Vec::from_slice(alloc, text)?,
+        at: 0,
     };
     Ok(Bus {
         ends: LiveEnds {
@@ -315,26 +340,26 @@ fn lives<R: Wait + Threads + Clock + Clone + Abort + Send + Sync + Drop + 'stati
 ) -> Result<Printed, Fail> {
     let list = full_list(alloc)?;
     let mut input = list.as_slice();
-    let mut out: Vec<u8> = Vec::new(alloc);
-    let mut err: Vec<u8> = Vec::new(alloc);
-    let mut journal: JournalOutput<Vec<u8>> = JournalOutput::new(Some(Vec::new(alloc)));
     let options = four_workers();
     let Bus { ends, messages } = bus;
-    let mut messages = Some(messages);
-    let status = live_text(
-        rt,
-        alloc,
-        &mut input,
-        options,
-        ReportForm::Text,
-        ends,
-        &mut out,
-        &mut err,
-        &mut messages,
-        &mut journal,
-    );
-    assert!(rt; messages.is_some());
-    let Some(journal) = journal.into_writer() else {
+    let mut outputs = LiveOutputs::<InMemory<R>, Vec<u8>, Vec<u8>> {
+        form: ReportForm::Text,
+        out: Vec::new(alloc),
+        err: Vec::new(alloc),
+        trace: LiveTrace::<InMemory<R>> {
+            messages: Some(messages),
+            journal: JournalOutput::new(Some(Vec::new(alloc))),
+        },
+    };
+    let status = live_text(rt, alloc, &mut input, options, ends, &mut outputs);
+    let LiveOutputs {
+        out,
+        err,
+        trace,
+        ..
+    } = outputs;
+    assert!(rt; trace.messages.is_some());
+    let Some(journal) = trace.journal.into_writer() else {
         return Err(Fail::from("no journal"));
     };
     has_report(rt, alloc, journal.as_slice(), out.as_slice());

@@ -2,8 +2,8 @@
 use Rattle.std.proofs.Common.{◌≡◌, ℕ, List, [], ◌∷◌, ◌++◌, Option, Some, None, Result, Ok, Err, Bool, true, false, inl, inr, ◌⊎◌, refl, sym, subst, ◌∙◌, append_assoc}
 use Rattle.std.specs.Prelude.{IfNone, IfOk}
 use Rattle.cm_history.specs.declared.call.Entry.{Entry}
-use Rattle.cm_receiving.specs.declared.happening.Happening.{Happening}
-use Rattle.cm_receiving.specs.declared.happening.Happening.TheVariants as live
+use Rattle.cm_receiving.specs.declared.notification.Notification.{Notification}
+use Rattle.cm_receiving.specs.declared.notification.Notification.TheVariants as live
 use Rattle.cm_netlist.specs.Network.{Network}
 use Rattle.cm_register.specs.SeatViews.{SeatView}
 use Rattle.cm_telling.proofs.Tries.{same_tries}
@@ -181,9 +181,9 @@ typed_on typed p net s past now old new (inl none) = record { more = []; follows
 typed_on typed p net s past now old new (inr line) = record { more = _; follows = line.follows }
 
 -- what was taken goes on
-pub taken_on : (h : Happening) (seconds : Option ℕ) (typed : Option (List ℕ)) (p : Progress Entry) (net : Network) (s : Settings) (past : Past) (now : ℕ) (old new : SeatView)
+pub taken_on : (h : Notification) (seconds : Option ℕ) (typed : Option (List ℕ)) (p : Progress Entry) (net : Network) (s : Settings) (past : Past) (now : ℕ) (old new : SeatView)
     → HasTaken h seconds typed p net s past now old new → HasGoneOn p net s past
-taken_on (live.Told i byte) seconds typed p net s past now old new t = record { more = heard_at net past now i byte; follows = t.1 }
+taken_on (live.ErrorControl i byte) seconds typed p net s past now old new t = record { more = heard_at net past now i byte; follows = t.1 }
 taken_on (live.Ended i fault) seconds typed p net s past now old new t = record { more = (now, _) ∷ []; follows = t.1 }
 taken_on (live.Entered position e) seconds typed p net s past now old new t = record { more = called_at now t.1.entries; follows = t.1.follows }
 taken_on live.Typed seconds typed p net s past now old new t = typed_on typed p net s past now old new t
@@ -205,7 +205,7 @@ steps_on steps net old now new at same turned = record {
 }
 
 -- what has happened was taken
-pub happened_on : (h : Happening) (seconds : Option ℕ) (typed : Option (List ℕ)) (net : Network) (old : Progress Entry) (now : Network) (new : Progress Entry) (at : ℕ) (was is : SeatView) → now ≡ net
+pub happened_on : (h : Notification) (seconds : Option ℕ) (typed : Option (List ℕ)) (net : Network) (old : Progress Entry) (now : Network) (new : Progress Entry) (at : ℕ) (was is : SeatView) → now ≡ net
     → ((s : Settings) (past : Past) → Follows old net s past → HasTaken h seconds typed new net s past at was is) → GoesOn net old now new
 happened_on h seconds typed net old now new at was is same told = record {
   network = same;

@@ -4,8 +4,8 @@ use Rattle.cm_history.specs.OrderFrames.{frames_of}
 use Rattle.cm_history.specs.declared.call.Entry.{Entry}
 use Rattle.cm_operator.specs.Console.{asked_by}
 use Rattle.cm_receiving.specs.Places.{LineStandsIn}
-use Rattle.cm_receiving.specs.declared.happening.Happening.{Happening}
-use Rattle.cm_receiving.specs.declared.happening.Happening.TheVariants as live
+use Rattle.cm_receiving.specs.declared.notification.Notification.{Notification}
+use Rattle.cm_receiving.specs.declared.notification.Notification.TheVariants as live
 use Rattle.cm_netlist.specs.Network.{Network, listing}
 use Rattle.cm_register.specs.SeatViews.{SeatView}
 use Rattle.cm_watched.specs.Guarding.{heard_at}
@@ -100,8 +100,8 @@ ends_behind (Some seconds) now = (now, moment.Happened (happening.Ends (now + se
 -- what comes, at its time, of what has happened in a live run that goes on so many seconds once nothing is typed any more: the watch is
 -- told of an error control message, where it counts, the end of a worker's attempts, the entries that come next in the history, when the
 -- run is to end; a line that was typed is obeyed, if there is one; of what else comes it is told nothing, and no call is made
-abbrev pub HasTaken : Happening → Option ℕ → Option (List ℕ) → Progress Entry → Network → Settings → Past → ℕ → SeatView → SeatView → Type 0
-HasTaken (live.Told i byte) seconds typed p net s past now old new =
+abbrev pub HasTaken : Notification → Option ℕ → Option (List ℕ) → Progress Entry → Network → Settings → Past → ℕ → SeatView → SeatView → Type 0
+HasTaken (live.ErrorControl i byte) seconds typed p net s past now old new =
     (new ≡ old) × Follows p net s (heard_at net past now i byte ++ past)
 HasTaken (live.Ended i fault) seconds typed p net s past now old new =
     (new ≡ old) × Follows p net s ((now, moment.Happened (happening.Ended i)) ∷ past)

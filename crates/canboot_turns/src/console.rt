@@ -8,7 +8,7 @@ ghost use Rattle.cm_netlist.specs.Network.{Network as NetworkList};
 ghost use Rattle.cm_watched.specs.Pasts.{Past};
 ghost use Rattle.cm_watch.specs.Watches.{Watches};
 ghost use Rattle.cm_watched.specs.declared.settings.Settings.{Settings as WatchSettings};
-ghost use Rattle.cm_receiving.specs.declared.happening.Happening.TheVariants.{Typed};
+ghost use Rattle.cm_receiving.specs.declared.notification.Notification.TheVariants.{Typed};
 ghost use Rattle.cm_crew.specs.CallsMade.{HasMadeOrNot};
 ghost use Rattle.canboot_turns.specs.Steps.{HasObeyed, HasObeyedIf};
 ghost use Rattle.canboot_turns.specs.Going.{Follows, HasTaken};
@@ -16,7 +16,7 @@ ghost use Rattle.canboot_turns.specs.Asking.{asked_of, asked_unless, is_start_of
 ghost use Rattle.cm_operator.specs.declared.console.Command.TheVariants.{Start};
 
 use crate::ending::Ending;
-use crate::progress::Course;
+use crate::progress::LiveCourse;
 use crate::register::LiveRegister;
 use crate::versions::report_seen;
 use crate::watching::Watcher;
@@ -29,7 +29,7 @@ use cm_register::{RunName, Seat};
 use cm_telling::NoBoot;
 use cm_versions::VersionReader;
 use cm_watch::Watch;
-use cm_watched::Happening as Watched;
+use cm_watched::Happening;
 use cm_words::say;
 use std::alloc::Global;
 use std::io::{self, Write};
@@ -103,7 +103,7 @@ pub(crate) fn show_report<K: RunName, E: Write>(
     };
 }
 
-impl<'w, 'a, 'n, R: Wait + Clock> Course<'w, 'a, 'n, R> {
+impl<'w, 'a, 'n, R: Wait + Clock> LiveCourse<'w, 'a, 'n, R> {
     /// Asks the watch for a boot of the slave.
     fn boot_now<E: Write>(&mut self, err: &mut E, id: NodeId, now: u64)
         requires { now < 2 ^ 63 }
@@ -114,7 +114,7 @@ impl<'w, 'a, 'n, R: Wait + Clock> Course<'w, 'a, 'n, R> {
     {
         match no_boot(self.network, &self.progress.watch, id) {
             Some(none) => self.teller.tell_no_boot(err, self.setting.rt, id, none),
-            None => self.note(&Watched::Asked(id), now),
+            None => self.note(&Happening::Asked(id), now),
         }
     }
 
@@ -132,7 +132,7 @@ impl<'w, 'a, 'n, R: Wait + Clock> Course<'w, 'a, 'n, R> {
                 let _in_range = id.get();
                 self.boot_now(err, *id, now);
             }
-            Command::Quit => self.note(&Watched::Ends(now), now),
+            Command::Quit => self.note(&Happening::Ends(now), now),
             Command::Help => {
                 let _ = say(err, &TYPING);
             }

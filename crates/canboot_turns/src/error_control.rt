@@ -9,7 +9,7 @@ ghost use Rattle.canboot_turns.specs.Going.{Follows};
 ghost use Rattle.canboot_turns.specs.Sendings.{HasSentSteps, IsFrameFor, is_frame};
 
 use crate::ending::Ending;
-use crate::progress::Course;
+use crate::progress::LiveCourse;
 use canboot_saying::count_beats;
 use cm_bus::Outlet;
 use cm_can::{CanFrame, ErrorControl, error_control_frame, guard_request};
@@ -63,7 +63,7 @@ fn send_steps<W: Write + Drop>(network: &Network, steps: &[Step], outlet: &mut O
     }
 }
 
-impl<'w, 'a, 'n, R: Wait + Clock> Course<'w, 'a, 'n, R> {
+impl<'w, 'a, 'n, R: Wait + Clock> LiveCourse<'w, 'a, 'n, R> {
     /// Sends what the watch gives now for error control. Where it can't be written, the run ends.
     pub(crate) fn send_error_control<W: Write + Drop>(
         &mut self,

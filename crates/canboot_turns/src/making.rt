@@ -11,7 +11,7 @@ ghost use Rattle.canboot_turns.specs.Going.{Follows};
 ghost use Rattle.canboot_turns.specs.Steps.{HasMade};
 
 use crate::ending::{Ending, is_ended_by};
-use crate::progress::Course;
+use crate::progress::LiveCourse;
 use crate::register::LiveRegister;
 use crate::steps::{call_of, jobs_of};
 use crate::watching::Watcher;
@@ -24,7 +24,7 @@ use std::io::Write;
 use std::sync::Wait;
 use std::time::Clock;
 
-impl<'w, 'a, 'n, R: Wait + Clock> Course<'w, 'a, 'n, R> {
+impl<'w, 'a, 'n, R: Wait + Clock> LiveCourse<'w, 'a, 'n, R> {
     /// What is done for a step beside its call: a slave is handed to its worker, or something is told.
     fn do_beside<E: Write>(&mut self, err: &mut E, jobs: &[Sender<NodeId>], step: &Step)
         ensures progress { self.new.progress ≡ self.old.progress }

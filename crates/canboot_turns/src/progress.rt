@@ -21,7 +21,7 @@ use cm_bus::{Outlet, Setting};
 use cm_history::{CallFault, Entry};
 use cm_netlist::Network;
 use cm_nmt::NodeId;
-use cm_receiving::{Happening as Heard, Heartbeats};
+use cm_receiving::{Heartbeats, Notification};
 use cm_register::{RunName, Seat};
 use cm_sequential::frames;
 use cm_telling::{Tried, Waiting};
@@ -153,16 +153,16 @@ impl Progress<Entry> {
 
 /// How a live run goes on: how far it has come, and by what it is told.
 #[derive(Drop)]
-pub(crate) struct Course<'w, 'a, 'n, R> {
+pub(crate) struct LiveCourse<'w, 'a, 'n, R> {
     pub(crate) setting: &'w Setting<'a, 'n, R>,
     pub(crate) network: &'n Network,
     pub(crate) progress: Progress<Entry>,
     pub(crate) teller: Teller,
 }
 
-impl<'w, 'a, 'n, R: Wait + Clock> Course<'w, 'a, 'n, R> {
+impl<'w, 'a, 'n, R: Wait + Clock> LiveCourse<'w, 'a, 'n, R> {
     /// Nothing has happened.
-    pub(crate) fn new(setting: &'w Setting<'a, 'n, R>, events: Events) -> Course<'w, 'a, 'n, R>
+    pub(crate) fn new(setting: &'w Setting<'a, 'n, R>, events: Events) -> LiveCourse<'w, 'a, 'n, R>
         ensures network { result.network ≡ setting.now.network }
         ensures follows { (net : NetworkList) → Follows result.progress net
             (record { settle_ms = setting.now.options.settle_ms; heartbeat_ms = setting.now.options.heartbeat_ms }) [] }
@@ -171,7 +171,7 @@ impl<'w, 'a, 'n, R: Wait + Clock> Course<'w, 'a, 'n, R> {
             settle_ms: setting.options.settle_ms,
             heartbeat_ms: setting.options.heartbeat_ms,
         };
-        Course {
+        LiveCourse {
             setting,
             network: setting.network,
             progress: Progress::new(setting.alloc, settings),
@@ -233,44 +233,44 @@ impl<'w, 'a, 'n, R: Wait + Clock> Course<'w, 'a, 'n, R> {
     pub(crate) fn take<E: Write>(
         &mut self,
         err: &mut E,
-        happening: Heard,
+        notification: Notification,
         now: u64,
     ) -> Result<(), Ending>
         requires { now < 2 ^ 63 }
         ensures told { (s : WatchSettings) (past : Past) → Follows self.old.progress self.old.network.now s past → IfOk result
-            (λ _. (typed : Option (List ℕ)) (seat : SeatView) → HasTaken happening self.old.setting.now.options.seconds typed
+            (λ _. (typed : Option (List ℕ)) (seat : SeatView) → HasTaken notification self.old.setting.now.options.seconds typed
             self.new.progress self.old.network.now s past now seat seat) }
         ensures network { self.new.network ≡ self.old.network }
     {
         let rt = self.setting.rt;
-        match happening {
-            Heard::Entered(position, entry) => {
+        match notification {
+            Notification::Entered(position, entry) => {
                 count_sent(&mut self.teller.notices, self.network, &entry);
                 self.progress.enter(rt, self.network, position, entry, now)?;
             }
-            Heard::Ended(id, fault) => self.end(id, fault, now)?,
-            Heard::Told(id, byte) => self.progress.hear(self.network, id, byte, now),
-            Heard::Said(remark) => {
+            Notification::Ended(id, fault) => self.end(id, fault, now)?,
+            Notification::ErrorControl(id, byte) => self.progress.hear(self.network, id, byte, now),
+            Notification::Said(remark) => {
                 let _ = self.teller.tell_remark(err, rt, self.network, &remark, now);
             }
-            Heard::Typed => {}
-            Heard::NoMoreTyped => self.end_behind(now),
-            Heard::NoFrames => self
+            Notification::Typed => {}
+            Notification::NoMoreTyped => self.end_behind(now),
+            Notification::NoFrames => self
                 .teller
                 .tell_no_frames(err, rt, self.setting.options.format),
-            Heard::NoMoreHeard => return Err(Ending::NotHeard),
+            Notification::NoMoreHeard => return Err(Ending::NotHeard),
         }
         Ok(())
     }
 
     /// At the end of the run, takes the entries that were recorded by now and weren't taken yet.
-    pub(crate) fn take_rest(&mut self, happenings: &Receiver<Heard>) {
+    pub(crate) fn take_rest(&mut self, notifications: &Receiver<Notification>) {
         let rt = self.setting.rt;
         for _ in 0..MOST_TAKEN {
-            let Ok(happening) = happenings.try_recv(rt) else {
+            let Ok(notification) = notifications.try_recv(rt) else {
                 return;
             };
-            if let Heard::Entered(position, entry) = happening {
+            if let Notification::Entered(position, entry) = notification {
                 let now = self.setting.now();
                 let entered = self.progress.enter(rt, self.network, position, entry, now);
                 if entered.is_err() {

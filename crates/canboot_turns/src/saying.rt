@@ -6,7 +6,7 @@ ghost use Rattle.cm_watched.specs.declared.settings.Settings.{Settings as WatchS
 ghost use Rattle.canboot_turns.specs.Going.{Follows};
 ghost use Rattle.canboot_turns.specs.Running.{AreRunningOn};
 
-use crate::progress::Course;
+use crate::progress::LiveCourse;
 use crate::versions::manager_seen;
 use crate::watching::is_set;
 use cm_history::Entry;
@@ -48,7 +48,7 @@ fn running_if<K: RunName>(
     }
 }
 
-impl<'w, 'a, 'n, R: Wait + Clock> Course<'w, 'a, 'n, R> {
+impl<'w, 'a, 'n, R: Wait + Clock> LiveCourse<'w, 'a, 'n, R> {
     /// Tells an entry, and what became of the network and of slaves with it.
     fn tell_untold<E: Write>(
         &mut self,

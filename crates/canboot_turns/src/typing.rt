@@ -2,7 +2,7 @@
 
 ghost use Rattle.std.specs.Prelude.{◌≡◌, IfSome};
 
-use cm_receiving::Happening;
+use cm_receiving::Notification;
 
 /// What was told of typing and is put off: lines, and behind them that no more are typed.
 #[derive(Drop)]
@@ -25,16 +25,16 @@ impl Typing {
         self.lines == 0 && !self.is_over
     }
 
-    /// Puts a happening off, if it is one of typing; another comes back.
-    pub(crate) fn put_off(&mut self, happening: Happening) -> Option<Happening>
-        ensures { IfSome result (λ h. h ≡ happening) }
+    /// Puts a notification off, if it is one of typing; another comes back.
+    pub(crate) fn put_off(&mut self, notification: Notification) -> Option<Notification>
+        ensures { IfSome result (λ h. h ≡ notification) }
     {
-        match happening {
-            Happening::Typed => {
+        match notification {
+            Notification::Typed => {
                 self.lines = self.lines.saturating_add(1);
                 None
             }
-            Happening::NoMoreTyped => {
+            Notification::NoMoreTyped => {
                 self.is_over = true;
                 None
             }
@@ -43,14 +43,14 @@ impl Typing {
     }
 
     /// What comes next of what is put off.
-    pub(crate) fn next(&mut self) -> Option<Happening> {
+    pub(crate) fn next(&mut self) -> Option<Notification> {
         if self.lines > 0 {
             self.lines -= 1;
-            return Some(Happening::Typed);
+            return Some(Notification::Typed);
         }
         if self.is_over {
             self.is_over = false;
-            return Some(Happening::NoMoreTyped);
+            return Some(Notification::NoMoreTyped);
         }
         None
     }

@@ -10,7 +10,7 @@ ghost use Rattle.cm_crew.specs.Typing.{IsUntyped};
 
 use crate::console::show_report;
 use crate::ending::Ending;
-use crate::progress::Course;
+use crate::progress::LiveCourse;
 use crate::publishing::Batches;
 use crate::register::LiveRegister;
 use crate::saying::running;
@@ -21,7 +21,7 @@ use cm_crew::OperatorSeat;
 use cm_history::Call;
 use cm_nmt::NodeId;
 use cm_operator::TypedLine;
-use cm_receiving::{BusName, Happening};
+use cm_receiving::{BusName, Notification};
 use cm_register::RunName;
 use cm_versions::{Publisher, VersionReader};
 use cm_watch::Pace;
@@ -34,7 +34,7 @@ use std::time::{Clock, Duration};
 /// How long nothing may happen before the time is looked at, in ms.
 const TURN_MS: u64 = 5;
 
-/// How many happenings are taken at most before the time is looked at.
+/// How many notifications are taken at most before the time is looked at.
 pub(crate) const MOST_TAKEN: u32 = 65_536;
 
 /// How many typed lines are obeyed at most before the time is looked at.
@@ -54,7 +54,7 @@ pub struct Watcher<
     B: BusName,
     M: LiveRegister<K, R>,
 > {
-    pub(crate) course: Course<'w, 'a, 'n, R>,
+    pub(crate) course: LiveCourse<'w, 'a, 'n, R>,
     pub(crate) register: &'w M,
     pub(crate) operator: OperatorSeat<K, B>,
     /// The lines that the operator types.
@@ -101,7 +101,7 @@ impl<'w, 'a, 'n, R: Wait + Clock + Drop, K: RunName, B: BusName, M: LiveRegister
             (record { settle_ms = setting.now.options.settle_ms; heartbeat_ms = setting.now.options.heartbeat_ms }) [] }
     {
         Watcher {
-            course: Course::new(setting, events),
+            course: LiveCourse::new(setting, events),
             register,
             operator,
             typed,
@@ -139,29 +139,34 @@ impl<'w, 'a, 'n, R: Wait + Clock + Drop, K: RunName, B: BusName, M: LiveRegister
     }
 
     /// Takes one thing that has happened.
-    fn take<E: Write>(&mut self, err: &mut E, happening: Happening, now: u64) -> Result<(), Ending>
+    fn take<E: Write>(
+        &mut self,
+        err: &mut E,
+        notification: Notification,
+        now: u64,
+    ) -> Result<(), Ending>
         requires { now < 2 ^ 63 }
         ensures told { (s : WatchSettings) (past : Past) → Follows self.old.course.progress self.old.course.network.now s past
-            → IfOk result (λ _. HasTaken happening self.old.course.setting.now.options.seconds B.typed
+            → IfOk result (λ _. HasTaken notification self.old.course.setting.now.options.seconds B.typed
             self.new.course.progress self.old.course.network.now s past now self.old.operator self.new.operator) }
         ensures network { IfOk result (λ _. self.new.course.network ≡ self.old.course.network) }
     {
-        match happening {
-            Happening::Typed => self.obey_next(err, now),
-            _ => self.course.take(err, happening, now),
+        match notification {
+            Notification::Typed => self.obey_next(err, now),
+            _ => self.course.take(err, notification, now),
         }
     }
 
     /// Takes one thing that has happened; one of typing is put off.
-    fn hear<E: Write>(&mut self, err: &mut E, happening: Happening) -> Result<(), Ending>
+    fn hear<E: Write>(&mut self, err: &mut E, notification: Notification) -> Result<(), Ending>
         ensures goes_on { IfOk result (λ _. GoesOn self.old.course.network.now self.old.course.progress
             self.new.course.network.now self.new.course.progress) }
     {
         let now = self.course.setting.now();
-        let Some(happening) = self.typing.put_off(happening) else {
+        let Some(notification) = self.typing.put_off(notification) else {
             return Ok(());
         };
-        self.take(err, happening, now)?;
+        self.take(err, notification, now)?;
         Ok(())
     }
 
@@ -170,7 +175,7 @@ impl<'w, 'a, 'n, R: Wait + Clock + Drop, K: RunName, B: BusName, M: LiveRegister
     fn hear_all<E: Write>(
         &mut self,
         err: &mut E,
-        happenings: &Receiver<Happening>,
+        notifications: &Receiver<Notification>,
     ) -> Result<(), Ending>
         ensures goes_on { IfOk result (λ _. GoesOn self.old.course.network.now self.old.course.progress
             self.new.course.network.now self.new.course.progress) }
@@ -182,10 +187,10 @@ impl<'w, 'a, 'n, R: Wait + Clock + Drop, K: RunName, B: BusName, M: LiveRegister
             Duration::ZERO
         };
         for _ in 0..MOST_TAKEN {
-            let Ok(happening) = happenings.recv_timeout(setting.rt, wait) else {
+            let Ok(notification) = notifications.recv_timeout(setting.rt, wait) else {
                 return Ok(());
             };
-            self.hear(err, happening)?;
+            self.hear(err, notification)?;
             wait = Duration::ZERO;
         }
         Ok(())
@@ -202,10 +207,10 @@ impl<'w, 'a, 'n, R: Wait + Clock + Drop, K: RunName, B: BusName, M: LiveRegister
             if MOST_OBEYED_MS <= now.saturating_sub(began) {
                 return Ok(());
             }
-            let Some(happening) = self.typing.next() else {
+            let Some(notification) = self.typing.next() else {
                 return Ok(());
             };
-            self.take(err, happening, now)?;
+            self.take(err, notification, now)?;
         }
         Ok(())
     }
@@ -214,12 +219,12 @@ impl<'w, 'a, 'n, R: Wait + Clock + Drop, K: RunName, B: BusName, M: LiveRegister
     fn take_all<E: Write>(
         &mut self,
         err: &mut E,
-        happenings: &Receiver<Happening>,
+        notifications: &Receiver<Notification>,
     ) -> Result<(), Ending>
         ensures goes_on { IfOk result (λ _. GoesOn self.old.course.network.now self.old.course.progress
             self.new.course.network.now self.new.course.progress) }
     {
-        self.hear_all(err, happenings)?;
+        self.hear_all(err, notifications)?;
         self.obey_some(err)?;
         Ok(())
     }
@@ -245,14 +250,14 @@ impl<'w, 'a, 'n, R: Wait + Clock + Drop, K: RunName, B: BusName, M: LiveRegister
     fn turn<E: Write, W: Write + Drop>(
         &mut self,
         err: &mut E,
-        happenings: &Receiver<Happening>,
+        notifications: &Receiver<Notification>,
         outlet: &mut Outlet<W>,
         publisher: &mut Publisher<K, R>,
     ) -> Result<(), Ending>
         ensures goes_on { IfOk result (λ _. GoesOn self.old.course.network.now self.old.course.progress
             self.new.course.network.now self.new.course.progress) }
     {
-        self.take_all(err, happenings)?;
+        self.take_all(err, notifications)?;
         self.show(err, publisher);
         let setting = self.course.setting;
         let now = setting.now();
@@ -272,12 +277,12 @@ impl<'w, 'a, 'n, R: Wait + Clock + Drop, K: RunName, B: BusName, M: LiveRegister
     pub fn tell_rest<E: Write>(
         &mut self,
         err: &mut E,
-        happenings: &Receiver<Happening>,
+        notifications: &Receiver<Notification>,
         publisher: &mut Publisher<K, R>,
     )
         ensures calls { self.new.operator ≡ self.old.operator }
     {
-        self.course.take_rest(happenings);
+        self.course.take_rest(notifications);
         self.show(err, publisher);
         let seat = self.operator.as_seat();
         self.course.tell(err, &mut self.versions, seat, true);
@@ -291,12 +296,12 @@ impl<'w, 'a, 'n, R: Wait + Clock + Drop, K: RunName, B: BusName, M: LiveRegister
     pub fn watch<E: Write, W: Write + Drop>(
         &mut self,
         err: &mut E,
-        happenings: &Receiver<Happening>,
+        notifications: &Receiver<Notification>,
         outlet: &mut Outlet<W>,
         publisher: &mut Publisher<K, R>,
     ) -> Ending {
         for _ in self.course.setting.rt.forever() {
-            if let Err(ending) = self.turn(err, happenings, outlet, publisher) {
+            if let Err(ending) = self.turn(err, notifications, outlet, publisher) {
                 return ending;
             }
         }

@@ -14,14 +14,14 @@ use Rattle.cm_history.specs.Orders.{is_start_of}
 use Rattle.cm_history.specs.declared.call.Call.{Call}
 use Rattle.cm_history.specs.declared.call.Call.TheVariants as call
 use Rattle.cm_history.specs.declared.call.Entry.{Entry}
-use Rattle.cm_bus.specs.declared.event.Event.{Event}
+use Rattle.cm_bus.specs.declared.event.PortEvent.{PortEvent}
 use Rattle.cm_can.specs.declared.format.Format.{Format}
 use Rattle.cm_receiving.specs.Places.{NoBootUp, StandsIn}
 
 -- what a contract sees of a worker's bus: its log, the place behind which the next frame is heard, the one behind which the answers of
 -- the last boot are, and whether that boot goes on: its first question was asked, and its end didn't come yet
 pub record BusView : Type 0 where
-  pub log : List Event
+  pub log : List PortEvent
   pub heard : ℕ
   pub begun : ℕ
   pub goes_on : Bool

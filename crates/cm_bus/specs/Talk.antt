@@ -7,16 +7,16 @@ use Rattle.cm_boot.specs.declared.question.Answer.TheVariants as answer
 use Rattle.cm_can.specs.declared.frame.CanFrame.{CanFrame}
 use Rattle.cm_can.specs.Questions.{IsAnswer, IsAwaited, IsRequest}
 use Rattle.cm_can.specs.Sdo.{IsFromClient, IsFromServer}
-use Rattle.cm_bus.specs.declared.event.Event.{Event}
-use Rattle.cm_bus.specs.declared.event.Event.TheVariants.{Sent, Heard, Expired}
+use Rattle.cm_bus.specs.declared.event.PortEvent.{PortEvent}
+use Rattle.cm_bus.specs.declared.event.PortEvent.TheVariants.{Sent, Heard, Expired}
 use Rattle.cm_bus.specs.declared.bus.Reply.{Reply}
 
 -- these frames were heard, one after another
-abbrev pub heard : List CanFrame → List Event
+abbrev pub heard : List CanFrame → List PortEvent
 heard fs = map (λ (f : CanFrame). Heard f) fs
 
 -- the question is asked: its request is sent; for a heartbeat, which comes by itself, nothing is
-abbrev pub IsAsking : ℕ → Question → List Event → Type 0
+abbrev pub IsAsking : ℕ → Question → List PortEvent → Type 0
 IsAsking node q events = (IsAwaited q × (events ≡ [])) ⊎ ((f : CanFrame) × IsRequest node q f × (events ≡ Sent f ∷ []))
 
 -- none of these frames answers the question
@@ -30,7 +30,7 @@ IsEnding node q x (Some f) = IsAnswer node q f x
 IsEnding node q x None = x ≡ answer.Silent
 
 -- how that stands in the log
-abbrev pub ending_of : Option CanFrame → List Event
+abbrev pub ending_of : Option CanFrame → List PortEvent
 ending_of (Some f) = Heard f ∷ []
 ending_of None = Expired ∷ []
 
@@ -53,17 +53,17 @@ abbrev pub IsAbort : ℕ → Question → Option CanFrame → CanFrame → Type 
 IsAbort node q last f = (code : ℕ) × IsAbortCode node q last code × IsAbortOf node q code f
 
 -- behind how the waiting ended the abort is sent where the transfer is aborted, and nothing where it isn't
-abbrev pub IsClosing : ℕ → Question → Option CanFrame → List Event → Type 0
+abbrev pub IsClosing : ℕ → Question → Option CanFrame → List PortEvent → Type 0
 IsClosing node q last events =
     (((code : ℕ) → IsAbortCode node q last code → ⊥) × (events ≡ [])) ⊎ ((f : CanFrame) × IsAbort node q last f × (events ≡ Sent f ∷ []))
 
 -- what goes over the bus for one question to the node, which gets this answer: the request, then up to 64 frames that don't
 -- answer it, then the one that does, or the end of the time, and the abort of the transfer, where it is aborted
-pub record IsTalk (node : ℕ) (q : Question) (x : Answer) (talk : List Event) : Type 0 where
-  pub asking : List Event
+pub record IsTalk (node : ℕ) (q : Question) (x : Answer) (talk : List PortEvent) : Type 0 where
+  pub asking : List PortEvent
   pub others : List CanFrame
   pub last : Option CanFrame
-  pub closing : List Event
+  pub closing : List PortEvent
   pub asks : IsAsking node q asking
   pub passed : NoneAnswers node q others
   pub few : length others ≤ 64
@@ -72,20 +72,20 @@ pub record IsTalk (node : ℕ) (q : Question) (x : Answer) (talk : List Event) :
   pub whole : talk ≡ asking ++ (heard others ++ (ending_of last ++ closing))
 
 -- the log grew by such events
-pub record HasPut (P : List Event → Type 0) (old new : List Event) : Type 0 where
-  pub events : List Event
+pub record HasPut (P : List PortEvent → Type 0) (old new : List PortEvent) : Type 0 where
+  pub events : List PortEvent
   pub is : P events
   pub grown : new ≡ old ++ events
 
 -- the log grew by the talk of the question
-pub record HasAsked (node : ℕ) (q : Question) (x : Answer) (old new : List Event) : Type 0 where
-  pub talk : List Event
+pub record HasAsked (node : ℕ) (q : Question) (x : Answer) (old new : List PortEvent) : Type 0 where
+  pub talk : List PortEvent
   pub is : IsTalk node q x talk
   pub grown : new ≡ old ++ talk
 
 -- the question was asked: the log grew by its talk, or, where it had no room for that, is this talk alone
-pub record IsAsked (node : ℕ) (q : Question) (x : Answer) (old new : List Event) : Type 0 where
-  pub talk : List Event
+pub record IsAsked (node : ℕ) (q : Question) (x : Answer) (old new : List PortEvent) : Type 0 where
+  pub talk : List PortEvent
   pub is : IsTalk node q x talk
   pub grown : length old + 67 ≤ 27470 → new ≡ old ++ talk
   pub anew : 27470 < length old + 67 → new ≡ talk
@@ -101,7 +101,7 @@ frame_in None = None
 frame_in (Some r) = Some r.frame
 
 -- the log grew by what was heard while an answer was waited for (a step of the code)
-pub record HasWaited (node : ℕ) (q : Question) (r : Option Reply) (old new : List Event) : Type 0 where
+pub record HasWaited (node : ℕ) (q : Question) (r : Option Reply) (old new : List PortEvent) : Type 0 where
   pub others : List CanFrame
   pub passed : NoneAnswers node q others
   pub few : length others ≤ 64

@@ -5,7 +5,7 @@ ghost use Rattle.cm_bus.specs.Talk.{HasAsked, HasPut, HasWaited, IsAbort, IsAbor
 ghost use Rattle.cm_bus.specs.Receiving.{EndsBoot, IsGiven};
 ghost use Rattle.cm_bus.specs.Waits.{beat_ms, behind, wait_ms};
 
-use crate::event::Event;
+use crate::event::PortEvent;
 use crate::port::Port;
 use crate::talk::Talk;
 use cm_boot::{Answer, Bus, Question};
@@ -47,7 +47,7 @@ pub struct LiveBus<'n, B: BusName, P: Port<B>> {
     begun: u64,
     /// A question of the boot was asked, and its end wasn't told yet.
     goes_on: bool,
-    log: Vec<Event>,
+    log: Vec<PortEvent>,
     of: PhantomData<B>,
 }
 
@@ -95,13 +95,13 @@ struct Reply {
 }
 
 /// The time is over.
-fn expire(log: &mut Vec<Event>) -> Option<Reply>
+fn expire(log: &mut Vec<PortEvent>) -> Option<Reply>
     requires room { vec_len log.old < vec_capacity log.old }
     ensures none { result ≡ None }
-    ensures log { log.new.items ≡ log.old.items ++ Event.Expired ∷ [] }
+    ensures log { log.new.items ≡ log.old.items ++ PortEvent.Expired ∷ [] }
     ensures capacity { vec_capacity log.new ≡ vec_capacity log.old }
 {
-    log.push_reserved(Event::Expired);
+    log.push_reserved(PortEvent::Expired);
     None
 }
 
@@ -113,7 +113,7 @@ fn wait_for<B: BusName, P: Port<B>>(
     port: &mut P,
     last: &mut u64,
     begun: u64,
-    log: &mut Vec<Event>,
+    log: &mut Vec<PortEvent>,
     id: NodeId,
     question: &Question,
 ) -> Option<Reply>
@@ -132,7 +132,7 @@ fn wait_for<B: BusName, P: Port<B>>(
         }
         *last = place;
         let frame = received.frame();
-        log.push_reserved(Event::Heard(frame));
+        log.push_reserved(PortEvent::Heard(frame));
         if let Some(answer) = answered_by(id, question, &frame) {
             return Some(Reply { frame, answer });
         }
@@ -141,19 +141,19 @@ fn wait_for<B: BusName, P: Port<B>>(
 }
 
 /// Sends a frame, and puts that into the log.
-fn send<B: BusName, P: Port<B>>(port: &mut P, log: &mut Vec<Event>, frame: CanFrame)
+fn send<B: BusName, P: Port<B>>(port: &mut P, log: &mut Vec<PortEvent>, frame: CanFrame)
     requires room { vec_len log.old < vec_capacity log.old }
-    ensures log { log.new.items ≡ log.old.items ++ Event.Sent frame ∷ [] }
+    ensures log { log.new.items ≡ log.old.items ++ PortEvent.Sent frame ∷ [] }
     ensures capacity { vec_capacity log.new ≡ vec_capacity log.old }
 {
     port.send(&frame);
-    log.push_reserved(Event::Sent(frame));
+    log.push_reserved(PortEvent::Sent(frame));
 }
 
 /// Sends the request of a question, if it has one.
 fn send_request<B: BusName, P: Port<B>>(
     port: &mut P,
-    log: &mut Vec<Event>,
+    log: &mut Vec<PortEvent>,
     id: NodeId,
     question: &Question,
 )
@@ -180,7 +180,7 @@ fn frame_in(reply: &Option<Reply>) -> Option<CanFrame>
 /// Aborts the transfer of a question, where it is to be aborted behind this reply.
 fn close_transfer<B: BusName, P: Port<B>>(
     port: &mut P,
-    log: &mut Vec<Event>,
+    log: &mut Vec<PortEvent>,
     id: NodeId,
     question: &Question,
     reply: &Option<Reply>,
@@ -228,7 +228,7 @@ fn ask_by<B: BusName, P: Port<B>>(
     port: &mut P,
     last: &mut u64,
     begun: u64,
-    log: &mut Vec<Event>,
+    log: &mut Vec<PortEvent>,
     id: NodeId,
     question: &Question,
 ) -> Answer
@@ -244,7 +244,7 @@ fn ask_by<B: BusName, P: Port<B>>(
 }
 
 /// Makes room for what goes over the bus for one question: a log that has none is emptied.
-fn make_room(log: &mut Vec<Event>)
+fn make_room(log: &mut Vec<PortEvent>)
     requires { 27470 ≤ vec_capacity log.old }
     ensures room { vec_len log.new + 67 ≤ vec_capacity log.new }
     ensures kept { vec_len log.old + 67 ≤ 27470 → log.new.items ≡ log.old.items }
@@ -312,7 +312,7 @@ impl<'n, B: BusName, P: Port<B>> LiveBus<'n, B, P> {
     }
 
     /// What went over the port, the first event first.
-    pub fn log(&self) -> &[Event]
+    pub fn log(&self) -> &[PortEvent]
         ensures { result.now ≡ self.now.log }
     {
         self.log.as_slice()

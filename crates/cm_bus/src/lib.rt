@@ -28,7 +28,7 @@ mod wire;
 
 pub use bus::LiveBus;
 pub use bus_paths::BusPaths;
-pub use event::Event;
+pub use event::PortEvent;
 pub use identifying::{Identity, identify};
 pub use live_port::LivePort;
 pub use making::{NoThread, make_bus, make_routes, start_receiving};

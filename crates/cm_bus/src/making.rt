@@ -58,7 +58,7 @@ pub fn make_routes<'a, 'n, R, B: BusName>(
         listening: Arc::try_clone(&setting.listening)?,
         heartbeats: Arc::try_clone(&setting.heartbeats)?,
         workers,
-        happenings: setting.happenings.clone()?,
+        notifications: setting.notifications.clone()?,
     })
 }
 

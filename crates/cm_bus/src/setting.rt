@@ -4,7 +4,7 @@ ghost use Rattle.std.specs.Prelude.{◌≡◌, ◌<◌, ◌^◌, IfOk};
 
 use crate::options::LiveOptions;
 use cm_netlist::Network;
-use cm_receiving::{Happening, Heartbeats, Listening};
+use cm_receiving::{Heartbeats, Listening, Notification};
 use crossbeam_channel::{Receiver, Sender};
 use std::alloc::{AllocError, Global};
 use std::sync::Arc;
@@ -33,7 +33,7 @@ pub struct Setting<'a, 'n, R> {
     pub untold: Arc<AtomicBool>,
     /// How many NMT frames were written.
     pub handed: Arc<AtomicU64>,
-    pub happenings: Sender<Happening>,
+    pub notifications: Sender<Notification>,
 }
 
 /// What all threads of a live run share, and where the one that watches hears what happens.
@@ -42,14 +42,14 @@ pub fn set_up<'a, 'n, R: Clock>(
     alloc: Global,
     network: &'n Network,
     options: LiveOptions,
-) -> Result<(Setting<'a, 'n, R>, Receiver<Happening>), AllocError>
+) -> Result<(Setting<'a, 'n, R>, Receiver<Notification>), AllocError>
     ensures network { IfOk result (λ s. s.0.network.now ≡ network.now) }
     ensures options { IfOk result (λ s. s.0.options ≡ options) }
 {
     let Ok(start) = Instant::now(rt) else {
         return Err(AllocError);
     };
-    let (tells, happenings) = crossbeam_channel::unbounded(alloc)?;
+    let (tells, notifications) = crossbeam_channel::unbounded(alloc)?;
     let setting = Setting {
         rt,
         alloc,
@@ -64,9 +64,9 @@ pub fn set_up<'a, 'n, R: Clock>(
         unshown: Arc::new(alloc, AtomicBool::new(false))?,
         untold: Arc::new(alloc, AtomicBool::new(false))?,
         handed: Arc::new(alloc, AtomicU64::new(0))?,
-        happenings: tells,
+        notifications: tells,
     };
-    Ok((setting, happenings))
+    Ok((setting, notifications))
 }
 
 /// The time since the run began, in ms.

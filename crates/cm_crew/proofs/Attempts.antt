@@ -22,7 +22,7 @@ use Rattle.cm_bus.specs.Receiving.{BusView, EndsBoot, IsPut}
 use Rattle.cm_can.specs.declared.format.Format.{Format}
 use Rattle.cm_bus.specs.Talk.{IsAsked}
 use Rattle.cm_crew.specs.Hearing.{AreHeard, HasHeardCalls, IsHeardCall}
-use Rattle.cm_bus.specs.declared.event.Event.{Event}
+use Rattle.cm_bus.specs.declared.event.PortEvent.{PortEvent}
 use Rattle.cm_crew.proofs.Talking.{has_talked, heard_before}
 
 -- steps and ends of one kind of bus, seen as those of another
@@ -66,52 +66,52 @@ module _ {B C : Type 0} (f : B → C) (s : B → ℕ → Question → Answer →
   }
 
 module _ (net : Network) (i : ℕ) where
-  abbrev Step : List Event → ℕ → Question → Answer → List Event → Type 0
+  abbrev Step : List PortEvent → ℕ → Question → Answer → List PortEvent → Type 0
   Step b n q x c = IsAsked n q x b c
 
-  abbrev Stays : List Event → ℕ → Bool → List Event → Type 0
+  abbrev Stays : List PortEvent → ℕ → Bool → List PortEvent → Type 0
   Stays b n x c = b ≡ c
 
-  abbrev Heard : List Event → Made → Type 0
+  abbrev Heard : List PortEvent → Made → Type 0
   Heard log m = IsHeardCall net i m.call log
 
-  abbrev AllHeard : List Made → List Event → Type 0
+  abbrev AllHeard : List Made → List PortEvent → Type 0
   AllHeard list log = All (Heard log) list
 
-  call_before : (c : Call) (log more : List Event) → IsHeardCall net i c log → IsHeardCall net i c (log ++ more)
+  call_before : (c : Call) (log more : List PortEvent) → IsHeardCall net i c log → IsHeardCall net i c (log ++ more)
   call_before (call.Report j n a) log more h = heard_before i (asked (entry net i) a) log more h
   call_before _ log more h = tt
 
-  all_before : (list : List Made) (log more : List Event) → AllHeard list log → AllHeard list (log ++ more)
+  all_before : (list : List Made) (log more : List PortEvent) → AllHeard list log → AllHeard list (log ++ more)
   all_before list log more h = λ k d small. call_before (slice_index_or list k d).call log more (h k d small)
 
   -- the log grew by at most so many events, and the answers of these calls stand in it
-  record HasGrown (most : ℕ) (list : List Made) (old new : List Event) : Type 0 where
-    more : List Event
+  record HasGrown (most : ℕ) (list : List Made) (old new : List PortEvent) : Type 0 where
+    more : List PortEvent
     grown : new ≡ old ++ more
     short : length more ≤ most
     heard : AllHeard list new
 
-  boot_heard : (old : List Event) (a : Answers) (new : List Event) → Boots Step net i old a new → length old + 2747 ≤ 27470
-      → (more : List Event) × (new ≡ old ++ more) × (length more ≤ 2747) × AreHeard i (asked (entry net i) a) new
+  boot_heard : (old : List PortEvent) (a : Answers) (new : List PortEvent) → Boots Step net i old a new → length old + 2747 ≤ 27470
+      → (more : List PortEvent) × (new ≡ old ++ more) × (length more ≤ 2747) × AreHeard i (asked (entry net i) a) new
   boot_heard old a new b room =
       let t = has_talked i (asked (entry net i) a) old new b.talk (omega (arith, room, b.few)) in
       (t.more, t.grown, omega (arith, t.short, b.few), t.heard)
 
-  attempt_heard : (old : List Event) (t : Attempt) (new : List Event) → Gives Step Stays net i old t new → length old + 2747 ≤ 27470 → HasGrown 2747 (calls_in i t) old new
+  attempt_heard : (old : List PortEvent) (t : Attempt) (new : List PortEvent) → Gives Step Stays net i old t new → length old + 2747 ≤ 27470 → HasGrown 2747 (calls_in i t) old new
   attempt_heard old (attempt.NotBegun f) new g room = record { more = []; grown = sym g ∙ sym (append-nil old); short = omega arith; heard = All-nil (Heard new) }
   attempt_heard old (attempt.Refused b r) new g room = record { more = []; grown = sym g.1 ∙ sym (append-nil old); short = omega arith; heard = All-cons (Heard new) (made b.position (call.Begin i) b.reply) [] (tt {0}) (All-nil (Heard new)) }
   attempt_heard old (attempt.Left b n a) new g room =
-      let h = boot_heard old a new (subst (λ (l : List Event). Boots Step net i old a l) g.3 g.2) room in
+      let h = boot_heard old a new (subst (λ (l : List PortEvent). Boots Step net i old a l) g.3 g.2) room in
       record { more = h.0; grown = h.1; short = h.2; heard = All-cons (Heard new) (made b.position (call.Begin i) b.reply) [] (tt {0}) (All-nil (Heard new)) }
   attempt_heard old (attempt.NotReported b n a f) new g room =
-      let h = boot_heard old a new (subst (λ (l : List Event). Boots Step net i old a l) g.3 g.2) room in
+      let h = boot_heard old a new (subst (λ (l : List PortEvent). Boots Step net i old a l) g.3 g.2) room in
       record { more = h.0; grown = h.1; short = h.2; heard = All-cons (Heard new) (made b.position (call.Begin i) b.reply) [] (tt {0}) (All-nil (Heard new)) }
   attempt_heard old (attempt.Ended b n a r l) new g room =
-      let h = boot_heard old a new (subst (λ (l : List Event). Boots Step net i old a l) g.3 g.2) room in
+      let h = boot_heard old a new (subst (λ (l : List PortEvent). Boots Step net i old a l) g.3 g.2) room in
       record { more = h.0; grown = h.1; short = h.2; heard = All-cons (Heard new) (made b.position (call.Begin i) b.reply) (made r.position (call.Report i n a) r.reply ∷ []) (tt {0}) (All-cons (Heard new) (made r.position (call.Report i n a) r.reply) [] h.3 (All-nil (Heard new))) }
 
-  attempts_heard : (old : List Event) (ts : List Attempt) (list : List Made) (new : List Event) → Fail Step Stays net i old ts list new → length old + 2747 * length ts ≤ 27470
+  attempts_heard : (old : List PortEvent) (ts : List Attempt) (list : List Made) (new : List PortEvent) → Fail Step Stays net i old ts list new → length old + 2747 * length ts ≤ 27470
       → HasGrown (2747 * length ts) list old new
   attempts_heard old [] list new f room = record {
     more = [];
@@ -124,20 +124,20 @@ module _ (net : Network) (i : ℕ) where
       let r = attempts_heard f.1 ts f.0 new f.4 (omega (arith, room, h.short, ap length h.grown, length-append old h.more)) in
       record {
         more = h.more ++ r.more;
-        grown = r.grown ∙ (ap (λ (l : List Event). l ++ r.more) h.grown ∙ append_assoc old h.more r.more);
+        grown = r.grown ∙ (ap (λ (l : List PortEvent). l ++ r.more) h.grown ∙ append_assoc old h.more r.more);
         short = omega (arith, h.short, r.short, length-append h.more r.more);
-        heard = subst (λ (l : List Made). AllHeard l new) (sym f.5) (All-append (Heard new) (calls_in i t) f.0 (subst (λ (log : List Event). AllHeard (calls_in i t) log) (sym r.grown) (all_before (calls_in i t) f.1 r.more h.heard)) r.heard);
+        heard = subst (λ (l : List Made). AllHeard l new) (sym f.5) (All-append (Heard new) (calls_in i t) f.0 (subst (λ (log : List PortEvent). AllHeard (calls_in i t) log) (sym r.grown) (all_before (calls_in i t) f.1 r.more h.heard)) r.heard);
       }
 
   -- of a round of 10 attempts at most, which began with an empty log
-  pub round_heard : (m : ℕ) (o : Outcome) (old new : List Made) (log : List Event) → m ≤ 10 → HasRound Step Stays net i m o old new [] log → HasHeardCalls net i old new log
+  pub round_heard : (m : ℕ) (o : Outcome) (old new : List Made) (log : List PortEvent) → m ≤ 10 → HasRound Step Stays net i m o old new [] log → HasHeardCalls net i old new log
   round_heard m o old new log few r =
       let f = attempts_heard [] r.round.failed r.round.before r.round.between r.round.fails (omega (arith, few, r.round.attempts, r.round.most)) in
       let g = attempt_heard r.round.between r.round.final log r.round.gives (omega (arith, few, r.round.attempts, r.round.most, f.short, ap length f.grown)) in
       record {
         added = r.added;
         grown = r.grown;
-        heard = subst (λ (l : List Made). AllHeard l log) (sym r.round.calls) (All-append (Heard log) r.round.before (calls_in i r.round.final) (subst (λ (l : List Event). AllHeard r.round.before l) (sym g.grown) (all_before r.round.before r.round.between g.more f.heard)) g.heard);
+        heard = subst (λ (l : List Made). AllHeard l log) (sym r.round.calls) (All-append (Heard log) r.round.before (calls_in i r.round.final) (subst (λ (l : List PortEvent). AllHeard r.round.before l) (sym g.grown) (all_before r.round.before r.round.between g.more f.heard)) g.heard);
       }
 
   module _ (format : Format) (text : Option (List ℕ)) where
@@ -160,7 +160,7 @@ module _ (net : Network) (i : ℕ) where
         → HasRound Asks Ends net i m o old new b c → b.log ≡ [] → b.heard ≡ at → b.begun ≡ begun → b.goes_on ≡ false
         → HasRound Asks Ends net i m o old new (record { log = []; heard = at; begun = begun; goes_on = false }) c
     from_forgotten m o old new b at begun c r log heard began off =
-        let P : List Event → Type 0 = λ (l : List Event). HasRound Asks Ends net i m o old new (record { log = l; heard = b.heard; begun = b.begun; goes_on = b.goes_on }) c in
+        let P : List PortEvent → Type 0 = λ (l : List PortEvent). HasRound Asks Ends net i m o old new (record { log = l; heard = b.heard; begun = b.begun; goes_on = b.goes_on }) c in
         let Q : ℕ → Type 0 = λ (n : ℕ). HasRound Asks Ends net i m o old new (record { log = []; heard = n; begun = b.begun; goes_on = b.goes_on }) c in
         let S : ℕ → Type 0 = λ (n : ℕ). HasRound Asks Ends net i m o old new (record { log = []; heard = at; begun = n; goes_on = b.goes_on }) c in
         let T : Bool → Type 0 = λ (x : Bool). HasRound Asks Ends net i m o old new (record { log = []; heard = at; begun = begun; goes_on = x }) c in

@@ -11,12 +11,12 @@ use Rattle.cm_can.specs.declared.frame.CanFrame.{CanFrame}
 use Rattle.cm_bus.specs.Talk.{IsAsked, IsTalk, ending_of, heard}
 use Rattle.cm_bus.proofs.Waiting.{one_asking, one_closing, one_ending}
 use Rattle.cm_crew.specs.Hearing.{AreHeard, WasAsked}
-use Rattle.cm_bus.specs.declared.event.Event.{Event}
-use Rattle.cm_bus.specs.declared.event.Event.TheVariants.{Heard}
+use Rattle.cm_bus.specs.declared.event.PortEvent.{PortEvent}
+use Rattle.cm_bus.specs.declared.event.PortEvent.TheVariants.{Heard}
 
 -- ---- how long a talk is
 
-pub talk_is_short : (node : ℕ) (q : Question) (x : Answer) (talk : List Event) → IsTalk node q x talk → length talk ≤ 67
+pub talk_is_short : (node : ℕ) (q : Question) (x : Answer) (talk : List PortEvent) → IsTalk node q x talk → length talk ≤ 67
 talk_is_short node q x talk t =
     omega (
       arith,
@@ -33,16 +33,16 @@ talk_is_short node q x talk t =
 
 -- ---- what stands in a log stays in a longer one
 
-pub asked_before : (node : ℕ) (q : Question) (x : Answer) (log more : List Event) → WasAsked node q x log → WasAsked node q x (log ++ more)
+pub asked_before : (node : ℕ) (q : Question) (x : Answer) (log more : List PortEvent) → WasAsked node q x log → WasAsked node q x (log ++ more)
 asked_before node q x log more w = record {
   before = w.before;
   talk = w.talk;
   rest = w.rest ++ more;
   is = w.is;
-  stands = ap (λ (l : List Event). l ++ more) w.stands ∙ (append_assoc w.before (w.talk ++ w.rest) more ∙ ap (λ (l : List Event). w.before ++ l) (append_assoc w.talk w.rest more));
+  stands = ap (λ (l : List PortEvent). l ++ more) w.stands ∙ (append_assoc w.before (w.talk ++ w.rest) more ∙ ap (λ (l : List PortEvent). w.before ++ l) (append_assoc w.talk w.rest more));
 }
 
-pub heard_before : (node : ℕ) (list : List (Question × Answer)) (log more : List Event) → AreHeard node list log → AreHeard node list (log ++ more)
+pub heard_before : (node : ℕ) (list : List (Question × Answer)) (log more : List PortEvent) → AreHeard node list log → AreHeard node list (log ++ more)
 heard_before node [] log more h = tt
 heard_before node (qx ∷ rest) log more h = ((λ n. asked_before node qx.0 qx.1 log more (h.0 n)), heard_before node rest log more h.1)
 
@@ -58,13 +58,13 @@ counted_is_given q y n = chosen (fits q y) y answer.Silent n
 -- ---- the questions of a boot
 
 -- the log grew by the talks of these questions, and each answer stands in it
-pub record HasTalked (node : ℕ) (list : List (Question × Answer)) (old new : List Event) : Type 0 where
-  pub more : List Event
+pub record HasTalked (node : ℕ) (list : List (Question × Answer)) (old new : List PortEvent) : Type 0 where
+  pub more : List PortEvent
   pub grown : new ≡ old ++ more
   pub short : length more ≤ 67 * length list
   pub heard : AreHeard node list new
 
-first_asked : (node : ℕ) (q : Question) (x y : Answer) (old talk more new : List Event) → IsTalk node q y talk → x ≡ counted q y → new ≡ old ++ (talk ++ more) → x ≢ answer.Silent
+first_asked : (node : ℕ) (q : Question) (x y : Answer) (old talk more new : List PortEvent) → IsTalk node q y talk → x ≡ counted q y → new ≡ old ++ (talk ++ more) → x ≢ answer.Silent
     → WasAsked node q x new
 first_asked node q x y old talk more new t e g n = record {
   before = old;
@@ -74,7 +74,7 @@ first_asked node q x y old talk more new t e g n = record {
   stands = g;
 }
 
-pub has_talked : (node : ℕ) (list : List (Question × Answer)) (old new : List Event) → Talks (λ b q x c. IsAsked node q x b c) old list new → length old + 67 * length list ≤ 27470
+pub has_talked : (node : ℕ) (list : List (Question × Answer)) (old new : List PortEvent) → Talks (λ b q x c. IsAsked node q x b c) old list new → length old + 67 * length list ≤ 27470
     → HasTalked node list old new
 has_talked node [] old new t room = record { more = []; grown = sym t ∙ sym (append-nil old); short = omega arith; heard = tt }
 has_talked node (qx ∷ rest) old new t room =
@@ -82,7 +82,7 @@ has_talked node (qx ∷ rest) old new t room =
     let first : t.0 ≡ old ++ s.talk = s.grown (omega (arith, room)) in
     let few : length s.talk ≤ 67 = talk_is_short node qx.0 t.1 s.talk s.is in
     let r = has_talked node rest t.0 new t.4 (omega (arith, room, few, ap length first, length-append old s.talk)) in
-    let g : new ≡ old ++ (s.talk ++ r.more) = r.grown ∙ (ap (λ (l : List Event). l ++ r.more) first ∙ append_assoc old s.talk r.more) in
+    let g : new ≡ old ++ (s.talk ++ r.more) = r.grown ∙ (ap (λ (l : List PortEvent). l ++ r.more) first ∙ append_assoc old s.talk r.more) in
     record {
       more = s.talk ++ r.more;
       grown = g;

@@ -8,7 +8,7 @@ use crate::heard_seat::HeardSeat;
 use cm_bus::{LivePort, Setting, make_bus};
 use cm_history::CallFault;
 use cm_nmt::NodeId;
-use cm_receiving::{BusName, Happening, Received};
+use cm_receiving::{BusName, Notification, Received};
 use cm_register::{RunName, Seat, SharedManager};
 use cm_run::{Last, Outcome};
 use crossbeam_channel::{Receiver, Sender};
@@ -24,7 +24,7 @@ use std::time::Clock;
 pub struct Worker<'n, R: Wait + Clock + Drop, K: RunName, B: BusName, W: Write + Drop> {
     booth: Booth<'n, K, B, LivePort<R, B, W>>,
     jobs: Receiver<NodeId>,
-    happenings: Sender<Happening>,
+    notifications: Sender<Notification>,
     attempts: u8,
 }
 
@@ -52,7 +52,7 @@ fn boot_handed<
     register: &M,
     booth: &mut Booth<'n, K, B, LivePort<R, B, W>>,
     jobs: &Receiver<NodeId>,
-    happenings: &Sender<Happening>,
+    notifications: &Sender<Notification>,
     attempts: u8,
     over: &AtomicBool,
 )
@@ -71,7 +71,7 @@ fn boot_handed<
             Some(outcome) => fault_of(&outcome),
             None => None,
         };
-        let _ = happenings.send(rt, Happening::Ended(id, fault));
+        let _ = notifications.send(rt, Notification::Ended(id, fault));
     }
 }
 
@@ -89,11 +89,19 @@ fn work<
     let Worker {
         mut booth,
         jobs,
-        happenings,
+        notifications,
         attempts,
     } = worker;
     let attempts = attempts.clamp(1, 10);
-    boot_handed(rt, register, &mut booth, &jobs, &happenings, attempts, over);
+    boot_handed(
+        rt,
+        register,
+        &mut booth,
+        &jobs,
+        &notifications,
+        attempts,
+        over,
+    );
     booth.into_seat()
 }
 
@@ -119,13 +127,13 @@ fn make_worker<'a, 'n, R: Wait + Clock + Clone + Drop, K: RunName, B: BusName, W
     ensures seat { IfOk result (λ r. r.0.booth ≡ seat) }
     ensures attempts { IfOk result (λ r. r.0.attempts ≡ setting.now.options.attempts) }
 {
-    let happenings = setting.happenings.clone()?;
+    let notifications = setting.notifications.clone()?;
     let (tells, jobs) = crossbeam_channel::unbounded(setting.alloc)?;
     let (bus, hears) = make_bus(setting, place, writer)?;
     let worker = Worker {
         booth: Booth::new(seat, bus, u16::from(setting.options.workers)),
         jobs,
-        happenings,
+        notifications,
         attempts: setting.options.attempts,
     };
     Ok((worker, hears, tells))
@@ -197,7 +205,6 @@ pub fn make_workers<
 /// Starts a thread for a worker. The answer is whether it has one.
 fn start_worker<
     's,
-    'n: 's,
     V,
     R: Wait + Threads + Clock + Send + Sync + Drop + 's,
     K: RunName + Send + Sync + 's,
@@ -208,7 +215,7 @@ fn start_worker<
     scope: &Scope<'s, V>,
     rt: &'s R,
     register: &'s M,
-    worker: Worker<'n, R, K, B, W>,
+    worker: Worker<'s, R, K, B, W>,
     over: &'s AtomicBool,
     handles: &mut Vec<JoinHandle<HeardSeat<K, B>>>,
 ) -> bool {
@@ -221,7 +228,6 @@ fn start_worker<
 /// Starts a thread for each worker. The answer is whether each has one.
 pub fn start_workers<
     's,
-    'n: 's,
     V,
     R: Wait + Threads + Clock + Send + Sync + Drop + 's,
     K: RunName + Send + Sync + 's,
@@ -232,7 +238,7 @@ pub fn start_workers<
     scope: &Scope<'s, V>,
     rt: &'s R,
     register: &'s M,
-    workers: Vec<Worker<'n, R, K, B, W>>,
+    workers: Vec<Worker<'s, R, K, B, W>>,
     over: &'s AtomicBool,
     handles: &mut Vec<JoinHandle<HeardSeat<K, B>>>,
 ) -> bool {

@@ -7,8 +7,8 @@ ghost use Rattle.cm_history.specs.Orders.{to_all};
 ghost use Rattle.cm_history.specs.declared.call.Entry.{Entry as AnyEntry};
 ghost use Rattle.cm_growing.specs.Changes.{IsChange, LeavesState, Stays};
 
-use cm_history::{Call, Entry, MISSING, UNKNOWN};
-use cm_nmt::{Command, NodeId};
+use cm_history::{Call, Entry, UNKNOWN, obeyed};
+use cm_nmt::NodeId;
 
 /// The entry that is next after so many, and what is shown then of the manager itself and of one node
 /// more; each other node is changed by the orders alone.
@@ -20,17 +20,6 @@ pub(crate) struct Change<'e> {
     pub own: NodeId,
     pub value: u8,
     pub own_value: u8,
-}
-
-/// A state after a command to all nodes: unknown and missing stay so.
-fn obeyed(command: Command, state: u8) -> u8
-    ensures { result ≡ obeyed (Some command) state }
-{
-    if state == UNKNOWN || state == MISSING {
-        state
-    } else {
-        command.state_left()
-    }
 }
 
 /// A granted start of the network, which forgets each slave's state.
@@ -47,10 +36,7 @@ fn left(entry: &Entry, state: u8) -> u8
         (if is_start_by entry.now.call entry.now.reply then 0 else state) }
 {
     let state = if is_start(entry) { UNKNOWN } else { state };
-    match entry.orders.to_all() {
-        Some(command) => obeyed(command, state),
-        None => state,
-    }
+    obeyed(entry.orders.to_all(), state)
 }
 
 impl<'e> Change<'e> {

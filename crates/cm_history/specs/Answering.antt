@@ -1,6 +1,6 @@
 -- The answer to a call, as a table over what the history says (own, but where a standard is named).
 use Rattle.std.specs.Prelude.{ℕ, Bool, true, false, ◌==◌, ◌&&◌, ◌||◌, not, if◌then◌else◌, ◌+◌}
-use Rattle.std.specs.Prelude.{nat_lt, List, [], ◌∷◌, filter, Option, Some, None, unwrap_or}
+use Rattle.std.specs.Prelude.{nat_le, nat_lt, List, [], ◌∷◌, filter, Option, Some, None, unwrap_or}
 use Rattle.std.specs.Option.{is_some, is_none}
 use Rattle.cm_nmt.specs.Codes.{command_of_request, signal_of, state_code}
 use Rattle.cm_nmt.specs.declared.signal.Signal.{Signal}
@@ -63,6 +63,15 @@ node_named (call.Read t) = t
 node_named (call.Elapsed ms) = 0
 node_named (call.Hold i) = i
 node_named (call.Release i) = i
+
+-- the node of a sub-index of object 1F82h, request NMT; none at 128, which stands for all nodes (CiA 302-2)
+abbrev pub node_at : ℕ → Option ℕ
+node_at t = if nat_le 1 t && nat_le t 127 then Some t else None
+
+-- the node that a call names; none where it is for all, as a start of the network and a request to all, or names none, as one
+-- that tells the time
+abbrev pub named_by : Call → Option ℕ
+named_by c = node_at (node_named c)
 
 abbrev pub seen_of : Listing → List Entry → ℕ → Lookup
 seen_of net past i = record {

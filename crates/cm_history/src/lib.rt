@@ -29,4 +29,4 @@ pub use phase::Phase;
 pub use recorder::{Recorder, Unrecorded};
 pub use refusal::Refusal;
 pub use same_call::is_same_call;
-pub use slave::{MISSING, Slave, UNKNOWN, state_reported};
+pub use slave::{MISSING, Slave, UNKNOWN, obeyed, state_reported};

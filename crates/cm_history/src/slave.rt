@@ -1,7 +1,8 @@
 ghost use Rattle.std.specs.Prelude.{◌≡◌};
 ghost use Rattle.cm_history.specs.History.{state_reported};
+ghost use Rattle.cm_history.specs.Machine.{obeyed};
 
-use cm_nmt::{Answers, Got, Heard, NmtState, Status};
+use cm_nmt::{Answers, Command, Got, Heard, NmtState, Status};
 
 /// The state of a slave of which nothing is known, as object 1F82h reads it.
 pub const UNKNOWN: u8 = 0;
@@ -35,5 +36,22 @@ pub fn state_reported(status: Status, answers: &Answers) -> u8
     match answers.device {
         Got::NotAsked => UNKNOWN,
         _ => NmtState::PreOperational.code(),
+    }
+}
+
+/// A state after a command to all nodes, if there is one: unknown and missing stay so.
+#[inline(always)]
+pub fn obeyed(command: Option<Command>, state: u8) -> u8
+    ensures { result ≡ obeyed command state }
+{
+    match command {
+        Some(command) => {
+            if state == UNKNOWN || state == MISSING {
+                state
+            } else {
+                command.state_left()
+            }
+        }
+        None => state,
     }
 }

@@ -5,6 +5,6 @@ pub mod Networks
 mod Items
 mod Build
 pub mod Lines
-mod Places
-mod Values
+mod Finds
+mod Walk
 pub mod ListsRead

@@ -3,7 +3,7 @@ ghost use Rattle.std.specs.Prelude.{◌≡◌, ◌+◌, ◌<◌, ◌^◌, ◌∷
 ghost use Rattle.cm_receiving.specs.Cutting.{ComeNext, IsLeft};
 
 use crate::typed_line::TypedLine;
-use cm_receiving::{BusName, Happening, LineCounter, MOST_READS};
+use cm_receiving::{BusName, LineCounter, MOST_READS, Notification};
 use crossbeam_channel::Sender;
 use std::io::Read;
 use std::marker::{Model, PhantomData};
@@ -53,14 +53,14 @@ impl<B: BusName> TypedCutter<B> {
 #[derive(Drop)]
 pub struct TypedRoute<B: BusName> {
     pub lines: Sender<TypedLine<B>>,
-    pub happenings: Sender<Happening>,
+    pub notifications: Sender<Notification>,
 }
 
 impl<B: BusName> TypedRoute<B> {
     /// Tells a line.
     fn tell<R: Wait>(&self, rt: &R, line: TypedLine<B>) {
         if self.lines.send(rt, line).is_ok() {
-            let _ = self.happenings.send(rt, Happening::Typed);
+            let _ = self.notifications.send(rt, Notification::Typed);
         }
     }
 }
@@ -138,6 +138,6 @@ impl<B: BusName, T: Read + Drop> TypedSource<B, T> {
         let TypedSource { mut input, of: _ } = self;
         let mut cutter = TypedCutter::<B>::new();
         tell_from(rt, &mut input, &mut cutter, route);
-        let _ = route.happenings.send(rt, Happening::NoMoreTyped);
+        let _ = route.notifications.send(rt, Notification::NoMoreTyped);
     }
 }

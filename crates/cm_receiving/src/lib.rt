@@ -2,29 +2,29 @@
 //!
 //! A [`Source`] reads lines of frames from an input, of can-utils or of a serial adapter, and gives each frame its place among those
 //! that were received ([`Received`], [`FrameCutter`]). [`Routes`] gives each to whom it is for: the answer to a question of a boot to
-//! who asks ([`Listening`]), what else happens on the bus to the one that watches the network ([`Happening`]). Boot-up messages
+//! who asks ([`Listening`]), what else happens on the bus to the one that watches the network ([`Notification`]). Boot-up messages
 //! and contradicting answers say from which place on another device may stand at a node; where heartbeats come, [`Heartbeats`] says.
 #![tactic(auto)]
 
 mod boot_ups;
 mod bus_name;
 mod doubling;
-mod happening;
 mod heartbeats;
 mod line_counter;
 mod line_cutter;
 mod listening;
+mod notification;
 mod received;
 mod receiving;
 mod routes;
 mod strangers;
 
 pub use bus_name::BusName;
-pub use happening::Happening;
 pub use heartbeats::Heartbeats;
 pub use line_counter::LineCounter;
 pub use line_cutter::LineCutter;
 pub use listening::Listening;
+pub use notification::Notification;
 pub use received::Received;
-pub use receiving::{FrameCutter, Heard, MOST_READS, Source};
+pub use receiving::{FrameCutter, MOST_READS, ReceivedLine, Source};
 pub use routes::{Routes, ms_in};

@@ -9,8 +9,8 @@ ghost use Rattle.cm_receiving.specs.Cutting.{ComeNext, IsLeft};
 
 use crate::boot_ups::BootUps;
 use crate::bus_name::BusName;
-use crate::happening::Happening;
 use crate::line_counter::LineCounter;
+use crate::notification::Notification;
 use crate::received::Received;
 use crate::routes::Routes;
 use crate::strangers::Strangers;
@@ -47,7 +47,7 @@ fn read_error(format: Format, line: &[u8]) -> Option<CanError>
 
 /// What the end of a line brings.
 #[derive(Drop)]
-pub enum Heard<B: BusName> {
+pub enum ReceivedLine<B: BusName> {
     /// A frame, with its place.
     Frame(Received<B>),
     /// What the interface says of the bus.
@@ -92,7 +92,7 @@ impl<B: BusName> FrameCutter<B> {
     }
 
     /// Takes the next byte, and gives the frame whose line it ends, or what the interface says in that line.
-    pub fn take(&mut self, byte: u8) -> Option<Heard<B>>
+    pub fn take(&mut self, byte: u8) -> Option<ReceivedLine<B>>
         requires room { self.old < 2 ^ 63 }
         requires next { ComeNext B.text self.old (byte ∷ []) }
         ensures { self.new ≡ self.old + 1 }
@@ -104,19 +104,19 @@ impl<B: BusName> FrameCutter<B> {
         let Some(frame) = read_line(self.format, self.lines.line()) else {
             self.boot_ups.pass();
             let error = read_error(self.format, self.lines.line())?;
-            return Some(Heard::Error(error));
+            return Some(ReceivedLine::Error(error));
         };
         self.boot_ups.hear(&frame);
         let since = self.boot_ups.since(&frame);
-        Some(Heard::Frame(Received::new(place, frame, since)))
+        Some(ReceivedLine::Frame(Received::new(place, frame, since)))
     }
 }
 
 /// Gives what was heard to all that it is for.
-fn give<B: BusName, R: Wait + Clock>(rt: &R, heard: Heard<B>, routes: &Routes<B>) {
+fn give<B: BusName, R: Wait + Clock>(rt: &R, heard: ReceivedLine<B>, routes: &Routes<B>) {
     match heard {
-        Heard::Frame(received) => routes.take(rt, received),
-        Heard::Error(error) => routes.take_error(rt, error),
+        ReceivedLine::Frame(received) => routes.take(rt, received),
+        ReceivedLine::Error(error) => routes.take_error(rt, error),
     }
 }
 
@@ -135,7 +135,7 @@ fn take_bytes<B: BusName, R: Wait + Clock>(
     for byte in bytes {
         let heard = cutter.take(*byte);
         if strangers.take(*byte, heard.is_some()) {
-            let _ = routes.happenings.send(rt, Happening::NoFrames);
+            let _ = routes.notifications.send(rt, Notification::NoFrames);
         }
         if let Some(heard) = heard {
             give(rt, heard, routes);
@@ -212,6 +212,6 @@ impl<B: BusName, I: Read + Drop> Source<B, I> {
         } = self;
         let mut cutter = FrameCutter::<B>::new(format);
         receive_from(rt, &mut input, &mut cutter, routes);
-        let _ = routes.happenings.send(rt, Happening::NoMoreHeard);
+        let _ = routes.notifications.send(rt, Notification::NoMoreHeard);
     }
 }

@@ -10,9 +10,9 @@ ghost use Rattle.cm_netlist.specs.Workers.{worker_of};
 
 use crate::bus_name::BusName;
 use crate::doubling::answering;
-use crate::happening::Happening;
 use crate::heartbeats::Heartbeats;
 use crate::listening::{Listening, sender_of};
+use crate::notification::Notification;
 use crate::received::Received;
 use cm_can::{CanError, CanFrame, Remark, error_control, read_remark};
 use cm_netlist::{place_of, worker_of};
@@ -32,7 +32,7 @@ pub struct Routes<B: BusName> {
     pub heartbeats: Arc<Heartbeats>,
     /// What each worker hears.
     pub workers: Vec<Sender<Received<B>>>,
-    pub happenings: Sender<Happening>,
+    pub notifications: Sender<Notification>,
 }
 
 /// Of so many workers, the one that a frame may be given to: a frame that answers a question is for the one that boots
@@ -66,7 +66,7 @@ impl<B: BusName> Routes<B> {
     }
 
     /// Notes when a listed node was heard, and where it has booted up, and gives what is news of it.
-    fn news_in<R: Clock>(&self, rt: &R, frame: &CanFrame, place: u64) -> Option<Happening>
+    fn news_in<R: Clock>(&self, rt: &R, frame: &CanFrame, place: u64) -> Option<Notification>
         ensures { IfSome result (IsNewsIn self.now.listed.items frame.now) }
     {
         let message = error_control(frame)?;
@@ -81,7 +81,7 @@ impl<B: BusName> Routes<B> {
             .heartbeats
             .hear(message.node, message.byte, ms_in(time))
         {
-            Some(Happening::Told(message.node, message.byte))
+            Some(Notification::ErrorControl(message.node, message.byte))
         } else {
             None
         }
@@ -111,21 +111,21 @@ impl<B: BusName> Routes<B> {
             }
         }
         if let Some(news) = self.news_in(rt, &frame, place) {
-            let _ = self.happenings.send(rt, news);
+            let _ = self.notifications.send(rt, news);
         }
         if let Some(remark) = read_remark(&frame) {
-            let _ = self.happenings.send(rt, Happening::Said(remark));
+            let _ = self.notifications.send(rt, Notification::Said(remark));
         }
         if let Some(node) = doubled {
             let remark = Remark::Doubled(node);
-            let _ = self.happenings.send(rt, Happening::Said(remark));
+            let _ = self.notifications.send(rt, Notification::Said(remark));
         }
     }
 
     /// Tells an error of the bus.
     pub(crate) fn take_error<R: Wait + Clock>(&self, rt: &R, error: CanError) {
         let _ = self
-            .happenings
-            .send(rt, Happening::Said(Remark::Error(error)));
+            .notifications
+            .send(rt, Notification::Said(Remark::Error(error)));
     }
 }

@@ -2,7 +2,7 @@ ghost use Rattle.std.specs.Prelude.{◌≡◌, ◌++◌, ◌∷◌, [], List};
 ghost use Rattle.cm_history.specs.declared.call.Entry.{Entry as AnEntry};
 
 use cm_history::{Entry, Recorder};
-use cm_receiving::Happening;
+use cm_receiving::Notification;
 use crossbeam_channel::Sender;
 use std::sync::atomic::{AtomicBool, Ordering};
 use std::sync::{Arc, Wait};
@@ -15,7 +15,7 @@ pub struct Telling<R: Wait + Drop, J: Recorder> {
     rt: R,
     /// How many entries were recorded.
     count: u64,
-    happenings: Sender<Happening>,
+    notifications: Sender<Notification>,
     untold: Arc<AtomicBool>,
 }
 
@@ -25,7 +25,7 @@ impl<R: Wait + Drop, J: Recorder> Telling<R, J> {
     pub fn new(
         rt: R,
         recorder: J,
-        happenings: Sender<Happening>,
+        notifications: Sender<Notification>,
         untold: Arc<AtomicBool>,
     ) -> Telling<R, J>
         ensures { result.recorder ≡ recorder }
@@ -34,7 +34,7 @@ impl<R: Wait + Drop, J: Recorder> Telling<R, J> {
             recorder,
             rt,
             count: 0,
-            happenings,
+            notifications,
             untold,
         }
     }
@@ -56,9 +56,9 @@ impl<R: Wait + Drop, J: Recorder> Recorder for Telling<R, J> {
             → J.has_recorded self.new.recorder (entries ++ entry.now ∷ []) }
     {
         self.recorder.record(entry);
-        let entered = Happening::Entered(self.count, *entry);
+        let entered = Notification::Entered(self.count, *entry);
         self.count = self.count.wrapping_add(1);
-        if self.happenings.send(&self.rt, entered).is_err() {
+        if self.notifications.send(&self.rt, entered).is_err() {
             self.untold.store(true, Ordering::SeqCst);
         }
     }

@@ -1,36 +1,13 @@
 //! How a call that was answered is carried out: by the one manager, and in what readers see.
 ghost use Rattle.std.specs.Prelude.{◌≡◌, ◌<◌, ◌≤◌, ◌==◌, ◌++◌, ◌∷◌, [], ℕ, false, length, reverse, OnOk, OnErr};
 ghost use Rattle.cm_netlist.specs.Network.{listing};
-ghost use Rattle.cm_history.specs.Answering.{node_named};
 ghost use Rattle.cm_history.specs.Legal.{IsAnswered, IsLegal, most_entries};
 ghost use Rattle.cm_sequential.specs.Standing.{Stands};
 
 use cm_growing::{HistoryName, HistoryWriter, NotShown};
-use cm_history::{Call, Entry};
+use cm_history::Entry;
 use cm_netlist::Network;
-use cm_nmt::NodeId;
 use cm_sequential::{Manager, replay};
-
-/// The node that a call names, the own one where it names none.
-#[inline(always)]
-fn called_node(call: &Call, own: NodeId) -> NodeId
-    ensures { (t : ℕ) → 1 ≤ t → t < 128 → (result == t) ≡ false
-        → (node_named call.now == t) ≡ false }
-{
-    match call {
-        Call::StartNetwork | Call::Elapsed(_) => own,
-        Call::Begin(id)
-        | Call::Report(id, _, _)
-        | Call::Signal(id, _)
-        | Call::Lost(id)
-        | Call::Hold(id)
-        | Call::Release(id) => *id,
-        Call::Request(target, _) | Call::Read(target) => match NodeId::new(*target) {
-            Some(id) => id,
-            None => own,
-        },
-    }
-}
 
 /// Makes the manager anew from the calls of a legal history. It stands apart, since a manager has over
 /// 6 KB, which is cleared first, and this never comes, though no clause says so.
@@ -69,7 +46,7 @@ pub(crate) fn carry_out<K: HistoryName>(
 {
     manager.carry_out(&entry.call, entry.reply, &entry.orders);
     let own = net.own_id();
-    let node = called_node(&entry.call, own);
+    let node = entry.call.node_or(own);
     let value = manager.shown(node);
     let own_value = manager.shown(own);
     if let Err(not_shown) = writer.show_entry(entry, node, value, own_value) {

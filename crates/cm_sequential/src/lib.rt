@@ -5,6 +5,9 @@
 //! And which histories of calls are legal: replayed by the manager, each entry has the manager's
 //! answer. [`replay`] takes all entries at once, and no memory; a [`CompactReplay`] takes them in parts
 //! and keeps of each what a status report needs.
+//!
+//! It has over 100 functions and is one subject: a replay is the manager again, asked each call of the history, and stands on the same
+//! state.
 #![tactic(auto)]
 
 mod answering;

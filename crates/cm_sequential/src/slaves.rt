@@ -11,7 +11,7 @@ ghost use Rattle.cm_sequential.specs.States.{kept_listing, kept_slave, session_n
 ghost use Rattle.cm_sequential.specs.Changes.{at_node, boot_ended, cleared, in_session, in_state, obeying, obeying_alone, IsCounted};
 
 use crate::listing_copy::ListingCopy;
-use cm_history::{MISSING, NodeSet, UNKNOWN};
+use cm_history::{NodeSet, UNKNOWN, obeyed};
 use cm_nmt::{Command, NodeId};
 
 /// What the manager keeps of each node, that of node i at place i.
@@ -26,25 +26,13 @@ pub struct SlaveTable {
     unbooted: NodeSet,
 }
 
-/// A state after a command to all nodes: unknown and missing stay so.
-#[inline(always)]
-fn obeyed(command: Command, state: u8) -> u8
-    ensures { result ≡ obeyed (Some command) state }
-{
-    if state == UNKNOWN || state == MISSING {
-        state
-    } else {
-        command.state_left()
-    }
-}
-
 /// Every node's state after a command to all nodes.
 fn obey_all(states: &mut [u8; 128], command: Command)
     ensures { (i : ℕ) → i < 128
         → slice_index_or states.new i 0 ≡ obeyed (Some command) (slice_index_or states.old i 0) }
 {
     for state in states.iter_mut() {
-        *state = obeyed(command, *state);
+        *state = obeyed(Some(command), *state);
     }
 }
 

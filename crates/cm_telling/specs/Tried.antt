@@ -1,6 +1,7 @@
 -- What came of the boots of each slave, for the words of a live run (own).
 use Rattle.std.specs.Prelude.{◌≡◌, ◌+◌, ◌≤◌, ◌<◌, ◌==◌, ◌&&◌, if◌then◌else◌, [], ◌∷◌, ℕ, Bool, true, false}
 use Rattle.std.specs.Prelude.{min, Option, Some, None, is_some, slice_index_or}
+use Rattle.cm_history.specs.Answering.{node_at}
 use Rattle.cm_history.specs.History.{begins_by, last_status}
 use Rattle.cm_history.specs.declared.call.Call.{Call}
 use Rattle.cm_history.specs.declared.call.Call.TheVariants as call
@@ -12,7 +13,6 @@ use Rattle.cm_nmt.specs.declared.signal.Signal.{Signal}
 use Rattle.cm_nmt.specs.declared.signal.Signal.TheVariants as signal
 use Rattle.cm_nmt.specs.declared.state.NmtState.TheVariants as state
 use Rattle.cm_nmt.specs.declared.status.Status.{Status}
-use Rattle.cm_watch.specs.Kept.{node_at}
 use Rattle.cm_watched.specs.Pasts.{Past, entries_in}
 use Rattle.cm_watched.specs.Slaves.{booted_since}
 use Rattle.cm_watched.specs.declared.happening.Happening.TheVariants as happening

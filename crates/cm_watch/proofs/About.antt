@@ -5,6 +5,7 @@ use Rattle.std.specs.Bool.{if◌then◌else◌}
 use Rattle.std.proofs.Math.Bool.{and-false}
 use Rattle.std.proofs.lemmas.Bool.{ne_eqb}
 use Rattle.std.proofs.lemmas.Option.{none-some, same_Some}
+use Rattle.cm_history.specs.Answering.{named_by, node_at}
 use Rattle.cm_history.specs.History.{begun_number, is_boot_again, is_good_report, is_granted, is_handled, is_noted, is_reset_value, only_if, reported, signalled, state_reported}
 use Rattle.cm_history.specs.Orders.{is_all, is_node, is_reset_all, is_reset_node, is_start_of, to_all}
 use Rattle.cm_history.specs.declared.call.Call.{Call}
@@ -15,7 +16,7 @@ use Rattle.cm_history.specs.declared.call.Reply.{Reply}
 use Rattle.cm_netlist.specs.Network.{Network}
 use Rattle.cm_nmt.specs.declared.frame.Target.{Target}
 use Rattle.cm_nmt.specs.declared.frame.Target.TheVariants as target
-use Rattle.cm_watch.specs.Kept.{about, if_only, named_by, node_at, reaches_only}
+use Rattle.cm_watch.specs.Kept.{about, if_only, reaches_only}
 use Rattle.cm_watched.specs.KeptOfSlaves.{slave_after}
 use Rattle.cm_watched.specs.Signals.{is_sent}
 use Rattle.cm_watched.specs.Waking.{command_to}
@@ -95,21 +96,21 @@ module _ (net : Network) (s : Settings) (t i j : ℕ) (other : j ≢ i) (k : Sla
   call_apart : (c : Call) (r : Reply) (o : Orders) (seat : ℕ) → named_by c ≡ Some i → reaches_only o i ≡ true → AfterCall c r o seat
   call_apart call.StartNetwork r o seat is only = absurd (none-some i is)
   call_apart (call.Begin n) r o seat is only =
-      rw (passed o only, alone_no_command o i only, apart n is, none_is (begun_number r), and-false (is_sent o)) refl
+      rw (passed o only, alone_no_command o i only, apart n (chosen _ n i is).1, none_is (begun_number r), and-false (is_sent o)) refl
   call_apart (call.Report n x a) r o seat is only =
-      rw (passed o only, alone_no_command o i only, apart n is, none_is (option_map (λ q. if is_start_of o j then 5 else state_reported q a) (reported r)), and-false (is_sent o), and-false (is_good_report r)) refl
+      rw (passed o only, alone_no_command o i only, apart n (chosen _ n i is).1, none_is (option_map (λ q. if is_start_of o j then 5 else state_reported q a) (reported r)), and-false (is_sent o), and-false (is_good_report r)) refl
   call_apart (call.Signal n b) r o seat is only =
-      rw (passed o only, alone_no_command o i only, apart n is, none_is (signalled r b), and-false (is_sent o), and-false (is_boot_again r)) refl
+      rw (passed o only, alone_no_command o i only, apart n (chosen _ n i is).1, none_is (signalled r b), and-false (is_sent o), and-false (is_boot_again r)) refl
   call_apart (call.Lost n) r o seat is only =
-      rw (passed o only, alone_no_command o i only, apart n is, alone_not_all o i only, and-false (is_handled r), and-false (is_noted r || is_handled r), and-false (is_sent o)) refl
+      rw (passed o only, alone_no_command o i only, apart n (chosen _ n i is).1, alone_not_all o i only, and-false (is_handled r), and-false (is_noted r || is_handled r), and-false (is_sent o)) refl
   call_apart (call.Request n v) r o seat is only =
       rw (passed o only, alone_no_command o i only, apart n (chosen _ n i is).1, not_every n i is, and-false (is_reset_value v), and-false (is_granted r), and-false (is_sent o)) refl
   call_apart (call.Read n) r o seat is only = rw (passed o only, alone_no_command o i only, and-false (is_sent o)) refl
   call_apart (call.Elapsed ms) r o seat is only = absurd (none-some i is)
   call_apart (call.Hold n) r o seat is only =
-      rw (passed o only, alone_no_command o i only, apart n is, and-false (is_granted r), and-false (is_sent o)) refl
+      rw (passed o only, alone_no_command o i only, apart n (chosen _ n i is).1, and-false (is_granted r), and-false (is_sent o)) refl
   call_apart (call.Release n) r o seat is only =
-      rw (passed o only, alone_no_command o i only, apart n is, and-false (is_granted r), and-false (is_sent o)) refl
+      rw (passed o only, alone_no_command o i only, apart n (chosen _ n i is).1, and-false (is_granted r), and-false (is_sent o)) refl
 
   -- what is kept of j after a moment that is about i
   pub kept_apart : (m : Moment) → about m ≡ Some i → slave_after net s t m j k ≡ k

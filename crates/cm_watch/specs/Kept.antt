@@ -1,10 +1,10 @@
 -- Working definitions: what is kept of a slave and of the network, and what one moment makes of it.
-use Rattle.std.specs.Prelude.{ℕ, Bool, Option, Some, None, true, false, ◌&&◌, if◌then◌else◌, nat_le, unwrap_or}
+use Rattle.std.specs.Prelude.{ℕ, Bool, Option, Some, None, true, false, ◌&&◌, if◌then◌else◌, unwrap_or}
 use Rattle.std.specs.Option.{option_or}
+use Rattle.cm_history.specs.Answering.{named_by}
 use Rattle.cm_history.specs.Machine.{own_after, phase_after}
 use Rattle.cm_history.specs.Orders.{is_node}
 use Rattle.cm_history.specs.declared.call.Call.{Call}
-use Rattle.cm_history.specs.declared.call.Call.TheVariants as call
 use Rattle.cm_history.specs.declared.call.Orders.{Orders}
 use Rattle.cm_history.specs.declared.call.Orders.TheVariants as orders
 use Rattle.cm_history.specs.declared.phase.Phase.{Phase}
@@ -72,24 +72,6 @@ blank_slave = record {
 }
 
 -- ---- which slave a moment may change
-
--- the node of a sub-index of object 1F82h, request NMT; none at 128, which stands for all nodes (CiA 302-2)
-abbrev pub node_at : ℕ → Option ℕ
-node_at t = if nat_le 1 t && nat_le t 127 then Some t else None
-
--- the node that a call names; none where it is for all, as a start of the network and a request to all, or names none, as one
--- that tells the time
-abbrev pub named_by : Call → Option ℕ
-named_by call.StartNetwork = None
-named_by (call.Begin j) = Some j
-named_by (call.Report j n a) = Some j
-named_by (call.Signal j b) = Some j
-named_by (call.Lost j) = Some j
-named_by (call.Request t v) = node_at t
-named_by (call.Read t) = node_at t
-named_by (call.Elapsed ms) = None
-named_by (call.Hold j) = Some j
-named_by (call.Release j) = Some j
 
 -- the orders reach no other node than j
 abbrev pub reaches_only : Orders → ℕ → Bool

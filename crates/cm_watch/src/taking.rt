@@ -2,7 +2,7 @@
 
 ghost use Rattle.std.specs.Prelude.{◌≡◌, ◌<◌, ◌^◌, ◌∷◌, Some};
 ghost use Rattle.cm_history.specs.Orders.{is_node};
-ghost use Rattle.cm_watch.specs.Kept.{about, about_call, about_happening, about_step, if_only, named_by, node_at, reaches_only};
+ghost use Rattle.cm_watch.specs.Kept.{about, about_call, about_happening, about_step, if_only, reaches_only};
 ghost use Rattle.cm_watched.specs.Pasts.{Past};
 ghost use Rattle.cm_watch.specs.Watches.{AreSlaves};
 
@@ -10,29 +10,6 @@ use cm_history::{Call, Orders};
 use cm_netlist::Network;
 use cm_nmt::{NodeId, Target};
 use cm_watched::{Happening, Moment, Settings, Slave, Step};
-
-/// The node of a sub-index of object 1F82h; `None` at 128, which stands for all nodes.
-fn node_at(target: u8) -> Option<NodeId>
-    ensures { result ≡ node_at target }
-{
-    NodeId::new(target)
-}
-
-/// The node that a call names.
-fn named_by(call: &Call) -> Option<NodeId>
-    ensures { result ≡ named_by call.now }
-{
-    match call {
-        Call::Begin(id)
-        | Call::Report(id, _, _)
-        | Call::Signal(id, _)
-        | Call::Lost(id)
-        | Call::Hold(id)
-        | Call::Release(id) => Some(*id),
-        Call::Request(target, _) | Call::Read(target) => node_at(*target),
-        Call::StartNetwork | Call::Elapsed(_) => None,
-    }
-}
 
 /// Whether this node is the target.
 fn is_node(target: &Target, id: NodeId) -> bool
@@ -59,7 +36,7 @@ fn reaches_only(orders: &Orders, id: NodeId) -> bool
 fn about_call(call: &Call, orders: &Orders) -> Option<NodeId>
     ensures { result ≡ about_call call.now orders.now }
 {
-    match named_by(call) {
+    match call.node() {
         Some(id) if reaches_only(orders, id) => Some(id),
         _ => None,
     }

@@ -2,14 +2,13 @@
 
 ghost use Rattle.std.specs.Prelude.{◌≡◌, Some, if◌then◌else◌, option_map};
 ghost use Rattle.cm_history.specs.History.{only_if, reported, sets_by, signalled, state_reported, state_requested};
-ghost use Rattle.cm_history.specs.Machine.{obeyed};
 ghost use Rattle.cm_history.specs.Orders.{is_start_of};
 ghost use Rattle.cm_watched.specs.Signals.{commands_by, entered, gives_by, is_sent, shown_by, since_call};
 
 use crate::happening::{Happening, Moment, Step};
 use crate::schedule::is_reset;
-use cm_history::{Call, Entry, MISSING, Orders, Reply, UNKNOWN, state_reported};
-use cm_nmt::{Answers, Command, NodeId};
+use cm_history::{Call, Entry, MISSING, Orders, Reply, UNKNOWN, obeyed, state_reported};
+use cm_nmt::{Answers, NodeId};
 
 /// The state pre-operational (CiA 301, heartbeat).
 pub const PRE_OPERATIONAL: u8 = 127;
@@ -104,22 +103,6 @@ fn sets_by(entry: &Entry, id: NodeId) -> Option<u8>
         }
         Call::Hold(node) => only_if(Some(STOPPED), is_granted && *node == id),
         _ => None,
-    }
-}
-
-/// A state after a command to all nodes: unknown and missing stay so.
-fn obeyed(command: Option<Command>, state: u8) -> u8
-    ensures { result ≡ obeyed command state }
-{
-    match command {
-        Some(command) => {
-            if state == UNKNOWN || state == MISSING {
-                state
-            } else {
-                command.state_left()
-            }
-        }
-        None => state,
     }
 }
 

@@ -5,7 +5,7 @@ ghost use Rattle.std.specs.Prelude.{⊤};
 use crate::support::{is_made, node};
 use cm_boot::{Answer, Bus, Question};
 use cm_history::{Call, Reply};
-use cm_netlist::Network;
+use cm_netlist::{Network, worker_at};
 use cm_nmt::NodeId;
 use cm_register::{Register, RunName, Seat};
 use cm_run::{Last, Outcome, SimBus, SimSlave, SimWire};
@@ -60,7 +60,10 @@ pub(crate) fn agreeing(
     for worker in 0..workers {
         let mut bus = SimBus::new();
         for (place, id) in net.listed_ids().iter().enumerate() {
-            if let (true, Some(slave)) = (place % workers == worker, SimSlave::agreeing(net, *id)) {
+            if let (true, Some(slave)) = (
+                worker_at(workers, place) == worker,
+                SimSlave::agreeing(net, *id),
+            ) {
                 bus.put(*id, slave);
             }
         }

@@ -1,7 +1,6 @@
 //! A history that grows by entries, and what a reader sees of it, over the sequential manager.
 
 ghost use Rattle.std.specs.Prelude.{◌≡◌, ◌==◌, ◌≤◌, ◌<◌, ◌+◌, ℕ, false, length, reverse, OnOk};
-ghost use Rattle.cm_history.specs.Answering.{node_named};
 ghost use Rattle.cm_history.specs.Legal.{most_entries};
 ghost use Rattle.cm_growing.specs.Unnamed.{log_of, net_of};
 ghost use Rattle.cm_sequential.specs.Standing.{Stands};
@@ -16,26 +15,6 @@ use std::alloc::Global;
 use std::marker::Brand;
 use std::process::Abort;
 use std::test::Fail;
-
-/// The node that a call names, the own one where it names none.
-fn called_node(call: &Call, own: NodeId) -> NodeId
-    ensures { (t : ℕ) → 1 ≤ t → t < 128 → (result == t) ≡ false
-        → (node_named call.now == t) ≡ false }
-{
-    match call {
-        Call::StartNetwork | Call::Elapsed(_) => own,
-        Call::Begin(id)
-        | Call::Report(id, _, _)
-        | Call::Signal(id, _)
-        | Call::Lost(id)
-        | Call::Hold(id)
-        | Call::Release(id) => *id,
-        Call::Request(target, _) | Call::Read(target) => match NodeId::new(*target) {
-            Some(id) => id,
-            None => own,
-        },
-    }
-}
 
 /// Makes a call of seat 1, which is then the last entry that readers are shown.
 fn show<K: HistoryName>(
@@ -61,7 +40,7 @@ fn show<K: HistoryName>(
         seat: 1,
     };
     manager.carry_out(&entry.call, entry.reply, &entry.orders);
-    let node = called_node(&entry.call, own);
+    let node = entry.call.node_or(own);
     let value = manager.shown(node);
     let own_value = manager.shown(own);
     match writer.show_entry(&entry, node, value, own_value) {

@@ -5,7 +5,7 @@ use cm_boot::Question;
 use cm_bus::{LivePort, Outlet, Patience, Port};
 use cm_can::{CanFrame, Format, read_frame};
 use cm_nmt::NodeId;
-use cm_receiving::{Happening, Heartbeats, Listening, Received, Routes, Source};
+use cm_receiving::{Heartbeats, Listening, Notification, Received, Routes, Source};
 use crossbeam_channel::{Receiver, Sender};
 use std::alloc::Global;
 use std::io::{self, Read};
@@ -96,15 +96,15 @@ fn give<R: Wait + Clock + Abort>(
     workers: Vec<Sender<Received<Brand>>>,
     left: &'static [u8],
 ) {
-    let channel = crossbeam_channel::unbounded::<Happening, _>(alloc);
-    let (happenings, _told) = channel.ok().expect(rt, "a channel");
+    let channel = crossbeam_channel::unbounded::<Notification, _>(alloc);
+    let (notifications, _told) = channel.ok().expect(rt, "a channel");
     let routes = Routes {
         start: Instant::now(rt).ok().expect(rt, "a clock"),
         listed: listed(rt, alloc),
         listening,
         heartbeats: heartbeats(rt, alloc),
         workers,
-        happenings,
+        notifications,
     };
     let source = Source::<Brand, Lines>::new(Lines { left }, Format::CanUtils);
     source.receive(rt, &routes);

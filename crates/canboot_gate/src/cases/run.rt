@@ -2,15 +2,12 @@ use crate::cases::case::{Case, Source};
 use crate::cases::compared::Compared;
 use crate::cases::text::{Part, Text};
 use crate::cases::watching::tell_story;
-use canboot::run_words;
+use canboot::{Host, Streams, run_words};
 use canboot_live_files::NoFiles;
 use std::alloc::{AllocError, Global};
-use std::fs::{self, File};
-use std::io::{self, StdinLock, Write};
+use std::fs;
+use std::io::{self, Read, StdinLock, Write};
 use std::rt::Files;
-use std::sync::Wait;
-use std::thread::Threads;
-use std::time::Clock;
 
 /// Where the input lies of a command line with `NET` in it.
 const LIST: &str = "list-of-this-case.toml";
@@ -113,20 +110,30 @@ fn run_story(alloc: Global, input: &mut Text<'_>, out: &mut Compared<'_>) -> io:
     })
 }
 
+/// Runs canboot on these words.
+fn run_on<R: Host + Input<Reader = StdinLock<'static>>, I: Read, W: Write, E: Write>(
+    rt: &R,
+    words: &[String],
+    input: &mut I,
+    out: &mut W,
+    err: &mut E,
+) -> u8 {
+    let told: Option<Vec<u8>> = None;
+    let mut streams = Streams {
+        input: &mut *input,
+        out: &mut *out,
+        err: &mut *err,
+        told,
+        is_coloured: false,
+    };
+    run_words(rt, words, &mut streams, NoFiles)
+}
+
 /// Runs canboot as the case says, or tells the story of a watch.
-pub fn run_case<
-    R: Files<File = File>
-        + Input<Reader = StdinLock<'static>>
-        + Clock
-        + AllocGlobal
-        + Wait
-        + Threads
-        + Clone
-        + Send
-        + Sync
-        + Drop
-        + 'static,
->(rt: &R, case: &Case<'_>) -> io::Result<Outcome> {
+pub fn run_case<R: Host + Input<Reader = StdinLock<'static>>>(
+    rt: &R,
+    case: &Case<'_>,
+) -> io::Result<Outcome> {
     let alloc = rt.alloc();
     let (in_file, out_file, err_file, journal_file) = (
         load(rt, &case.input)?,
@@ -149,17 +156,7 @@ pub fn run_case<
         run_story(alloc, &mut input, &mut out)?
     } else {
         let words = words_of(alloc, case)?;
-        let told: Option<Vec<u8>> = None;
-        run_words(
-            rt,
-            words.as_slice(),
-            &mut input,
-            &mut out,
-            &mut err,
-            told,
-            NoFiles,
-            false,
-        )
+        run_on(rt, words.as_slice(), &mut input, &mut out, &mut err)
     };
     Ok(Outcome {
         same_out: out.is_same()?,

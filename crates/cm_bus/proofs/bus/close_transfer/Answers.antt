@@ -2,7 +2,7 @@ use Rattle.std.proofs.Common.{[], ◌∷◌, refl, inr, subst}
 use Rattle.std.specs.Prelude.{Option}
 use Rattle.cm_can.specs.declared.frame.CanFrame.{CanFrame}
 use Rattle.cm_bus.specs.Talk.{IsAbort}
-use Rattle.cm_bus.specs.declared.event.Event.TheVariants.{Sent}
+use Rattle.cm_bus.specs.declared.event.PortEvent.TheVariants.{Sent}
 use Rattle.cm_bus.proofs.bus.close_transfer.Goals as goal
 
 pub returns-in-Some-clause-closing : goal.returns-in-Some-clause-closing

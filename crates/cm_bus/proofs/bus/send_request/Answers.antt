@@ -1,5 +1,5 @@
 use Rattle.std.proofs.Common.{[], ◌∷◌, refl, inr}
-use Rattle.cm_bus.specs.declared.event.Event.TheVariants.{Sent}
+use Rattle.cm_bus.specs.declared.event.PortEvent.TheVariants.{Sent}
 use Rattle.cm_bus.proofs.bus.send_request.Goals as goal
 
 pub returns-in-Some-clause-asking : goal.returns-in-Some-clause-asking

@@ -4,7 +4,7 @@ use Rattle.std.proofs.lemmas.Iterator.Search.{any_from_yields_List}
 use Rattle.std.specs.Cmp.Lexicographic.{pointwise}
 use Rattle.cm_netlist.specs.ListKeys.{key_of}
 use Rattle.cm_netlist.specs.Keys.{IntegerKey}
-use Rattle.cm_netlist.proofs.Values.{any_of_map}
+use Rattle.cm_netlist.proofs.Items.{any_of_map}
 use Rattle.cm_netlist.proofs.list_faults.is_listed.Goals as goal
 
 pub returns-else-eq : goal.returns-else-eq

@@ -4,7 +4,7 @@ use Rattle.std.proofs.lemmas.Iterator.{YieldsList-from_slice}
 use Rattle.std.proofs.lemmas.Iterator.Search.{any_from_yields_List}
 use Rattle.toml.specs.View.{view}
 use Rattle.cm_netlist.specs.Table.{is_no_integer}
-use Rattle.cm_netlist.proofs.Values.{any_of_array, write_of_array}
+use Rattle.cm_netlist.proofs.Items.{any_of_array, write_of_array}
 use Rattle.cm_netlist.proofs.list_faults.is_write.Goals as goal
 
 pub returns-then-len-eq4 : goal.returns-then-len-eq4

@@ -3,7 +3,7 @@ use Rattle.toml.specs.Data.{Data}
 use Rattle.toml.specs.View.{view}
 use Rattle.toml.specs.declared.value.Value.{Value}
 use Rattle.cm_netlist.specs.Table.{elements}
-use Rattle.cm_netlist.proofs.Values.{list_of_view, data_of_array}
+use Rattle.cm_netlist.proofs.Items.{list_of_view, data_of_array}
 use Rattle.cm_netlist.proofs.list_values.elements_at.Goals as goal
 
 pub returns-in-Some-Array : goal.returns-in-Some-Array

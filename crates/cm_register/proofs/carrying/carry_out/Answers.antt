@@ -22,7 +22,7 @@ show_entry-requires g c =
     let e = c.args.entry.now in
     let stands = c.carry_out.ensures.stands net (reverse h) e.seat c.requires.stands in
     let own : c.own_id-own.result ≡ net.own = c.own_id-own.ensures.value ∙ ap (λ (n : Network). n.own) c.requires.name in
-    subst (λ (w : List Entry). IsChange (listing net) w e c.called_node-node.result c.shown-value.result net.own c.shown-own_value.result)
+    subst (λ (w : List Entry). IsChange (listing net) w e c.node_or-node.result c.shown-value.result net.own c.shown-own_value.result)
     (sym c.requires.shown)
     (record {
       answered = c.requires.answered;
@@ -30,7 +30,7 @@ show_entry-requires g c =
       is_own = refl;
       of_own = subst (λ (n : ℕ). c.shown-own_value.result ≡ shown (listing net) (e ∷ reverse h) n) own (c.shown-own_value.ensures net (e ∷ reverse h) stands);
       of_node = c.shown-value.ensures net (e ∷ reverse h) stands;
-      named = c.called_node-node.ensures;
+      named = c.node_or-node.ensures;
     })
 
 pub returns-clause-stands : goal.returns-clause-stands

@@ -19,7 +19,7 @@ show_entry-requires g c =
       is_own = refl;
       of_own = subst (λ (n : ℕ). c.shown-own_value.result ≡ shown (listing net) (e ∷ reverse h) n) c.requires.own (c.shown-own_value.ensures net (e ∷ reverse h) stands);
       of_node = c.shown-value.ensures net (e ∷ reverse h) stands;
-      named = c.called_node-node.ensures;
+      named = c.node_or-node.ensures;
     }
 
 pub returns-in-Ok-clause-stands : goal.returns-in-Ok-clause-stands

@@ -1,5 +1,0 @@
-use Rattle.std.proofs.Common.{refl}
-use Rattle.canboot_tell.proofs.history.Teller.new.Goals as goal
-
-pub returns : goal.returns
-returns c = record { network = refl; stands = c.new.ensures.stands; watches = c.new-2.ensures c.args.network.now; tries = c.new-3.ensures; count = refl }
