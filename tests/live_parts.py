@@ -112,7 +112,8 @@ def frames(bus, over):
 
 def disturb(bus, over):
     """Sends at each SDO request what is no answer to it: of another sub-index, index or node, a cut one, a wide one,
-    a remote one; and what is no boot-up message. Each that has 8 bytes ends with the bytes of NOISE."""
+    a remote one; and what is no boot-up message. Each that has 8 bytes ends with the bytes of NOISE. No sub-index is one that a boot asks:
+    what answers a question before it once more, and otherwise, is of another device with this node-ID."""
     while not over.is_set():
         identifier, _, data = receive(bus)
         if not 0x600 < identifier < 0x680 or data[0] == 0x80 or over.is_set():
@@ -121,7 +122,7 @@ def disturb(bus, over):
         server, control = identifier - 0x80, identifier + 0x100
         for command in (0x80, 0x43 if data[0] == 0x40 else 0x60):
             right, other_sub, other_index = (struct.pack('<BHB', command, *place) + bytes.fromhex(NOISE) for place in
-                                             ((index, sub), (index, sub ^ 1), (index ^ 1, sub)))
+                                             ((index, sub), (index, sub ^ 0x10), (index ^ 1, sub)))
             for it in ((server, other_sub), (server, other_index), (server, right[:7]), (0x5FF, right),
                        (EXTENDED | server, right), (REMOTE | server, b'')):
                 send(bus, *it)
