@@ -20,9 +20,9 @@ pub use canboot_live::{
 pub use canboot_live_files::{HostFiles, NoFiles, ReplaceFile, StatusFile};
 pub use canboot_picture::picture_text;
 pub use canboot_run::{Asked, LONGEST_RUN, Options, SlaveFaults, run_text, run_text_as};
-pub use canboot_scan::{ListForm, Scan, ScanEnds, ScanOptions, scan_check, scan_text};
+pub use canboot_scan::{ListForm, Scan, ScanEnds, scan_check, scan_text};
 pub use canboot_tell::tell_text;
-pub use cm_bus::{LiveOptions, Outlet};
+pub use cm_bus::{BusOptions, LiveOptions, Outlet};
 pub use cm_crew::{UntilOver, live_round};
 pub use cm_netlist::LONGEST_LIST;
 pub use cm_recorder::JournalOutput;

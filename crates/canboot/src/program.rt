@@ -5,7 +5,7 @@ ghost use Rattle.canboot.specs.Program.{EndsWithout};
 use crate::simulated::run_simulated;
 use canboot_check::check_file;
 use canboot_cli::{Action, CheckOutput, Host, NoAction, ReplayOutput, read_words};
-use canboot_faults::{FAILED, FaultObjects, MISUSED, fault_line, output_status, read_fault};
+use canboot_faults::{FAILED, MISUSED, fault_line, output_status, read_fault};
 use canboot_import::{ImportWords, import_file};
 use canboot_journals::{mend_text, replay_as_json, replay_explained, replay_text};
 use canboot_lists::explain_file;
@@ -130,11 +130,7 @@ pub fn run_words<
             import_file(rt, file, words, out, err)
         }
         Ok(Action::Run(words)) => run_simulated(rt, &words, out, err),
-        Ok(Action::Scan(words)) => {
-            let mut err = FaultObjects::new(rt.alloc(), words.output.form(), err);
-            let status = scan_file(rt, &words, out, &mut err);
-            err.end(status)
-        }
+        Ok(Action::Scan(words)) => scan_file(rt, &words, out, err),
         Ok(Action::Live(words)) => {
             live_told(rt, &words, files, out, err, told.take(), *is_coloured)
         }

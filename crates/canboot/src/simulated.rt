@@ -3,12 +3,12 @@
 ghost use Rattle.std.specs.Prelude.{◌≡◌, ◌≤◌, IfErr};
 
 use canboot_cli::{RunWords, SlaveWords};
-use canboot_faults::FaultObjects;
 use canboot_refusing::{read_fault_of, refuse_explained};
 use canboot_run::{
     Asked, NoNetwork, Options, SlaveFaults, SlaveOption, network_of_file, refuse_run, run_network,
     set_fault,
 };
+use cm_report::ReportForm;
 use std::alloc::Global;
 use std::io::Write;
 use std::rt::Files;
@@ -17,6 +17,7 @@ use std::thread::Threads;
 
 /// Adds what an option says that was given so often.
 fn set_faults<E: Write>(
+    form: ReportForm,
     faults: &mut SlaveFaults,
     option: SlaveOption,
     values: &[&str],
@@ -25,13 +26,14 @@ fn set_faults<E: Write>(
     ensures { IfErr result (λ status. status ≤ 3) }
 {
     for value in values {
-        set_fault(faults, option, value, err)?;
+        set_fault(form, faults, option, value, err)?;
     }
     Ok(())
 }
 
 /// What slaves do, as it was typed; the exit status where a text says nothing.
 fn faults_of<E: Write>(
+    form: ReportForm,
     alloc: Global,
     words: &SlaveWords<'_>,
     err: &mut E,
@@ -39,34 +41,32 @@ fn faults_of<E: Write>(
     ensures { IfErr result (λ status. status ≤ 3) }
 {
     let mut faults = SlaveFaults::none(alloc);
-    set_faults(
-        &mut faults,
-        SlaveOption::Silent,
-        words.silent.as_slice(),
-        err,
-    )?;
-    set_faults(&mut faults, SlaveOption::Dies, words.dies.as_slice(), err)?;
-    set_faults(&mut faults, SlaveOption::Wrong, words.wrong.as_slice(), err)?;
-    set_faults(
-        &mut faults,
-        SlaveOption::Aborts,
-        words.aborts.as_slice(),
-        err,
-    )?;
+    let given = [
+        (SlaveOption::Silent, words.silent.as_slice()),
+        (SlaveOption::Dies, words.dies.as_slice()),
+        (SlaveOption::Wrong, words.wrong.as_slice()),
+        (SlaveOption::Aborts, words.aborts.as_slice()),
+    ];
+    for (option, values) in given {
+        set_faults(form, &mut faults, option, values, err)?;
+    }
     Ok(faults)
 }
 
-/// Writes why there is no network to run, and where these words ask for it, behind that where the list has its fault, or the path of the
-/// file that can't be opened. The answer is the exit status.
+/// Tells in the form that these words ask for why there is no network to run, and where they ask for it, where the list has its fault, or
+/// the path of the file that can't be opened. The answer is the exit status.
 fn refuse_words<E: Write>(alloc: Global, words: &RunWords<'_>, none: &NoNetwork, err: &mut E) -> u8
     ensures { result ≤ 3 }
 {
+    let form = words.report;
     match none {
-        NoNetwork::Unopened(kind) if words.is_explained => read_fault_of(err, words.network, *kind),
-        NoNetwork::Faulty { text, fault } if words.is_explained => {
-            refuse_explained(alloc, text.as_slice(), *fault, err)
+        NoNetwork::Unopened(kind) if words.is_explained => {
+            read_fault_of(form, words.network, *kind, err)
         }
-        _ => refuse_run(err, none),
+        NoNetwork::Faulty { text, fault } if words.is_explained => {
+            refuse_explained(form, alloc, text.as_slice(), *fault, err)
+        }
+        _ => refuse_run(form, none, err),
     }
 }
 
@@ -102,17 +102,14 @@ pub(crate) fn run_simulated<
     requires attempts { (1 ≤ words.now.attempts) × (words.now.attempts ≤ 10) }
     ensures statuses { result ≤ 3 }
 {
-    let mut err = FaultObjects::new(rt.alloc(), words.report, err);
-    let status = match faults_of(rt.alloc(), &words.slaves, &mut err) {
-        Ok(faults) => {
-            let options = Options {
-                workers: words.workers,
-                attempts: words.attempts,
-                faults,
-            };
-            run_list(rt, words, &options, out, &mut err)
-        }
-        Err(status) => status,
+    let faults = match faults_of(words.report, rt.alloc(), &words.slaves, err) {
+        Ok(faults) => faults,
+        Err(status) => return status,
     };
-    err.end(status)
+    let options = Options {
+        workers: words.workers,
+        attempts: words.attempts,
+        faults,
+    };
+    run_list(rt, words, &options, out, err)
 }

@@ -8,7 +8,7 @@ fn is_escaped(byte: u8) -> bool {
 }
 
 /// Writes a character as it stands in a string.
-pub(crate) fn put_escaped<W: Write>(out: &mut W, byte: u8) -> io::Result<()> {
+fn put_escaped<W: Write>(out: &mut W, byte: u8) -> io::Result<()> {
     match byte {
         b'"' => out.write_all(b"\\\""),
         b'\\' => out.write_all(b"\\\\"),

@@ -11,6 +11,7 @@ use canboot_faults::{FAILED, REFUSED, fault_line, input_fault_line, output_statu
 use canboot_refusing::read_fault_of;
 use cm_device::{FileFault, Item, MOST_WRITES, Settings};
 use cm_netlist::put_name;
+use cm_report::ReportForm;
 use cm_text::{InputFault, read_input};
 use std::alloc::Global;
 use std::fs;
@@ -34,13 +35,15 @@ fn put_bad_identity<E: Write>(identity: &Identity<'_>, err: &mut E) -> io::Resul
     put_uncompared(identity, "  ", err)
 }
 
-/// Writes that a file has too many writes.
-fn put_many<E: Write>(settings: &Settings<'_>, err: &mut E) -> io::Result<()> {
+/// Writes that a file has too many writes, and gives the exit status.
+fn refuse_many<E: Write>(settings: &Settings<'_>, err: &mut E) -> u8
+    ensures { result ≡ 1 }
+{
     let all = settings.settings.len().saturating_add(settings.behind);
-    writeln!(
-        err,
-        "canboot: the file gives {all} writes, and a slave has {MOST_WRITES} at most: --first {MOST_WRITES} takes the first ones"
-    )
+    let said = format_args!(
+        "the file gives {all} writes, and a slave has {MOST_WRITES} at most: --first {MOST_WRITES} takes the first ones"
+    );
+    fault_line(err, REFUSED, said)
 }
 
 /// Writes that not each value of a file is a write, and which aren't.
@@ -56,8 +59,7 @@ fn refuse_import<E: Write>(err: &mut E, fault: ImportFault<'_>) -> u8
     match fault {
         ImportFault::File(FileFault::OutOfMemory) => input_fault_line(err, InputFault::Memory),
         ImportFault::File(FileFault::Line(line, fault)) => {
-            let _ = writeln!(err, "canboot: line {line}: {fault}");
-            REFUSED
+            fault_line(err, REFUSED, format_args!("line {line}: {fault}"))
         }
         ImportFault::NoDevice => fault_line(err, REFUSED, "neither 1000h nor 1018h is in the file"),
         ImportFault::BadNode(item) => {
@@ -68,10 +70,7 @@ fn refuse_import<E: Write>(err: &mut E, fault: ImportFault<'_>) -> u8
             let _ = put_bad_identity(&identity, err);
             REFUSED
         }
-        ImportFault::Many(settings) => {
-            let _ = put_many(&settings, err);
-            REFUSED
-        }
+        ImportFault::Many(settings) => refuse_many(&settings, err),
         ImportFault::Unwritten(settings) => {
             let _ = put_bad_values(&settings, err);
             REFUSED
@@ -141,6 +140,6 @@ pub fn import_file<R: Files + AllocGlobal, W: Write, E: Write>(
 {
     match fs::open(rt, path) {
         Ok(mut file) => import_text(rt.alloc(), words, &mut file, out, err),
-        Err(error) => read_fault_of(err, path, error.kind()),
+        Err(error) => read_fault_of(ReportForm::Text, path, error.kind(), err),
     }
 }

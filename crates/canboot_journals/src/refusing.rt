@@ -3,7 +3,7 @@
 ghost use Rattle.std.specs.Prelude.{◌≡◌, ◌≢◌, ◌⊎◌};
 ghost use Rattle.canboot_journals.specs.Replay.{IsOfText};
 
-use canboot_faults::{Fault, Place, REFUSED, tell, tell_input};
+use canboot_faults::{Fault, Place, REFUSED, Unexplained, tell, tell_input};
 use cm_format::{FaultKind, JournalFault};
 use cm_journal::ReadFault;
 use cm_report::ReportForm;
@@ -22,6 +22,7 @@ pub fn refuse_journal<E: Write>(form: ReportForm, fault: JournalFault, err: &mut
                 status: REFUSED,
                 place: Place::Line(fault.line),
                 what,
+                explained: Unexplained,
             };
             tell(form, &fault, err)
         }

@@ -11,6 +11,7 @@ use canboot_check::put_check;
 use canboot_faults::{input_fault_line, output_status};
 use canboot_refusing::{read_fault_of, refuse_explained};
 use cm_netlist::{LONGEST_LIST, Network, list_of};
+use cm_report::ReportForm;
 use cm_text::read_input;
 use std::alloc::Global;
 use std::fs;
@@ -59,7 +60,7 @@ pub fn explain_text<R: Read, W: Write, E: Write>(
     };
     match list_of(alloc, bytes.as_slice()) {
         Ok(network) => output_status(err, put_explained(&network, out)),
-        Err(fault) => refuse_explained(alloc, bytes.as_slice(), fault, err),
+        Err(fault) => refuse_explained(ReportForm::Text, alloc, bytes.as_slice(), fault, err),
     }
 }
 
@@ -74,6 +75,6 @@ pub fn explain_file<R: Files + AllocGlobal, W: Write, E: Write>(
 {
     match fs::open(rt, path) {
         Ok(mut file) => explain_text(rt.alloc(), &mut file, out, err),
-        Err(error) => read_fault_of(err, path, error.kind()),
+        Err(error) => read_fault_of(ReportForm::Text, path, error.kind(), err),
     }
 }

@@ -1,5 +1,5 @@
 -- What the live run of a network list does.
-use Rattle.std.specs.Prelude.{◌≡◌, ◌⊎◌, ℕ, Bool, List, [], Option}
+use Rattle.std.specs.Prelude.{◌≡◌, ◌⊎◌, ◌+◌, ℕ, Bool, List, [], Option}
 use Rattle.std.specs.Io.KnownBytes.{Appends}
 use Rattle.cm_nmt.specs.declared.frame.Frame.{Frame}
 use Rattle.cm_netlist.specs.Network.{Network, listing}
@@ -39,16 +39,25 @@ abbrev pub KeptOrBegins : {A : Type 0} → Network → ℕ → ℕ → (A → Op
 KeptOrBegins net seats limit contents journal journal' failed Sends =
     ((journal' ≡ journal) × Sends []) ⊎ Begins net seats limit (contents journal) (contents journal') (failed journal') Sends
 
+-- a journal of this network list, of version 2, whose entries are legal, which has a seat for each of this many workers and one
+-- more, and this limit
+pub record IsRunOn (net : Network) (workers limit : ℕ) (j : JournalView) : Type 0 where
+  pub network : j.network ≡ net
+  pub version : j.version ≡ Two
+  pub journal : IsJournal j
+  pub seats : j.seats ≡ workers + 1
+  pub most : j.limit ≡ limit
+
 module _ {W : Type 0} (contents : W → Option (List ℕ)) (format : Format) (received typed : Option (List ℕ)) where
-  -- a live run that ended in order: of the legal history of a journal of the list just the report was written, to the
+  -- a live run that ended in order: of the legal history of such a journal just the report was written, to the
   -- journal's output, if there is one, just the text of that journal, and to the outlet of messages, of which no write has
   -- failed, just the lines of that history's frames; in it each report whose orders start a slave has the slave's identity
   -- among the frames that stand in what the reader of received frames held; and each request in it is one of seat 1, which has
   -- started the network, and stands as a line in what the reader of typed lines held, in their order
-  pub record RunsLive (report : ReportForm) (workers limit : ℕ) (input input' output output' : Option (List ℕ)) (journal journal' : Option (Option (List ℕ)))
+  pub record RunsLiveOf (Is : JournalView → Type 0) (report : ReportForm) (output output' : Option (List ℕ)) (journal journal' : Option (Option (List ℕ)))
       (messages messages' : Option (Outlet W)) : Type 0 where
     pub of : JournalView
-    pub run : IsRun workers limit input input' of
+    pub run : Is of
     pub heard : IsAllHeard format received of.network of.seats of.entries
     pub operated : IsOperatedLive typed of.entries
     pub reported : Appends output output' (report_in report of.network of.entries)
@@ -56,13 +65,19 @@ module _ {W : Type 0} (contents : W → Option (List ℕ)) (format : Format) (re
     pub sent : SendsMessages contents (frames_in (listing of.network) of.entries) messages messages'
     pub well : IsWell messages'
 
-  -- of the journal of a live run, whose history is legal, the beginning of the text was written to its output, if there is one,
+  -- the same of a journal of the list that the input was
+  abbrev pub RunsLive : ReportForm → ℕ → ℕ → Option (List ℕ) → Option (List ℕ) → Option (List ℕ) → Option (List ℕ)
+      → Option (Option (List ℕ)) → Option (Option (List ℕ)) → Option (Outlet W) → Option (Outlet W) → Type 0
+  RunsLive report workers limit input input' output output' journal journal' messages messages' =
+      RunsLiveOf (IsRun workers limit input input') report output output' journal journal' messages messages'
+
+  -- of such a journal of a live run, whose history is legal, the beginning of the text was written to its output, if there is one,
   -- and all of it where no write has failed, but for its last line where the history isn't closed; where it is, the identity
   -- of each slave that a report started was heard so, and each request was typed so; and just the frames of this history were sent
-  pub record RecordsLive (workers limit : ℕ) (input input' : Option (List ℕ)) (journal journal' : Option (Option (List ℕ))) (failed : Bool)
+  pub record RecordsLive (Is : JournalView → Type 0) (journal journal' : Option (Option (List ℕ))) (failed : Bool)
       (messages messages' : Option (Outlet W)) : Type 0 where
     pub of : JournalView
-    pub run : IsRun workers limit input input' of
+    pub run : Is of
     pub recorded : (IsWritten journal journal' failed (text of) × IsAllHeard format received of.network of.seats of.entries
         × IsOperatedLive typed of.entries)
         ⊎ IsWritten journal journal' failed (unended_text of)
@@ -72,10 +87,16 @@ module _ {W : Type 0} (contents : W → Option (List ℕ)) (format : Format) (re
   abbrev pub SendsNothing : Option (Outlet W) → Option (Outlet W) → Type 0
   SendsNothing messages messages' = (messages' ≡ messages) ⊎ SendsMessages contents [] messages messages'
 
-  -- nothing was written or sent; or the beginning of the journal of a live run, just whose frames were sent
+  -- nothing was written or sent; or the beginning of such a journal of a live run, just whose frames were sent
+  abbrev pub FailsToLiveOf : (JournalView → Type 0) → Option (List ℕ) → Option (List ℕ) → Option (Option (List ℕ)) → Option (Option (List ℕ)) → Bool
+      → Option (Outlet W) → Option (Outlet W) → Type 0
+  FailsToLiveOf Is output output' journal journal' failed messages messages' =
+      ((output' ≡ output) × (journal' ≡ journal) × SendsNothing messages messages')
+      ⊎ RecordsLive Is journal journal' failed messages messages'
+
+  -- the same of a journal of the list that the input was
   abbrev pub FailsToLive : ℕ → ℕ → Option (List ℕ) → Option (List ℕ) → Option (List ℕ) → Option (List ℕ)
       → Option (Option (List ℕ)) → Option (Option (List ℕ)) → Bool
       → Option (Outlet W) → Option (Outlet W) → Type 0
   FailsToLive workers limit input input' output output' journal journal' failed messages messages' =
-      ((output' ≡ output) × (journal' ≡ journal) × SendsNothing messages messages')
-      ⊎ RecordsLive workers limit input input' journal journal' failed messages messages'
+      FailsToLiveOf (IsRun workers limit input input') output output' journal journal' failed messages messages'

@@ -3,21 +3,22 @@
 ghost use Rattle.std.specs.Prelude.{◌≡◌, ◌≤◌, ◌⊎◌, IfErr};
 
 use crate::ends::{Followed, LiveEnds, LiveIo, LiveOutputs, LiveTrace};
-use crate::live::live_text;
-use canboot_cli::{Host, JournalPath, LivePaths, LiveWords};
-use canboot_faults::{FAILED, MISUSED, REFUSED, fault_line, read_fault, write_fault};
+use crate::live::live_listed;
+use canboot_cli::{Host, JournalPath, LiveWords};
+use canboot_faults::{FAILED, MISUSED, tell_unmade, tell_unopened, tell_words};
 use canboot_live_files::{
     EventFile, JournalFile, OperatorInput, ReplaceFile, StatusFile, make_journal, open_operator,
     wrong_path,
 };
-use canboot_refusing::{explain_names, read_fault_of, read_file, refuse_explained, write_fault_of};
+use canboot_refusing::{read_fault_of, read_file, refuse_explained, refuse_names, write_fault_of};
 use cm_bus::{
-    BusPaths, LiveOptions, Outlet, Unopened, channel_closing, channel_opening, format_of, open_bus,
-    writers_to,
+    BusOptions, LiveOptions, Outlet, Unopened, channel_closing, channel_opening, format_of,
+    open_bus, writers_to,
 };
-use cm_netlist::list_of;
+use cm_netlist::{Network, list_of};
 use cm_recorder::JournalOutput;
-use cm_shown::{Names, NamesFault, ShownLines, read_names};
+use cm_report::ReportForm;
+use cm_shown::{Names, ShownLines, read_names};
 use std::alloc::Global;
 use std::fs::File;
 use std::io::{self, BufWriter, ErrorKind, StdinLock, Write};
@@ -27,52 +28,54 @@ use std::time::Clock;
 
 /// How the network is booted and watched, as these words say.
 fn options_of(words: &LiveWords<'_>) -> LiveOptions
-    ensures { result.workers ≡ words.now.workers }
+    ensures { result.bus.workers ≡ words.now.workers }
 {
     LiveOptions {
-        workers: words.workers,
+        bus: BusOptions {
+            workers: words.workers,
+            answer_ms: words.answer_ms,
+            format: format_of(&words.bus),
+        },
         attempts: words.attempts,
-        answer_ms: words.answer_ms,
         settle_ms: words.settle_ms,
         heartbeat_ms: words.heartbeat_ms,
         seconds: words.seconds,
-        format: format_of(&words.bus),
     }
 }
 
-/// The fault of an operator's file that can't be opened, or is no FIFO.
-fn operator_fault<E: Write>(err: &mut E, kind: ErrorKind) -> u8
+/// The network of the list in the file of this path. The answer is else the exit status.
+fn read_network<R: Files + AllocGlobal, E: Write>(
+    rt: &R,
+    form: ReportForm,
+    path: &str,
+    err: &mut E,
+) -> Result<Network, u8>
+    ensures { IfErr result (λ status. (status ≡ 1) ⊎ (status ≡ 3)) }
+{
+    let text = read_file(rt, form, path, err)?;
+    let bytes = text.as_slice();
+    match list_of(rt.alloc(), bytes) {
+        Ok(network) => Ok(network),
+        Err(fault) => Err(refuse_explained(form, rt.alloc(), bytes, fault, err)),
+    }
+}
+
+/// Tells that an operator's file can't be opened, or is no FIFO, and gives the exit status.
+fn tell_no_operator<E: Write>(form: ReportForm, kind: ErrorKind, err: &mut E) -> u8
     ensures { result ≡ 3 }
 {
     match kind {
-        ErrorKind::InvalidInput => fault_line(err, FAILED, "the operator's file isn't a FIFO"),
-        _ => read_fault(err, kind),
+        ErrorKind::InvalidInput => {
+            tell_words(form, FAILED, "the operator's file isn't a FIFO", err)
+        }
+        _ => tell_unopened(form, kind, err),
     }
-}
-
-/// Writes the line of fault of a text of names, and behind it where it applies. The answer is the exit status.
-fn refuse_names<E: Write>(
-    alloc: Global,
-    path: &str,
-    text: &[u8],
-    fault: NamesFault,
-    err: &mut E,
-) -> u8
-    ensures { (result ≡ 1) ⊎ (result ≡ 3) }
-{
-    let status = match fault {
-        NamesFault::OutOfMemory => fault_line(err, FAILED, "out of memory"),
-        NamesFault::NotToml => fault_line(err, REFUSED, "names: not TOML"),
-        NamesFault::BadNode => fault_line(err, REFUSED, "names: bad node-ID"),
-        NamesFault::BadName => fault_line(err, REFUSED, "names: bad name"),
-    };
-    explain_names(alloc, path, text, fault, err);
-    status
 }
 
 /// The names of the file of this path; none without a path.
 fn read_names_file<R: Files + AllocGlobal, E: Write>(
     rt: &R,
+    form: ReportForm,
     path: Option<&str>,
     err: &mut E,
 ) -> Result<Names, u8>
@@ -81,20 +84,21 @@ fn read_names_file<R: Files + AllocGlobal, E: Write>(
     let Some(path) = path else {
         return Ok(Names::new(rt.alloc()));
     };
-    let text = match read_file(rt, path, err) {
+    let text = match read_file(rt, form, path, err) {
         Ok(text) => text,
         Err(status) => return Err(status),
     };
     let bytes = text.as_slice();
     match read_names(rt.alloc(), bytes) {
         Ok(names) => Ok(names),
-        Err(fault) => Err(refuse_names(rt.alloc(), path, bytes, fault, err)),
+        Err(fault) => Err(refuse_names(form, rt.alloc(), path, bytes, fault, err)),
     }
 }
 
 /// Opens what events are written to, if they are. The answer is else the exit status.
 fn open_events<R: Files<File = File>, E: Write>(
     rt: &R,
+    form: ReportForm,
     path: Option<&str>,
     err: &mut E,
 ) -> Result<Option<EventFile>, u8>
@@ -105,7 +109,7 @@ fn open_events<R: Files<File = File>, E: Write>(
     };
     match EventFile::open(rt, path) {
         Ok(file) => Ok(Some(file)),
-        Err(error) => Err(write_fault_of(err, path, error.kind())),
+        Err(error) => Err(write_fault_of(form, path, error.kind(), err)),
     }
 }
 
@@ -125,19 +129,20 @@ fn status_file<F: Drop>(
 /// Opens where other programs follow a live run. The answer is else the exit status.
 fn open_followed<R: Files<File = File> + AllocGlobal, F: Drop, E: Write>(
     rt: &R,
-    paths: &LivePaths<'_>,
+    words: &LiveWords<'_>,
     files: F,
     err: &mut E,
 ) -> Result<Followed<EventFile, F>, u8>
     ensures { IfErr result (λ status. status ≡ 3) }
 {
-    let events = match open_events(rt, paths.events, err) {
+    let (form, paths) = (words.report, &words.paths);
+    let events = match open_events(rt, form, paths.events, err) {
         Ok(events) => events,
         Err(status) => return Err(status),
     };
     match status_file(rt.alloc(), paths.status, files) {
         Ok(status) => Ok(Followed { events, status }),
-        Err(error) => Err(write_fault(err, error.kind())),
+        Err(error) => Err(tell_unmade(form, error.kind(), err)),
     }
 }
 
@@ -174,34 +179,28 @@ fn open_ends<
     R: Files<File = File> + Input<Reader = StdinLock<'static>> + AllocGlobal,
     F: ReplaceFile + Send + Drop + 'static,
     E: Write,
->(
-    rt: &R,
-    paths: &LivePaths<'_>,
-    bus: &BusPaths<'_>,
-    options: &LiveOptions,
-    files: F,
-    err: &mut E,
-) -> Result<OpenEnds<F>, u8>
-    requires workers { (1 ≤ options.now.workers) × (options.now.workers ≤ 16) }
+>(rt: &R, words: &LiveWords<'_>, files: F, err: &mut E) -> Result<OpenEnds<F>, u8>
+    requires workers { (1 ≤ words.now.workers) × (words.now.workers ≤ 16) }
     ensures { IfErr result (λ status. status ≡ 3) }
 {
-    let typed = match open_operator(rt, paths.operator) {
+    let form = words.report;
+    let typed = match open_operator(rt, words.paths.operator) {
         Ok(typed) => typed,
-        Err(error) => return Err(operator_fault(err, error.kind())),
+        Err(error) => return Err(tell_no_operator(form, error.kind(), err)),
     };
-    let (received, sent) = match open_bus(rt, bus) {
+    let (received, sent) = match open_bus(rt, &words.bus) {
         Ok(opened) => opened,
-        Err(Unopened { path, kind }) => return Err(read_fault_of(err, path, kind)),
+        Err(Unopened { path, kind }) => return Err(read_fault_of(form, path, kind, err)),
     };
     // One for each worker, one for error control, and one for the NMT messages.
-    let mut written = match writers_to(rt.alloc(), &sent, options.workers + 2) {
+    let mut written = match writers_to(rt.alloc(), &sent, words.workers + 2) {
         Ok(writers) => writers,
-        Err(error) => return Err(write_fault(err, error.kind())),
+        Err(error) => return Err(tell_unmade(form, error.kind(), err)),
     };
     let (Some(writer), Some(error_control)) = (written.pop(), written.pop()) else {
-        return Err(fault_line(err, FAILED, "out of memory"));
+        return Err(tell_words(form, FAILED, "out of memory", err));
     };
-    let followed = match open_followed(rt, paths, files, err) {
+    let followed = match open_followed(rt, words, files, err) {
         Ok(followed) => followed,
         Err(status) => return Err(status),
     };
@@ -213,7 +212,7 @@ fn open_ends<
             error_control,
             followed,
         },
-        messages: Outlet::new(writer, options.format),
+        messages: Outlet::new(writer, format_of(&words.bus)),
         sent,
     })
 }
@@ -233,6 +232,7 @@ fn make_journal_told<R: Files<File = File> + Clock + AllocGlobal, E: Write>(
 /// The same. The answer is else the exit status.
 fn open_journal<R: Files<File = File> + Clock + AllocGlobal, E: Write>(
     rt: &R,
+    form: ReportForm,
     journal: JournalPath<'_>,
     err: &mut E,
     is_coloured: bool,
@@ -242,16 +242,16 @@ fn open_journal<R: Files<File = File> + Clock + AllocGlobal, E: Write>(
     let made = make_journal_told(rt, journal, err, is_coloured);
     match (made, journal.path) {
         (Ok(output), _) => Ok(output),
-        (Err(error), Some(path)) => Err(write_fault_of(err, path, error.kind())),
-        (Err(error), None) => Err(write_fault(err, error.kind())),
+        (Err(error), Some(path)) => Err(write_fault_of(form, path, error.kind(), err)),
+        (Err(error), None) => Err(tell_unmade(form, error.kind(), err)),
     }
 }
 
-/// Runs over what was opened, as these words say.
+/// Runs the network of a list over what was opened, as these words say.
 fn live_over<R: Host, F: ReplaceFile + Send + Drop + 'static, O: Write, E: Write>(
     rt: &R,
     words: &LiveWords<'_>,
-    text: &[u8],
+    network: &Network,
     opened: OpenEnds<F>,
     journal: JournalOutput<JournalFile<File>>,
     out: &mut O,
@@ -275,10 +275,9 @@ fn live_over<R: Host, F: ReplaceFile + Send + Drop + 'static, O: Write, E: Write
             journal,
         },
     };
-    let _ = sent.write_all(channel_opening(options.format));
-    let mut list = text;
-    let status = live_text(rt, rt.alloc(), &mut list, options, ends, &mut outputs);
-    let _ = sent.write_all(channel_closing(options.format));
+    let _ = sent.write_all(channel_opening(options.bus.format));
+    let status = live_listed(rt, rt.alloc(), network, options, ends, &mut outputs);
+    let _ = sent.write_all(channel_closing(options.bus.format));
     status
 }
 
@@ -294,27 +293,23 @@ pub(crate) fn live_file<
     requires workers { (1 ≤ words.now.workers) × (words.now.workers ≤ 16) }
     ensures statuses { result ≤ 3 }
 {
-    let (paths, options) = (&words.paths, options_of(words));
-    let text = match read_file(rt, paths.network, err) {
-        Ok(text) => text,
+    let (form, paths) = (words.report, &words.paths);
+    let network = match read_network(rt, form, paths.network, err) {
+        Ok(network) => network,
         Err(status) => return status,
     };
-    let is_master = match list_of(rt.alloc(), text.as_slice()) {
-        Ok(network) => network.startup().is_master(),
-        Err(fault) => return refuse_explained(rt.alloc(), text.as_slice(), fault, err),
-    };
     if let Some(wrong) = wrong_path(rt, paths) {
-        return fault_line(err, MISUSED, wrong);
+        return tell_words(form, MISUSED, wrong, err);
     }
-    let names = match read_names_file(rt, paths.names, err) {
+    let names = match read_names_file(rt, form, paths.names, err) {
         Ok(names) => names,
         Err(status) => return status,
     };
-    let opened = match open_ends(rt, paths, &words.bus, &options, files, err) {
+    let opened = match open_ends(rt, words, files, err) {
         Ok(opened) => opened,
         Err(status) => return status,
     };
-    let journal = if is_master {
+    let journal = if network.startup().is_master() {
         paths.journal
     } else {
         JournalPath {
@@ -322,10 +317,10 @@ pub(crate) fn live_file<
             is_synced: false,
         }
     };
-    let journal = match open_journal(rt, journal, err, is_coloured) {
+    let journal = match open_journal(rt, form, journal, err, is_coloured) {
         Ok(output) => output,
         Err(status) => return status,
     };
     let mut shown = ShownLines::new(rt, rt.alloc(), err, is_coloured, Some(&names));
-    live_over(rt, words, text.as_slice(), opened, journal, out, &mut shown)
+    live_over(rt, words, &network, opened, journal, out, &mut shown)
 }

@@ -3,10 +3,9 @@
 ghost use Rattle.std.specs.Prelude.{◌≡◌, ◌≤◌, Err};
 
 use crate::files::live_file;
+use crate::live::tell_no_history;
 use canboot_cli::{Host, LiveWords};
-use canboot_faults::FaultObjects;
 use canboot_live_files::ReplaceFile;
-use canboot_run::no_history_line;
 use cm_run::{NoHistory, kept};
 use cm_shown::{Names, ShownLines};
 use crossbeam_channel::{Receiver, Sender};
@@ -187,21 +186,6 @@ fn start_told<
     })
 }
 
-/// Does what [`live_file`] does; with `--json` its fault is an object.
-fn live_words<
-    R: Host + Input<Reader = StdinLock<'static>>,
-    F: ReplaceFile + Send + Drop + 'static,
-    O: Write,
-    E: Write,
->(rt: &R, words: &LiveWords<'_>, files: F, out: &mut O, err: &mut E, is_coloured: bool) -> u8
-    requires workers { (1 ≤ words.now.workers) × (words.now.workers ≤ 16) }
-    ensures statuses { result ≤ 3 }
-{
-    let mut err = FaultObjects::new(rt.alloc(), words.report, err);
-    let status = live_file(rt, words, files, out, &mut err, is_coloured);
-    err.end(status)
-}
-
 /// `canboot live`, over the files that these words name. What it tells goes to `told`, if that is there, by a thread of its own, and
 /// else to `err`.
 pub fn live_told<
@@ -223,18 +207,14 @@ pub fn live_told<
     ensures statuses { result ≤ 3 }
 {
     let Some(told) = told else {
-        return live_words(rt, words, files, out, err, is_coloured);
+        return live_file(rt, words, files, out, err, is_coloured);
     };
     match start_told(rt, rt.alloc(), told) {
         Ok(mut lines) => {
-            let status = live_words(rt, words, files, out, &mut lines, is_coloured);
+            let status = live_file(rt, words, files, out, &mut lines, is_coloured);
             lines.end();
             status
         }
-        Err(none) => {
-            let mut err = FaultObjects::new(rt.alloc(), words.report, err);
-            let status = no_history_line(&mut err, none);
-            err.end(status)
-        }
+        Err(none) => tell_no_history(words.report, none, err),
     }
 }

@@ -3,8 +3,9 @@
 use crate::fault_line::{Sought, line_of};
 use crate::faulty_write::{put_value, put_write};
 use crate::toml_text::line_at;
+use canboot_faults::{ExplainedLines, Explanation};
 use cm_netlist::{
-    FaultPlace, IntegerKey, NetFault, Spot, fault_place, slave_integers, top_integers,
+    CheckFault, FaultPlace, IntegerKey, NetFault, Spot, fault_place, slave_integers, top_integers,
 };
 use cm_text::put_text;
 use std::alloc::Global;
@@ -92,11 +93,11 @@ fn put_slave_name<W: Write>(slave: &Table, number: usize, out: &mut W) -> io::Re
     }
 }
 
-/// Writes the begin of a line, with the line of the list and these words behind it where that is known.
+/// Writes the line of the list and these words behind it, where that is known.
 fn put_line<W: Write>(line: Option<usize>, words: &str, out: &mut W) -> io::Result<()> {
     match line {
-        Some(line) => write!(out, "  line {line}{words}"),
-        None => out.write_all(b"  "),
+        Some(line) => write!(out, "line {line}{words}"),
+        None => Ok(()),
     }
 }
 
@@ -121,14 +122,6 @@ fn put_key<W: Write>(table: &Table, key: &str, out: &mut W) -> io::Result<()> {
     }
 }
 
-/// The unit of a key's integer.
-fn unit(key: &str) -> &'static str {
-    match key {
-        "boot_time" | "heartbeat" | "time" => " ms",
-        _ => "",
-    }
-}
-
 /// Writes what is wrong with the key of an integer.
 fn put_integer<W: Write>(
     fault: NetFault,
@@ -146,9 +139,7 @@ fn put_integer<W: Write>(
     write!(
         out,
         ": must be {} to {}{}",
-        key.least,
-        key.greatest,
-        unit(key.name)
+        key.least, key.greatest, key.unit
     )
 }
 
@@ -304,13 +295,13 @@ fn put_begin<W: Write>(
 }
 
 /// Writes a place of a list, and what is wrong there.
-fn put_place<W: Write>(
+fn put_place<E: Write>(
     alloc: Global,
     text: &[u8],
     list: &Table,
     fault: NetFault,
     place: &FaultPlace<'_>,
-    out: &mut W,
+    lines: &mut ExplainedLines<'_, E>,
 ) -> io::Result<()> {
     let line = line_of_place(text, fault, place);
     let found = match place.slave {
@@ -320,52 +311,65 @@ fn put_place<W: Write>(
     let Some(table) = found else {
         return Ok(());
     };
-    put_begin(line, place, table, out)?;
-    put_spot(alloc, text, fault, table, place, out)?;
-    writeln!(out)
+    lines.begin()?;
+    put_begin(line, place, table, lines)?;
+    put_spot(alloc, text, fault, table, place, lines)?;
+    lines.end()
 }
 
 /// Writes why a text isn't TOML, and on which line.
-fn put_no_toml<W: Write>(text: &[u8], error: &toml::de::Error, out: &mut W) -> io::Result<()> {
-    match error.span() {
-        Some(span) => writeln!(
-            out,
-            "  line {}: {}",
-            line_at(text, span.start),
-            error.message()
-        ),
-        None => Ok(()),
-    }
+fn put_no_toml<E: Write>(
+    line: usize,
+    words: &str,
+    lines: &mut ExplainedLines<'_, E>,
+) -> io::Result<()> {
+    lines.begin()?;
+    write!(lines, "line {line}: {words}")?;
+    lines.end()
 }
 
 /// Writes where the fault applies, as far as that is known.
-fn put_fault<W: Write>(
+fn put_fault<E: Write>(
     alloc: Global,
     bytes: &[u8],
     fault: NetFault,
-    out: &mut W,
+    lines: &mut ExplainedLines<'_, E>,
 ) -> io::Result<()> {
     let text = match str::from_utf8(bytes) {
         Ok(text) => text,
-        Err(error) => {
-            let line = line_at(bytes, error.valid_up_to());
-            return writeln!(out, "  line {line}: not UTF-8");
-        }
+        Err(error) => return put_no_toml(line_at(bytes, error.valid_up_to()), "not UTF-8", lines),
     };
     let list = match toml::table_from_str(alloc, text) {
         Ok(list) => list,
-        Err(error) => return put_no_toml(bytes, &error, out),
+        Err(error) => {
+            return match error.span() {
+                Some(span) => put_no_toml(line_at(bytes, span.start), error.message(), lines),
+                None => Ok(()),
+            };
+        }
     };
     match fault_place(fault, &list) {
-        Some(place) => put_place(alloc, bytes, &list, fault, &place, out),
+        Some(place) => put_place(alloc, bytes, &list, fault, &place, lines),
         None => Ok(()),
     }
 }
 
-/// Writes where this fault of a network list applies, in a line that begins with two blanks: the line of the list, the slave, the key
-/// and its value, and what is allowed there. It is the place that [`fault_place`] gives; of a text that isn't TOML it is what the crate
-/// `toml` says. A line of the list that isn't found is left out, and nothing is written where memory is refused; a failed write is
-/// passed over.
-pub(crate) fn explain_fault<W: Write>(alloc: Global, text: &[u8], fault: NetFault, out: &mut W) {
-    let _ = put_fault(alloc, text, fault, out);
+/// Where a fault of a network list applies: the line of the list, the slave, the key and its value, and what is allowed there. It is the
+/// place that [`fault_place`] gives; of a text that isn't TOML it is what the crate `toml` says. A line of the list that isn't found is
+/// left out. Nothing is said of a list that wasn't read, or where memory is refused.
+#[derive(Clone, Copy)]
+pub(crate) struct ListPlace<'t> {
+    pub alloc: Global,
+    /// The bytes of the list.
+    pub text: &'t [u8],
+    pub fault: CheckFault,
+}
+
+impl<'t> Explanation for ListPlace<'t> {
+    fn explain<E: Write>(&self, lines: &mut ExplainedLines<'_, E>) -> io::Result<()> {
+        match self.fault {
+            CheckFault::List(fault) => put_fault(self.alloc, self.text, fault, lines),
+            CheckFault::Input(_) => Ok(()),
+        }
+    }
 }

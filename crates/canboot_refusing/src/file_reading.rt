@@ -2,17 +2,19 @@
 
 ghost use Rattle.std.specs.Prelude.{◌≡◌, IfErr};
 
-use crate::refusing::{read_fault_of, unread_fault_of};
+use crate::file_fault::{read_fault_of, unread_fault_of};
 use cm_netlist::LONGEST_LIST;
+use cm_report::ReportForm;
 use cm_text::read_input;
 use std::fs;
 use std::io::Write;
 use std::rt::Files;
 
-/// The bytes of the file of this path. The answer is else the exit status; the line of fault is written, and why the file can't be
+/// The bytes of the file of this path. The answer is else the exit status; the fault is told in this form, and why the file can't be
 /// opened or read.
 pub fn read_file<R: Files + AllocGlobal, E: Write>(
     rt: &R,
+    form: ReportForm,
     path: &str,
     err: &mut E,
 ) -> Result<Vec<u8>, u8>
@@ -21,8 +23,8 @@ pub fn read_file<R: Files + AllocGlobal, E: Write>(
     match fs::open(rt, path) {
         Ok(mut file) => match read_input(rt.alloc(), &mut file, LONGEST_LIST) {
             Ok(text) => Ok(text),
-            Err(fault) => Err(unread_fault_of(rt, err, path, fault)),
+            Err(fault) => Err(unread_fault_of(rt, form, path, fault, err)),
         },
-        Err(error) => Err(read_fault_of(err, path, error.kind())),
+        Err(error) => Err(read_fault_of(form, path, error.kind(), err)),
     }
 }

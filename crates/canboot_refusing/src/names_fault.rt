@@ -2,6 +2,7 @@
 
 use crate::fault_line::{Sought, line_of};
 use crate::toml_text::line_at;
+use canboot_faults::{ExplainedLines, Explanation};
 use cm_nmt::NodeId;
 use cm_shown::NamesFault;
 use cm_text::{Fields, put_text};
@@ -79,77 +80,72 @@ fn first_faulty<'a>(text: &[u8], table: &'a Table, fault: NamesFault) -> Option<
     first
 }
 
-/// Writes the begin of a line: the file, and the line there, where it is known.
+/// Writes the file, and the line there, where it is known.
 fn put_place<W: Write>(path: &str, line: Option<usize>, out: &mut W) -> io::Result<()> {
     match line {
-        Some(line) => write!(out, "  {path}, line {line}: "),
-        None => write!(out, "  {path}: "),
+        Some(line) => write!(out, "{path}, line {line}: "),
+        None => write!(out, "{path}: "),
     }
 }
 
 /// Writes which key has the fault, and what has to stand there.
-fn put_key<W: Write>(
-    path: &str,
-    found: &KeyFound<'_>,
-    fault: NamesFault,
-    out: &mut W,
-) -> io::Result<()> {
-    put_place(path, found.line, out)?;
+fn put_key<W: Write>(key: &str, fault: NamesFault, out: &mut W) -> io::Result<()> {
     out.write_all(b"'")?;
-    put_text(found.key, out)?;
-    match fault {
-        NamesFault::BadNode => writeln!(out, "': a node-ID, 1 to 127 without leading zeros"),
-        _ => writeln!(
-            out,
-            "': a string of 1 to 64 bytes, without control characters"
-        ),
-    }
+    put_text(key, out)?;
+    out.write_all(match fault {
+        NamesFault::BadNode => b"': a node-ID, 1 to 127 without leading zeros",
+        _ => b"': a string of 1 to 64 bytes, without control characters",
+    })
 }
 
-/// Writes where the fault applies, as far as that is known.
-fn put_fault<W: Write>(
-    alloc: Global,
+/// Writes why a text isn't TOML, and on which line, where it is known.
+fn put_no_toml<E: Write>(
     path: &str,
-    bytes: &[u8],
-    fault: NamesFault,
-    out: &mut W,
+    line: Option<usize>,
+    words: &str,
+    lines: &mut ExplainedLines<'_, E>,
 ) -> io::Result<()> {
-    let text = match str::from_utf8(bytes) {
-        Ok(text) => text,
-        Err(error) => {
-            put_place(path, Some(line_at(bytes, error.valid_up_to())), out)?;
-            return writeln!(out, "not UTF-8");
-        }
-    };
-    let table = match toml::table_from_str(alloc, text) {
-        Ok(table) => table,
-        Err(error) => {
-            let line = match error.span() {
-                Some(span) => Some(line_at(bytes, span.start)),
-                None => None,
-            };
-            put_place(path, line, out)?;
-            return writeln!(out, "{}", error.message());
-        }
-    };
-    match first_faulty(bytes, &table, fault) {
-        Some(found) => put_key(path, &found, fault, out),
-        None => Ok(()),
-    }
+    lines.begin()?;
+    put_place(path, line, lines)?;
+    lines.write_all(words.as_bytes())?;
+    lines.end()
 }
 
-/// Writes where this fault of a text of names applies, in a line that begins with two blanks: the file, the line, the key, and what has to
-/// stand there. Of several of its kind it is the first in the text. A line that isn't found is left out, and nothing is written where
-/// memory is refused; a failed write is passed over.
-pub fn explain_names<W: Write>(
-    alloc: Global,
-    path: &str,
-    text: &[u8],
-    fault: NamesFault,
-    out: &mut W,
-) {
-    let _ = match fault {
-        NamesFault::OutOfMemory => Ok(()),
-        _ => put_fault(alloc, path, text, fault, out),
-    };
+/// Where a fault of a text of names applies: the file, the line, the key, and what has to stand there. Of several of its kind it is the
+/// first in the text. A line that isn't found is left out, and nothing is said where memory is refused.
+#[derive(Clone, Copy)]
+pub(crate) struct NamesPlace<'t> {
+    pub alloc: Global,
+    /// The path of the file.
+    pub path: &'t str,
+    /// Its bytes.
+    pub text: &'t [u8],
+    pub fault: NamesFault,
+}
+
+impl<'t> Explanation for NamesPlace<'t> {
+    fn explain<E: Write>(&self, lines: &mut ExplainedLines<'_, E>) -> io::Result<()> {
+        let (path, bytes) = (self.path, self.text);
+        let text = match str::from_utf8(bytes) {
+            Ok(text) => text,
+            Err(error) => {
+                let line = line_at(bytes, error.valid_up_to());
+                return put_no_toml(path, Some(line), "not UTF-8", lines);
+            }
+        };
+        let table = match toml::table_from_str(self.alloc, text) {
+            Ok(table) => table,
+            Err(error) => {
+                let line = error.span().map(|span| line_at(bytes, span.start));
+                return put_no_toml(path, line, error.message(), lines);
+            }
+        };
+        let Some(found) = first_faulty(bytes, &table, self.fault) else {
+            return Ok(());
+        };
+        lines.begin()?;
+        put_place(path, found.line, lines)?;
+        put_key(found.key, self.fault, lines)?;
+        lines.end()
+    }
 }

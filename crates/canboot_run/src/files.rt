@@ -2,11 +2,12 @@
 
 ghost use Rattle.std.specs.Prelude.{◌≡◌, ◌≤◌, IfOk, None, false, is_some, true};
 
-use crate::running::{Asked, run_listed, unlisted_line};
+use crate::running::{Asked, run_listed, tell_unlisted};
 use canboot_faults::{
-    MISUSED, fault_line, input_fault_line, is_list, read_fault, refuse, write_fault,
+    MISUSED, is_list, tell_input, tell_list, tell_unmade, tell_unopened, tell_words,
 };
 use cm_netlist::{CheckFault, LONGEST_LIST, Network, list_of};
+use cm_report::ReportForm;
 use cm_text::{InputFault, read_input};
 use std::fs;
 use std::io::{self, BufWriter, ErrorKind, Write};
@@ -34,20 +35,20 @@ pub enum NoNetwork {
     },
 }
 
-/// Writes in one line why a run has no network, and gives its exit status: 2 where the journal's file would be the list itself, 1 for a
+/// Tells in this form why a run has no network, and gives its exit status: 2 where the journal's file would be the list itself, 1 for a
 /// fault of the list, 3 for any other.
-pub fn refuse_run<E: Write>(err: &mut E, none: &NoNetwork) -> u8
+pub fn refuse_run<E: Write>(form: ReportForm, none: &NoNetwork, err: &mut E) -> u8
     ensures { result ≤ 3 }
 {
     match none {
-        NoNetwork::Unopened(kind) => read_fault(err, *kind),
+        NoNetwork::Unopened(kind) => tell_unopened(form, *kind, err),
         NoNetwork::JournalIsList => {
             let said = "the file of the journal is the network list";
-            fault_line(err, MISUSED, said)
+            tell_words(form, MISUSED, said, err)
         }
-        NoNetwork::Unread(fault) => input_fault_line(err, *fault),
-        NoNetwork::Unmade(kind) => write_fault(err, *kind),
-        NoNetwork::Faulty { fault, .. } => refuse(err, *fault),
+        NoNetwork::Unread(fault) => tell_input(form, *fault, err),
+        NoNetwork::Unmade(kind) => tell_unmade(form, *kind, err),
+        NoNetwork::Faulty { fault, .. } => tell_list(form, *fault, err),
     }
 }
 
@@ -102,11 +103,11 @@ pub fn run_network<R: Files + AllocGlobal + Wait + Threads + Send + Sync, W: Wri
     ensures { result ≤ 3 }
 {
     if let Some(node) = asked.options.faults.unlisted(network) {
-        return unlisted_line(err, node);
+        return tell_unlisted(asked.form, node, err);
     }
     match make(rt, journal) {
         Ok(mut file) => run_listed(rt, rt.alloc(), network, asked, out, err, &mut file),
-        Err(error) => write_fault(err, error.kind()),
+        Err(error) => tell_unmade(asked.form, error.kind(), err),
     }
 }
 

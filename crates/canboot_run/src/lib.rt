@@ -16,7 +16,7 @@ mod slave_words;
 mod uncompared;
 
 pub use files::{NoNetwork, network_of_file, refuse_run, run_network};
-pub use running::{Asked, no_history_line, run_text, run_text_as};
+pub use running::{Asked, run_text, run_text_as};
 pub use simulation::{LONGEST_RUN, Options};
 pub use slave_faults::{AbortedObject, SlaveFaults, SlaveValue, WrongValue};
 pub use slave_options::{SlaveOption, set_fault};

@@ -7,7 +7,8 @@ ghost use Rattle.cm_typed.specs.NodeLists.{is_node_list};
 
 use crate::slave_faults::SlaveFaults;
 use crate::slave_words::{aborted_in, wrong_in};
-use canboot_faults::{FAILED, MISUSED, fault_line};
+use canboot_faults::{FAILED, MISUSED, tell_words};
+use cm_report::ReportForm;
 use cm_typed::with_nodes;
 use std::io::Write;
 
@@ -159,9 +160,11 @@ fn misspelled<E: Write>(err: &mut E, option: SlaveOption, value: &str) -> u8
     MISUSED
 }
 
-/// Adds what an option with this value says. Where its value is spelled otherwise, that
-/// is written, and the exit status is 2; 3 where memory was refused. Then all is said of slaves that was said before.
+/// Adds what an option with this value says. Where its value is spelled otherwise, that is written as the command line's reader writes
+/// it, and the exit status is 2; where memory was refused, that is told in this form, and it is 3. Then all is said of slaves that was said
+/// before.
 pub fn set_fault<E: Write>(
+    form: ReportForm,
     faults: &mut SlaveFaults,
     option: SlaveOption,
     value: &str,
@@ -176,6 +179,6 @@ pub fn set_fault<E: Write>(
     match say_of_slaves(faults, option, value) {
         Ok(()) => Ok(()),
         Err(WordFault::Spelling) => Err(misspelled(err, option, value)),
-        Err(WordFault::OutOfMemory) => Err(fault_line(err, FAILED, "out of memory")),
+        Err(WordFault::OutOfMemory) => Err(tell_words(form, FAILED, "out of memory", err)),
     }
 }

@@ -1,6 +1,6 @@
 //! `canboot run` as a program of its own.
 
-ghost use Rattle.std.specs.Prelude.{◌≡◌, ◌≤◌, IfErr, IfSome};
+ghost use Rattle.std.specs.Prelude.{◌≡◌, ◌≤◌, IfErr};
 ghost use Rattle.canboot_run_main.specs.Words.{AreInRange};
 
 use canboot_faults::{FAILED, MISUSED, fault_line, read_fault};
@@ -14,18 +14,6 @@ use std::rt::{Env, Files};
 use std::sync::Wait;
 use std::thread::Threads;
 
-/// A number of 1 to `most`.
-fn number_of(word: &str, most: u8) -> Option<u8>
-    ensures { IfSome result (λ n. (1 ≤ n) × (n ≤ most)) }
-{
-    let number = word.parse::<u8>().ok()?;
-    if 0 < number && number <= most {
-        Some(number)
-    } else {
-        None
-    }
-}
-
 /// What says the option of this name of slaves.
 fn slave_option(name: &str) -> Option<SlaveOption> {
     match name {
@@ -37,18 +25,18 @@ fn slave_option(name: &str) -> Option<SlaveOption> {
     }
 }
 
-/// Sets a number of 1 to `most`.
+/// Sets a number of 1 to `most`, in decimal as `canboot run` takes it.
 fn set_number<E: Write>(number: &mut u8, value: &str, most: u8, err: &mut E) -> Result<(), u8>
     requires { (1 ≤ number.old) × (number.old ≤ most) }
     ensures range { (1 ≤ number.new) × (number.new ≤ most) }
     ensures status { IfErr result (λ status. status ≤ 3) }
 {
-    match number_of(value, most) {
-        Some(given) => {
+    match value.parse::<u8>() {
+        Ok(given) if 0 < given && given <= most => {
             *number = given;
             Ok(())
         }
-        None => Err(misused(err)),
+        _ => Err(misused(err)),
     }
 }
 
@@ -67,7 +55,7 @@ fn set_option<E: Write>(
         "--workers" => set_number(&mut options.workers, value, 16, err),
         "--attempts" => set_number(&mut options.attempts, value, 10, err),
         _ => match slave_option(name) {
-            Some(option) => set_fault(&mut options.faults, option, value, err),
+            Some(option) => set_fault(ReportForm::Text, &mut options.faults, option, value, err),
             None => Err(misused(err)),
         },
     }
@@ -166,7 +154,7 @@ fn run_file<R: Files + AllocGlobal + Wait + Threads + Send + Sync, W: Write, E: 
     };
     match network_of_file(rt, path, journal) {
         Ok(network) => run_network(rt, &network, asked, journal, out, err),
-        Err(none) => refuse_run(err, &none),
+        Err(none) => refuse_run(ReportForm::Text, &none, err),
     }
 }
 

@@ -2,11 +2,13 @@
 
 ghost use Rattle.std.specs.Prelude.{◌≡◌, ◌≤◌, ◌⊎◌, IfErr};
 
-use crate::scan::{ListForm, Scan, ScanEnds, ScanOptions, scan_check, scan_text};
+use crate::scan::{ListForm, Scan, ScanEnds, scan_check, scan_text};
 use canboot_cli::{Host, ScanOutput, ScanWords};
-use canboot_faults::{FAILED, MISUSED, fault_line, write_fault};
+use canboot_faults::{FAILED, MISUSED, tell_unmade, tell_words};
 use canboot_refusing::{read_fault_of, read_file, refuse_explained};
-use cm_bus::{Unopened, channel_closing, channel_opening, format_of, open_bus, writers_to};
+use cm_bus::{
+    BusOptions, Unopened, channel_closing, channel_opening, format_of, open_bus, writers_to,
+};
 use cm_history::NodeSet;
 use cm_netlist::{Network, list_of};
 use cm_nmt::NodeId;
@@ -38,10 +40,11 @@ fn read_output<R: Files + AllocGlobal, E: Write>(
             with_profiles: *with_profiles,
         })),
         ScanOutput::Differences { network, form } => {
-            let text = read_file(rt, *network, err)?;
-            match list_of(rt.alloc(), text.as_slice()) {
+            let text = read_file(rt, *form, *network, err)?;
+            let bytes = text.as_slice();
+            match list_of(rt.alloc(), bytes) {
                 Ok(network) => Ok(Output::Differences(network, *form)),
-                Err(fault) => Err(refuse_explained(rt.alloc(), text.as_slice(), fault, err)),
+                Err(fault) => Err(refuse_explained(*form, rt.alloc(), bytes, fault, err)),
             }
         }
     }
@@ -87,7 +90,8 @@ fn scan_over<R: Host, O: Write, E: Write>(
     }
 }
 
-/// `canboot scan`, over the files that these words name. A network list is read before the bus is opened.
+/// `canboot scan`, over the files that these words name. A network list is read before the bus is opened. A fault is told in the form
+/// in which what is found is printed.
 pub fn scan_file<R: Host, O: Write, E: Write>(
     rt: &R,
     words: &ScanWords<'_>,
@@ -96,29 +100,30 @@ pub fn scan_file<R: Host, O: Write, E: Write>(
 ) -> u8
     ensures statuses { result ≤ 3 }
 {
-    let alloc = rt.alloc();
+    let (alloc, form) = (rt.alloc(), words.output.form());
     let Some(nodes) = node_list(words.nodes.as_bytes()) else {
-        return fault_line(err, MISUSED, "--nodes has node-IDs 1 to 127, as 5 or 2,5-9");
+        let said = "--nodes has node-IDs 1 to 127, as 5 or 2,5-9";
+        return tell_words(form, MISUSED, said, err);
     };
     let output = match read_output(rt, &words.output, err) {
         Ok(output) => output,
         Err(status) => return status,
     };
     let Ok(asked) = asked(alloc, &nodes, &output) else {
-        return fault_line(err, FAILED, "out of memory");
+        return tell_words(form, FAILED, "out of memory", err);
     };
-    let options = ScanOptions {
+    let options = BusOptions {
         workers: words.workers,
         answer_ms: words.answer_ms,
         format: format_of(&words.bus),
     };
     let (received, mut sent) = match open_bus(rt, &words.bus) {
         Ok(opened) => opened,
-        Err(Unopened { path, kind }) => return read_fault_of(err, path, kind),
+        Err(Unopened { path, kind }) => return read_fault_of(form, path, kind, err),
     };
     let written = match writers_to(alloc, &sent, options.workers) {
         Ok(written) => written,
-        Err(error) => return write_fault(err, error.kind()),
+        Err(error) => return tell_unmade(form, error.kind(), err),
     };
     let scan = Scan {
         nodes: asked.as_slice(),

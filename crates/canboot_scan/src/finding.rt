@@ -4,9 +4,9 @@ ghost use Rattle.std.specs.Prelude.{◌≡◌, All, IfOk};
 ghost use Rattle.canboot_scan.specs.Scanning.{IsHeardDevice};
 
 use crate::asking::ask_nodes;
-use crate::scan::{Scan, ScanEnds, ScanOptions};
+use crate::scan::{Scan, ScanEnds};
 use crate::scanned::{BusSaid, NoScan, Scanned, in_order};
-use cm_bus::{LiveOptions, set_up};
+use cm_bus::set_up;
 use cm_can::{BusState, CanError, Remark};
 use cm_netlist::Network;
 use cm_receiving::{BusName, Notification};
@@ -19,21 +19,6 @@ use std::sync::Wait;
 use std::sync::atomic::Ordering;
 use std::thread::Threads;
 use std::time::Clock;
-
-/// The options of a live run that a scan has in common with it.
-fn live_options(options: ScanOptions) -> LiveOptions
-    ensures { result.format ≡ options.format }
-{
-    LiveOptions {
-        workers: options.workers,
-        attempts: 1,
-        answer_ms: options.answer_ms,
-        settle_ms: 0,
-        heartbeat_ms: 0,
-        seconds: None,
-        format: options.format,
-    }
-}
 
 /// The interface says this of the bus.
 fn take_error(said: &mut BusSaid, error: &CanError) {
@@ -81,7 +66,7 @@ fn find_on<
         options,
         ends,
     } = scan;
-    let (setting, notifications) = set_up(rt, alloc, network, live_options(options))?;
+    let (setting, notifications) = set_up(rt, alloc, network, options)?;
     let ScanEnds { received, written } = ends;
     let devices = ask_nodes::<_, B, _, _>(&setting, nodes, received, written)?;
     if setting.broken.load(Ordering::SeqCst) {

@@ -24,4 +24,4 @@ mod scan;
 mod scanned;
 
 pub use files::scan_file;
-pub use scan::{ListForm, Scan, ScanEnds, ScanOptions, scan_check, scan_text};
+pub use scan::{ListForm, Scan, ScanEnds, scan_check, scan_text};

@@ -6,10 +6,9 @@ ghost use Rattle.canboot_scan.specs.Scans.{IsListOfFound, ListsFound, listed_as}
 
 use crate::found::Found;
 use crate::list_text::put_found;
-use cm_netlist::{NetFault, Network};
+use cm_netlist::{CheckFault, Network, list_of};
 use cm_nmt::{Assignment, NodeId, Terms};
 use std::alloc::Global;
-use std::str;
 
 /// Why no list is given.
 #[derive(Clone, Copy)]
@@ -88,13 +87,10 @@ fn lists(network: &Network, own: NodeId, found: &[Found]) -> bool
 fn is_list_of(alloc: Global, text: &[u8], own: NodeId, found: &[Found]) -> Result<bool, ScanFault>
     ensures { IfOk result (λ is. IsTrue is → IsListOfFound text.now own found.now) }
 {
-    let Ok(text) = str::from_utf8(text) else {
-        return Ok(false);
-    };
-    match Network::from_toml(alloc, text) {
+    match list_of(alloc, text) {
         Ok(network) => Ok(lists(&network, own, found)),
-        Err(NetFault::OutOfMemory) => Err(ScanFault::OutOfMemory),
-        Err(_) => Ok(false),
+        Err(CheckFault::List(_)) => Ok(false),
+        Err(CheckFault::Input(_)) => Err(ScanFault::OutOfMemory),
     }
 }
 

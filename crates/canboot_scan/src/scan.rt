@@ -11,7 +11,8 @@ use crate::differences::{put_lines, put_object};
 use crate::finding::find_devices;
 use crate::listing::{ScanFault, list_found};
 use crate::scanned::{BusSaid, NoScan, Scanned};
-use canboot_faults::{DONE, FAILED, REFUSED, fault_line, output_status};
+use canboot_faults::{DONE, FAILED, REFUSED, tell_output, tell_words};
+use cm_bus::BusOptions;
 use cm_can::Format;
 use cm_netlist::Network;
 use cm_nmt::{NodeId, Startup};
@@ -23,17 +24,6 @@ use std::io::{self, Read, Write};
 use std::sync::Wait;
 use std::thread::Threads;
 use std::time::Clock;
-
-/// How `canboot scan` asks.
-#[derive(Clone, Copy)]
-pub struct ScanOptions {
-    /// How many workers ask nodes, 1 to 16.
-    pub workers: u8,
-    /// How long an answer is waited for, in ms.
-    pub answer_ms: u32,
-    /// In what lines frames come and go.
-    pub format: Format,
-}
 
 /// Where the frames of a scan come from and go to.
 #[derive(Drop)]
@@ -50,7 +40,7 @@ pub struct Scan<'s, I, W> {
     /// The nodes that are asked.
     pub nodes: &'s [NodeId],
     /// How they are asked.
-    pub options: ScanOptions,
+    pub options: BusOptions,
     /// Where frames come from and go to.
     pub ends: ScanEnds<I, W>,
 }
@@ -64,8 +54,8 @@ pub struct ListForm {
     pub with_profiles: bool,
 }
 
-/// Writes why a scan gives nothing, and gives the exit status.
-fn no_scan_line<E: Write>(err: &mut E, none: NoScan) -> u8
+/// Tells why a scan gives nothing, and gives the exit status.
+fn tell_no_scan<E: Write>(form: ReportForm, none: NoScan, err: &mut E) -> u8
     ensures { result ≡ 3 }
 {
     let words = match none {
@@ -75,7 +65,7 @@ fn no_scan_line<E: Write>(err: &mut E, none: NoScan) -> u8
         NoScan::NotWritten => "write failed",
         NoScan::BusOff => "bus: off",
     };
-    fault_line(err, FAILED, words)
+    tell_words(form, FAILED, words, err)
 }
 
 /// Says what the bus said of itself.
@@ -121,7 +111,7 @@ fn put_text<O: Write>(text: &[u8], out: &mut O) -> io::Result<()>
     out.flush()
 }
 
-/// Writes the network list of what was found, and gives the exit status.
+/// Writes the network list of what was found, and gives the exit status. A fault is told in a line.
 fn put_list<O: Write, E: Write>(
     alloc: Global,
     scanned: &Scanned,
@@ -138,9 +128,16 @@ fn put_list<O: Write, E: Write>(
     let found = scanned.found.as_slice();
     let names = scanned.names.as_slice();
     match list_found(alloc, form.own, found, names, form.with_profiles) {
-        Ok(text) => output_status(err, put_text(text.as_slice(), out)),
-        Err(ScanFault::OutOfMemory) => fault_line(err, FAILED, "out of memory"),
-        Err(ScanFault::NoList) => fault_line(err, FAILED, "no network list has these devices"),
+        Ok(text) => tell_output(ReportForm::Text, put_text(text.as_slice(), out), err),
+        Err(ScanFault::OutOfMemory) => tell_words(ReportForm::Text, FAILED, "out of memory", err),
+        Err(ScanFault::NoList) => {
+            tell_words(
+                ReportForm::Text,
+                FAILED,
+                "no network list has these devices",
+                err,
+            )
+        }
     }
 }
 
@@ -173,7 +170,7 @@ pub fn scan_text<
             let _ = tell_beside(err, &network, format, &scanned);
             put_list(alloc, &scanned, form, out, err)
         }
-        Err(none) => no_scan_line(err, none),
+        Err(none) => tell_no_scan(ReportForm::Text, none, err),
     }
 }
 
@@ -195,7 +192,7 @@ fn put_compared<O: Write, E: Write>(
     match (output, differences) {
         (Ok(()), []) => DONE,
         (Ok(()), _) => REFUSED,
-        (Err(_), _) => fault_line(err, FAILED, "write failed"),
+        (Err(_), _) => tell_words(form, FAILED, "write failed", err),
     }
 }
 
@@ -228,7 +225,7 @@ pub fn scan_check<
     let format = scan.options.format;
     let scanned = match find_devices(rt, alloc, network, scan) {
         Ok(scanned) => scanned,
-        Err(none) => return no_scan_line(err, none),
+        Err(none) => return tell_no_scan(form, none, err),
     };
     let _ = tell_beside(err, network, format, &scanned);
     match compare(alloc, network, scanned.found.as_slice()) {
@@ -236,6 +233,6 @@ pub fn scan_check<
             let slaves = network.listed_ids().len();
             put_compared(differences.as_slice(), slaves, form, out, err)
         }
-        Err(_) => fault_line(err, FAILED, "out of memory"),
+        Err(_) => tell_words(form, FAILED, "out of memory", err),
     }
 }

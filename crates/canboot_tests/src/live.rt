@@ -6,7 +6,7 @@ ghost use Rattle.std.specs.Prelude.{◌≡◌, ◌≤◌, length};
 use canboot_journals::replay_text;
 use canboot_live::{Followed, LiveEnds, LiveIo, LiveOutputs, LiveTrace, live_text};
 use canboot_live_files::NoFiles;
-use cm_bus::{LiveOptions, Outlet};
+use cm_bus::{BusOptions, LiveOptions, Outlet};
 use cm_can::{CanFrame, Format, Kind, read_log_line};
 use cm_recorder::JournalOutput;
 use cm_report::ReportForm;
@@ -301,16 +301,18 @@ fn bus_of<R: Wait + Clone + Send + Drop + 'static>(
 
 /// Four workers.
 fn four_workers() -> LiveOptions
-    ensures { result.workers ≡ 4 }
+    ensures { result.bus.workers ≡ 4 }
 {
     LiveOptions {
-        workers: 4,
+        bus: BusOptions {
+            workers: 4,
+            answer_ms: 2000,
+            format: Format::CanUtils,
+        },
         attempts: 2,
-        answer_ms: 2000,
         settle_ms: 60_000,
         heartbeat_ms: 0,
         seconds: Some(0),
-        format: Format::CanUtils,
     }
 }
 

@@ -179,7 +179,7 @@ impl<'w, 'a, 'n, R: Wait + Clock + Drop, K: RunName, B: BusName, M: LiveRegister
     pub(crate) fn obey_next<E: Write>(&mut self, err: &mut E, now: u64) -> Result<(), Ending>
         requires { now < 2 ^ 63 }
         ensures obeyed { (s : WatchSettings) (past : Past) → Follows self.old.course.progress self.old.course.network.now s past
-            → IfOk result (λ _. HasTaken Typed self.old.course.setting.now.options.seconds B.typed
+            → IfOk result (λ _. HasTaken Typed self.old.course.options.seconds B.typed
             self.new.course.progress self.old.course.network.now s past now self.old.operator self.new.operator) }
         ensures network { IfOk result (λ _. self.new.course.network ≡ self.old.course.network) }
     {

@@ -2,7 +2,8 @@
 //!
 //! A [`Watcher`] takes what has happened, shows readers a version of the history ([`open_versions`]), tells it, obeys what is typed,
 //! sends what is to be sent for error control, and makes the steps of the watch as calls at the operator's seat or as boots that it hands
-//! to workers, until the run is to end ([`Ending`]). The register that it asks is a [`LiveRegister`].
+//! to workers, until the run is to end ([`Ending`]). The register that it asks is a [`LiveRegister`], and what
+//! the threads share a [`LiveSetting`].
 //!
 //! What is decided is `cm_watch`'s, who makes calls `cm_crew`'s, and what is said `canboot_saying`'s.
 #![tactic(auto)]
@@ -15,6 +16,7 @@ mod progress;
 mod publishing;
 mod register;
 mod saying;
+mod setting;
 mod steps;
 mod typing;
 mod versions;
@@ -23,4 +25,5 @@ mod watching;
 pub use ending::Ending;
 pub use publishing::open_versions;
 pub use register::LiveRegister;
+pub use setting::LiveSetting;
 pub use watching::Watcher;

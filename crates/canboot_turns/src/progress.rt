@@ -15,9 +15,10 @@ ghost use Rattle.cm_watched.specs.declared.happening.Moment.TheVariants.{Happene
 ghost use Rattle.cm_watched.specs.declared.settings.Settings.{Settings as WatchSettings};
 
 use crate::ending::{Ending, can_go_on};
+use crate::setting::LiveSetting;
 use crate::watching::{MOST_TAKEN, is_set};
 use canboot_saying::{Boots, Events, Teller, count_sent};
-use cm_bus::{Outlet, Setting};
+use cm_bus::{LiveOptions, Outlet, Setting};
 use cm_history::{CallFault, Entry};
 use cm_netlist::Network;
 use cm_nmt::NodeId;
@@ -155,6 +156,7 @@ impl Progress<Entry> {
 #[derive(Drop)]
 pub(crate) struct LiveCourse<'w, 'a, 'n, R> {
     pub(crate) setting: &'w Setting<'a, 'n, R>,
+    pub(crate) options: LiveOptions,
     pub(crate) network: &'n Network,
     pub(crate) progress: Progress<Entry>,
     pub(crate) teller: Teller,
@@ -162,19 +164,24 @@ pub(crate) struct LiveCourse<'w, 'a, 'n, R> {
 
 impl<'w, 'a, 'n, R: Wait + Clock> LiveCourse<'w, 'a, 'n, R> {
     /// Nothing has happened.
-    pub(crate) fn new(setting: &'w Setting<'a, 'n, R>, events: Events) -> LiveCourse<'w, 'a, 'n, R>
-        ensures network { result.network ≡ setting.now.network }
+    pub(crate) fn new(
+        setting: &'w LiveSetting<'a, 'n, R>,
+        events: Events,
+    ) -> LiveCourse<'w, 'a, 'n, R>
+        ensures network { result.network ≡ setting.now.bus.network }
         ensures follows { (net : NetworkList) → Follows result.progress net
             (record { settle_ms = setting.now.options.settle_ms; heartbeat_ms = setting.now.options.heartbeat_ms }) [] }
     {
+        let LiveSetting { bus, options } = setting;
         let settings = Settings {
-            settle_ms: setting.options.settle_ms,
-            heartbeat_ms: setting.options.heartbeat_ms,
+            settle_ms: options.settle_ms,
+            heartbeat_ms: options.heartbeat_ms,
         };
         LiveCourse {
-            setting,
-            network: setting.network,
-            progress: Progress::new(setting.alloc, settings),
+            setting: bus,
+            options: *options,
+            network: bus.network,
+            progress: Progress::new(bus.alloc, settings),
             teller: Teller::new(events),
         }
     }
@@ -217,10 +224,10 @@ impl<'w, 'a, 'n, R: Wait + Clock> LiveCourse<'w, 'a, 'n, R> {
         requires { now < 2 ^ 63 }
         ensures told { (s : WatchSettings) (past : Past) → Follows self.old.progress self.old.network.now s past
             → Follows self.new.progress self.old.network.now s
-            (ends_behind self.old.setting.now.options.seconds now ++ past) }
+            (ends_behind self.old.options.seconds now ++ past) }
         ensures network { self.new.network ≡ self.old.network }
     {
-        match self.setting.options.seconds {
+        match self.options.seconds {
             Some(seconds) => {
                 let rest_ms = u64::from(seconds) * 1000;
                 self.note(&Happening::Ends(now + rest_ms), now);
@@ -238,7 +245,7 @@ impl<'w, 'a, 'n, R: Wait + Clock> LiveCourse<'w, 'a, 'n, R> {
     ) -> Result<(), Ending>
         requires { now < 2 ^ 63 }
         ensures told { (s : WatchSettings) (past : Past) → Follows self.old.progress self.old.network.now s past → IfOk result
-            (λ _. (typed : Option (List ℕ)) (seat : SeatView) → HasTaken notification self.old.setting.now.options.seconds typed
+            (λ _. (typed : Option (List ℕ)) (seat : SeatView) → HasTaken notification self.old.options.seconds typed
             self.new.progress self.old.network.now s past now seat seat) }
         ensures network { self.new.network ≡ self.old.network }
     {

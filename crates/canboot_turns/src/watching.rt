@@ -14,9 +14,10 @@ use crate::progress::LiveCourse;
 use crate::publishing::Batches;
 use crate::register::LiveRegister;
 use crate::saying::running;
+use crate::setting::LiveSetting;
 use crate::typing::Typing;
 use canboot_saying::Events;
-use cm_bus::{Outlet, Setting};
+use cm_bus::Outlet;
 use cm_crew::OperatorSeat;
 use cm_history::Call;
 use cm_nmt::NodeId;
@@ -87,7 +88,7 @@ impl<'w, 'a, 'n, R: Wait + Clock + Drop, K: RunName, B: BusName, M: LiveRegister
 > {
     /// A watcher of the register's network, which the operator has started.
     pub fn new(
-        setting: &'w Setting<'a, 'n, R>,
+        setting: &'w LiveSetting<'a, 'n, R>,
         register: &'w M,
         operator: OperatorSeat<K, B>,
         typed: Receiver<TypedLine<B>>,
@@ -96,7 +97,7 @@ impl<'w, 'a, 'n, R: Wait + Clock + Drop, K: RunName, B: BusName, M: LiveRegister
         versions: VersionReader<K>,
     ) -> Watcher<'w, 'a, 'n, R, K, B, M>
         ensures operator { result.operator ≡ operator }
-        ensures network { result.course.network ≡ setting.now.network }
+        ensures network { result.course.network ≡ setting.now.bus.network }
         ensures follows { (net : NetworkList) → Follows result.course.progress net
             (record { settle_ms = setting.now.options.settle_ms; heartbeat_ms = setting.now.options.heartbeat_ms }) [] }
     {
@@ -108,7 +109,7 @@ impl<'w, 'a, 'n, R: Wait + Clock + Drop, K: RunName, B: BusName, M: LiveRegister
             typing: Typing::new(),
             jobs,
             versions,
-            batches: Batches::new(setting.alloc),
+            batches: Batches::new(setting.bus.alloc),
             is_report_due: false,
             pace: Pace::new(),
         }
@@ -147,7 +148,7 @@ impl<'w, 'a, 'n, R: Wait + Clock + Drop, K: RunName, B: BusName, M: LiveRegister
     ) -> Result<(), Ending>
         requires { now < 2 ^ 63 }
         ensures told { (s : WatchSettings) (past : Past) → Follows self.old.course.progress self.old.course.network.now s past
-            → IfOk result (λ _. HasTaken notification self.old.course.setting.now.options.seconds B.typed
+            → IfOk result (λ _. HasTaken notification self.old.course.options.seconds B.typed
             self.new.course.progress self.old.course.network.now s past now self.old.operator self.new.operator) }
         ensures network { IfOk result (λ _. self.new.course.network ≡ self.old.course.network) }
     {

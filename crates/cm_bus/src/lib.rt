@@ -7,7 +7,7 @@
 //! says what it is ([`identify`]), and whatever a [`Talk`] asks it.
 //!
 //! [`BusPaths`] says where a bus is, and [`open_bus`] opens it. What threads share that use it is a [`Setting`], by these
-//! [`LiveOptions`]: one thread reads frames ([`start_receiving`]) and gives each to whom it is for ([`make_routes`]), and each worker has
+//! [`BusOptions`]: one thread reads frames ([`start_receiving`]) and gives each to whom it is for ([`make_routes`]), and each worker has
 //! a bus over a [`LivePort`] ([`make_bus`]). Frames and whom they are for are those of `cm_receiving`; no call of a manager is made here.
 #![tactic(auto)]
 
@@ -33,7 +33,7 @@ pub use identifying::{Identity, identify};
 pub use live_port::LivePort;
 pub use making::{NoThread, make_bus, make_routes, start_receiving};
 pub use opening::{Unopened, channel_closing, channel_opening, format_of, open_bus, writers_to};
-pub use options::LiveOptions;
+pub use options::{BusOptions, LiveOptions};
 pub use outlet::Outlet;
 pub use patience::Patience;
 pub use port::Port;

@@ -1,8 +1,8 @@
-//! What all threads of a live run share.
+//! What all threads share that use a bus.
 
 ghost use Rattle.std.specs.Prelude.{◌≡◌, ◌<◌, ◌^◌, IfOk};
 
-use crate::options::LiveOptions;
+use crate::options::BusOptions;
 use cm_netlist::Network;
 use cm_receiving::{Heartbeats, Listening, Notification};
 use crossbeam_channel::{Receiver, Sender};
@@ -11,13 +11,13 @@ use std::sync::Arc;
 use std::sync::atomic::{AtomicBool, AtomicU64};
 use std::time::{Clock, Instant};
 
-/// What all threads of a live run share.
+/// What all threads of a live run share, or of a scan.
 #[derive(Drop)]
 pub struct Setting<'a, 'n, R> {
     pub rt: &'a R,
     pub alloc: Global,
     pub network: &'n Network,
-    pub options: LiveOptions,
+    pub options: BusOptions,
     pub start: Instant,
     pub listening: Arc<Listening>,
     pub heartbeats: Arc<Heartbeats>,
@@ -36,12 +36,12 @@ pub struct Setting<'a, 'n, R> {
     pub notifications: Sender<Notification>,
 }
 
-/// What all threads of a live run share, and where the one that watches hears what happens.
+/// What all threads share that use a bus, by these options, and where the one that watches hears what happens.
 pub fn set_up<'a, 'n, R: Clock>(
     rt: &'a R,
     alloc: Global,
     network: &'n Network,
-    options: LiveOptions,
+    options: BusOptions,
 ) -> Result<(Setting<'a, 'n, R>, Receiver<Notification>), AllocError>
     ensures network { IfOk result (λ s. s.0.network.now ≡ network.now) }
     ensures options { IfOk result (λ s. s.0.options ≡ options) }

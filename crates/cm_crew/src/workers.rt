@@ -115,9 +115,10 @@ pub struct Workers<'n, R: Wait + Clock + Drop, K: RunName, B: BusName, W: Write 
     pub jobs: Vec<Sender<NodeId>>,
 }
 
-/// A worker with this seat, and the ends of its channels by which it gets frames and slaves.
+/// A worker with this seat that tries a slave so often at most, and the ends of its channels by which it gets frames and slaves.
 fn make_worker<'a, 'n, R: Wait + Clock + Clone + Drop, K: RunName, B: BusName, W: Write + Drop>(
     setting: &Setting<'a, 'n, R>,
+    attempts: u8,
     place: usize,
     seat: Seat<K>,
     writer: W,
@@ -125,7 +126,7 @@ fn make_worker<'a, 'n, R: Wait + Clock + Clone + Drop, K: RunName, B: BusName, W
     requires list { seat.list ≡ [] }
     requires workers { (1 ≤ setting.now.options.workers) × (setting.now.options.workers + 1 ≡ K.seats) }
     ensures seat { IfOk result (λ r. r.0.booth ≡ seat) }
-    ensures attempts { IfOk result (λ r. r.0.attempts ≡ setting.now.options.attempts) }
+    ensures attempts { IfOk result (λ r. r.0.attempts ≡ attempts) }
 {
     let notifications = setting.notifications.clone()?;
     let (tells, jobs) = crossbeam_channel::unbounded(setting.alloc)?;
@@ -134,7 +135,7 @@ fn make_worker<'a, 'n, R: Wait + Clock + Clone + Drop, K: RunName, B: BusName, W
         booth: Booth::new(seat, bus, u16::from(setting.options.workers)),
         jobs,
         notifications,
-        attempts: setting.options.attempts,
+        attempts,
     };
     Ok((worker, hears, tells))
 }
@@ -170,7 +171,7 @@ impl<'n, R: Wait + Clock + Drop, K: RunName, B: BusName, W: Write + Drop> Worker
     }
 }
 
-/// The workers, one for each seat, and the channels to them.
+/// The workers, one for each seat, each of which tries a slave so often at most, and the channels to them.
 pub fn make_workers<
     'a,
     'n,
@@ -180,6 +181,7 @@ pub fn make_workers<
     W: Write + Drop,
 >(
     setting: &Setting<'a, 'n, R>,
+    attempts: u8,
     mut seats: Vec<Seat<K>>,
     written: Vec<W>,
 ) -> Result<Workers<'n, R, K, B, W>, AllocError>
@@ -196,7 +198,7 @@ pub fn make_workers<
         }
         let seat = seats.remove(0);
         let place = made.workers.len();
-        let (worker, hears, jobs) = make_worker(setting, place, seat, writer)?;
+        let (worker, hears, jobs) = make_worker(setting, attempts, place, seat, writer)?;
         made.take(worker, hears, jobs)?;
     }
     Ok(made)

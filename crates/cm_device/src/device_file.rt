@@ -82,7 +82,7 @@ fn small(byte: u8) -> u8
 }
 
 /// Whether the texts are the same but for capital and small letters (ASCII).
-pub fn is_same(one: &[u8], other: &[u8]) -> bool
+pub(crate) fn is_same(one: &[u8], other: &[u8]) -> bool
     ensures same { IsTrue result → AreSame one.now other.now }
     ensures other { result ≡ false → AreSame one.now other.now → ⊥ }
 {

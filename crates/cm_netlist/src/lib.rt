@@ -6,7 +6,7 @@
 //! [`fault_place`] says. [`SlaveWarning`] is what a slave is warned of, and [`warn`] tells what a network is warned of before it is
 //! booted. Of several workers, [`worker_of`] says which boots which slave.
 //!
-//! It has over 100 functions and is one subject: the keys of a list are stated once, and whoever reads them, refuses them, says where a
+//! It has some 100 functions and is one subject: the keys of a list are stated once, and whoever reads them, refuses them, says where a
 //! fault stands or warns of a value goes by that one table.
 #![tactic(auto)]
 

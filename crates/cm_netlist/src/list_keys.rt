@@ -4,13 +4,15 @@ ghost use Rattle.std.specs.Prelude.{◌≡◌, map};
 ghost use Rattle.cm_netlist.specs.Keys.{integer, slave_integers, top_integers};
 ghost use Rattle.cm_netlist.specs.ListKeys.{key_of};
 
-/// A key whose value is an integer: the least and the greatest that may stand there, and whether a table has to have it.
+/// A key whose value is an integer: the least and the greatest that may stand there, whether a table has to have it, and its unit.
 #[derive(Clone, Copy)]
 pub struct IntegerKey {
     pub name: &'static str,
     pub least: u64,
     pub greatest: u64,
     pub needed: bool,
+    /// ` ms`, or nothing.
+    pub unit: &'static str,
 }
 
 /// A key of these four.
@@ -22,7 +24,15 @@ fn key(name: &'static str, least: u64, greatest: u64, needed: bool) -> IntegerKe
         least,
         greatest,
         needed,
+        unit: "",
     }
+}
+
+/// The key, whose value is in milliseconds.
+fn in_ms(key: IntegerKey) -> IntegerKey
+    ensures { key_of result ≡ key_of key }
+{
+    IntegerKey { unit: " ms", ..key }
 }
 
 /// The integers of the list itself.
@@ -33,7 +43,7 @@ pub fn top_integers() -> [IntegerKey; 3]
     [
         key("own", 1, 127, true),
         key("startup", 0, 4_294_967_295, true),
-        key("boot_time", 0, 4_294_967_295, false),
+        in_ms(key("boot_time", 0, 4_294_967_295, false)),
     ]
 }
 
@@ -50,8 +60,8 @@ pub fn slave_integers() -> [IntegerKey; 10]
         key("product", 0, 4_294_967_295, false),
         key("revision", 0, 4_294_967_295, false),
         key("serial", 0, 4_294_967_295, false),
-        key("heartbeat", 0, 65_535, false),
+        in_ms(key("heartbeat", 0, 65_535, false)),
         key("date", 0, 4_294_967_295, false),
-        key("time", 0, 4_294_967_295, false),
+        in_ms(key("time", 0, 4_294_967_295, false)),
     ]
 }

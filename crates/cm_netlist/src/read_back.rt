@@ -4,11 +4,10 @@ ghost use Rattle.std.specs.Prelude.{◌≡◌, [], ◌∷◌, ◌++◌, IfOk, Is
 ghost use Rattle.cm_netlist.specs.ReadBack.{AreSameEntries, IsReadBack, ListsOnly, manager_text};
 
 use crate::entry::SlaveEntry;
-use crate::fault::NetFault;
+use crate::list_reading::{CheckFault, list_of};
 use crate::network::Network;
 use cm_nmt::{NodeId, Terms, Write as Configuring};
 use std::alloc::{AllocError, Global};
-use std::str;
 
 /// The lines of a manager that isn't the slave itself.
 fn manager_lines(slave: NodeId) -> &'static str
@@ -87,13 +86,10 @@ fn is_list_of(
 ) -> Result<bool, AllocError>
     ensures { IfOk result (λ is. IsTrue is → IsReadBack text.now id entry.now) }
 {
-    let Ok(text) = str::from_utf8(text) else {
-        return Ok(false);
-    };
-    match Network::from_toml(alloc, text) {
+    match list_of(alloc, text) {
         Ok(network) => Ok(lists_only(&network, id, entry)),
-        Err(NetFault::OutOfMemory) => Err(AllocError),
-        Err(_) => Ok(false),
+        Err(CheckFault::Input(_)) => Err(AllocError),
+        Err(CheckFault::List(_)) => Ok(false),
     }
 }
 

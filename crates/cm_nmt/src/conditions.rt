@@ -11,7 +11,7 @@ use crate::terms::Terms;
 /// Whether the identity at this place agrees with the expected value; 0 isn't compared.
 #[inline(always)]
 #[tactic(auto, unfolding(crate::specs::Conditions::matches))]
-pub fn matches(expected: u32, place: usize, answers: &Answers) -> bool
+pub(crate) fn matches(expected: u32, place: usize, answers: &Answers) -> bool
     requires { place < 4 }
     ensures { result ≡ matches expected place answers.now }
 {
@@ -137,7 +137,7 @@ fn reaches(terms: &Terms, answers: &Answers, field: Field) -> bool
 /// Whether the field's question is asked.
 #[inline(always)]
 #[tactic(auto, unfolding(crate::specs::Conditions::condition))]
-pub fn is_due(terms: &Terms, answers: &Answers, field: Field, is_reached: bool) -> bool
+pub(crate) fn is_due(terms: &Terms, answers: &Answers, field: Field, is_reached: bool) -> bool
     requires { is_reached ≡ reaches terms.now answers.now field }
     ensures { result ≡ condition terms.now answers.now field }
 {
@@ -166,7 +166,7 @@ pub fn condition(terms: &Terms, answers: &Answers, field: Field) -> bool
 /// Whether the field has an answer.
 #[inline(always)]
 #[tactic(auto, unfolding(crate::specs::Conditions::is_used))]
-pub fn is_used(answers: &Answers, field: Field) -> bool
+pub(crate) fn is_used(answers: &Answers, field: Field) -> bool
     ensures { result ≡ is_used answers.now field }
 {
     match field {

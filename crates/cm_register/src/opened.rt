@@ -4,7 +4,7 @@ ghost use Rattle.cm_register.specs.SeatOpening.{fresh_seats};
 ghost use Rattle.cm_growing.specs.Unnamed.{net_of};
 ghost use Rattle.cm_register.specs.Opening.{IsNameCause, IsOpenCause, MayOpen};
 
-use crate::book::Book;
+use crate::book::{Book, FreshBook};
 use crate::fault::OpenFault;
 use crate::made::SeatList;
 use crate::register::Register;
@@ -207,9 +207,18 @@ impl<'n, W: Wire> Opened<'n, W> {
             Err(fault) => return Err(NotOpened { fault, wire }),
         };
         let manager = Manager::new(net);
-        let book = Book::fresh(
-            net, seats, limit, manager, wire, history, lists, ledger, rest, writer,
-        );
+        let book = Book::fresh(FreshBook {
+            net,
+            seats,
+            limit,
+            manager,
+            wire,
+            history,
+            lists,
+            ledger,
+            rest,
+            writer,
+        });
         Ok((book, all))
     }
 

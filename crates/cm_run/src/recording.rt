@@ -15,6 +15,7 @@ use cm_register::{OpenFault, Receipt, Register, RunName, Seat, SharedManager};
 use cm_sequential::Manager;
 use std::alloc::AllocError;
 use std::sync::Wait;
+use thiserror::Error;
 
 /// The history of a run, and the manager that stands for it.
 #[derive(Drop)]
@@ -24,13 +25,16 @@ pub struct Recorded {
 }
 
 /// Why there is no history.
-#[derive(Clone, Copy)]
+#[derive(Clone, Copy, Debug, Error)]
 pub enum NoHistory {
     /// The start was refused, since the device isn't the NMT master.
+    #[error("start refused: 1 NotMaster")]
     NotMaster,
     /// Memory was refused.
+    #[error("out of memory")]
     OutOfMemory,
     /// A worker couldn't be started, or the register had another fault.
+    #[error("no worker")]
     NoWorker,
 }
 

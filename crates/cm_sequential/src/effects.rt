@@ -17,7 +17,7 @@ use cm_nmt::{Answers, Command, NmtState, NodeId, Status};
 
 /// Whether the status halts the boot of the network.
 #[inline(always)]
-pub fn is_fatal(listing: &ListingCopy, id: NodeId, status: Status) -> bool
+pub(crate) fn is_fatal(listing: &ListingCopy, id: NodeId, status: Status) -> bool
     ensures { result ≡ is_fatal (kept_listing listing.now) id status }
 {
     listing.is_mandatory(id) && !(status.is_good() || status.is_retried())

@@ -38,7 +38,7 @@ fn obey_all(states: &mut [u8; 128], command: Command)
 
 /// Whether the command is one of the two resets.
 #[inline(always)]
-pub fn is_reset(command: Command) -> bool
+pub(crate) fn is_reset(command: Command) -> bool
     ensures { result ≡ is_reset command }
 {
     matches!(command, Command::ResetNode | Command::ResetComm)

@@ -5,7 +5,7 @@ use Rattle.std.specs.List.{join_with_byte}
 use Rattle.cm_text.specs.FieldReading.{is_empty}
 use Rattle.cm_text.specs.Words.{Words, split}
 use Rattle.cm_shown.specs.Names.{node_of}
-use Rattle.cm_shown.specs.Shown.{IsShown, bare, before_feed, colour_in, is_fault, leads_on, name_behind, shown_whole, shown_word, shown_words}
+use Rattle.cm_shown.specs.Shown.{IsShown, bare, before_feed, colour_in, is_fault, is_object, leads_on, name_behind, shown_whole, shown_word, shown_words}
 use Rattle.cm_shown.specs.declared.shown.Colour.{Colour}
 
 joined : (text shown rest : List ℕ) → text ++ (shown ++ (32 ∷ rest)) ≡ ((text ++ shown) ++ 32 ∷ []) ++ rest
@@ -90,13 +90,21 @@ module _ (coloured : Bool) (f names : ℕ → Option (List ℕ)) (line come fron
   text_is : (g : ℕ → Option (List ℕ)) → ((id : ℕ) → f id ≡ g id) → text ≡ front ++ shown_whole coloured g line
   text_is g same = is ∙ ap (λ (l : List ℕ). front ++ shown_whole coloured f l) came ∙ ap (λ (t : List ℕ). front ++ t) (whole_alike coloured f g same line)
 
-  by_kind : (b : Bool) → is_fault line ≡ b → MatchBool b (text ≡ shown_whole coloured (λ id. None) line) ((time : List ℕ) × (text ≡ time ++ shown_whole coloured names line)) → IsShown coloured names line text
-  by_kind b kind so = subst (λ (x : Bool). MatchBool x (text ≡ shown_whole coloured (λ id. None) line) ((time : List ℕ) × (text ≡ time ++ shown_whole coloured names line))) (sym kind) so
+  abbrev Told : Bool → Type 0
+  Told fault = MatchBool fault (text ≡ shown_whole coloured (λ id. None) line) ((time : List ℕ) × (text ≡ time ++ shown_whole coloured names line))
+
+  by_kind : (b : Bool) → is_object line ≡ false → is_fault line ≡ b → Told b → IsShown coloured names line text
+  by_kind b told kind so = subst (λ (x : Bool). MatchBool x (text ≡ line) (Told (is_fault line))) (sym told) (subst Told (sym kind) so)
 
   -- one of fault
-  pub fault_shown : is_fault line ≡ true → front ≡ [] → ((id : ℕ) → f id ≡ None) → IsShown coloured names line text
-  fault_shown fault empty none = by_kind true fault (text_is (λ id. None) none ∙ ap (λ (t : List ℕ). t ++ shown_whole coloured (λ id. None) line) empty)
+  pub fault_shown : is_object line ≡ false → is_fault line ≡ true → front ≡ [] → ((id : ℕ) → f id ≡ None) → IsShown coloured names line text
+  fault_shown told fault empty none = by_kind true told fault (text_is (λ id. None) none ∙ ap (λ (t : List ℕ). t ++ shown_whole coloured (λ id. None) line) empty)
 
   -- any other
-  pub line_shown : is_fault line ≡ false → ((id : ℕ) → f id ≡ names id) → IsShown coloured names line text
-  line_shown other same = by_kind false other (front, text_is names same)
+  pub line_shown : is_object line ≡ false → is_fault line ≡ false → ((id : ℕ) → f id ≡ names id) → IsShown coloured names line text
+  line_shown told other same = by_kind false told other (front, text_is names same)
+
+-- an object of JSON as it is shown
+pub object_shown : (coloured : Bool) (names : ℕ → Option (List ℕ)) (line text : List ℕ) → is_object line ≡ true → text ≡ line → IsShown coloured names line text
+object_shown coloured names line text object is =
+    subst (λ (x : Bool). MatchBool x (text ≡ line) (MatchBool (is_fault line) (text ≡ shown_whole coloured (λ id. None) line) ((time : List ℕ) × (text ≡ time ++ shown_whole coloured names line)))) (sym object) is

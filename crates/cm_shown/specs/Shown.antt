@@ -7,6 +7,10 @@ use Rattle.cm_shown.specs.Names.{node_of}
 use Rattle.cm_shown.specs.declared.shown.Colour.{Colour}
 use Rattle.cm_shown.specs.declared.shown.Colour.TheVariants.{Red, Green}
 
+-- the line is an object of JSON: it begins with an opening brace
+abbrev pub is_object : List ℕ → Bool
+is_object line = slice_index_or line 0 0 == 123
+
 -- the line is one of fault: it begins with 'canboot: '
 abbrev pub is_fault : List ℕ → Bool
 is_fault line = nat_le 9 (length line) && bytes_eq (take 9 line) (codes "canboot: ")
@@ -101,8 +105,9 @@ before_feed line = if slice_index_or line (length line - 1) 0 == 10 then take (l
 abbrev pub shown_whole : Bool → (ℕ → Option (List ℕ)) → List ℕ → List ℕ
 shown_whole coloured names line = shown_line coloured names (before_feed line) ++ 10 ∷ []
 
--- the text is the line as it is shown: one of fault with no time and no names, any other behind its time
+-- the text is the line as it is shown: an object of JSON as it stands, one of fault with no time and no names, any other behind its time
 abbrev pub IsShown : Bool → (ℕ → Option (List ℕ)) → List ℕ → List ℕ → Type 0
 IsShown coloured names line text =
-    MatchBool (is_fault line) (text ≡ shown_whole coloured (λ id. None) line)
-    ((time : List ℕ) × (text ≡ time ++ shown_whole coloured names line))
+    MatchBool (is_object line) (text ≡ line)
+    (MatchBool (is_fault line) (text ≡ shown_whole coloured (λ id. None) line)
+    ((time : List ℕ) × (text ≡ time ++ shown_whole coloured names line)))

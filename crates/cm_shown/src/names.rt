@@ -72,7 +72,7 @@ fn string_at<'a>(table: &'a Table, key: &str) -> Option<&'a str>
 }
 
 /// The node whose number the word is, in decimal without leading zeros.
-pub fn node_of(word: &[u8]) -> Option<NodeId>
+pub(crate) fn node_of(word: &[u8]) -> Option<NodeId>
     ensures { result ≡ node_of word.now }
 {
     let mut fields = Fields::new(word, b' ');

@@ -3,7 +3,7 @@
 ghost use Rattle.std.specs.Prelude.{◌≡◌, ◌++◌, [], ℕ, IfOk, None, OnOk, Some, option_copied};
 ghost use Rattle.cm_shown.specs.Names.{name_among, name_of};
 ghost use Rattle.cm_shown.specs.Shown.{IsShown, bare, before_feed, bracketed, closing_of, colour_in, colour_of, is_bad, is_denial, is_fault};
-ghost use Rattle.cm_shown.specs.Shown.{is_good, is_mark, leads_on, mark_of, name_behind, opening_of};
+ghost use Rattle.cm_shown.specs.Shown.{is_good, is_mark, is_object, leads_on, mark_of, name_behind, opening_of};
 ghost use Rattle.cm_shown.specs.Shown.{shown_line, shown_whole, shown_word};
 
 use crate::names::{Names, node_of};
@@ -279,6 +279,13 @@ fn names_or<'a>(names: Option<&'a Names>, none: &'a Names) -> &'a Names
     }
 }
 
+/// Whether the line is an object of JSON, which stands as it is.
+fn is_object(line: &[u8]) -> bool
+    ensures { result ≡ is_object line.now }
+{
+    !line.is_empty() && line[0] == b'{'
+}
+
 /// Whether the line is one of fault, which stands as that of any command does.
 fn is_fault(line: &[u8]) -> bool
     ensures { result ≡ is_fault line.now }
@@ -288,7 +295,8 @@ fn is_fault(line: &[u8]) -> bool
 
 /// A writer that puts the time before each line but one of fault (UTC, to the millisecond), and writes each by one write; on a
 /// terminal some words are coloured by what they mean. With names, a line but one of fault has behind the number of a node the name
-/// of that node in brackets. What is written to it is to end with a line feed, or to have none.
+/// of that node in brackets. A line that is an object of JSON stands as it is. What is written to it is to end with a line feed, or to
+/// have none.
 #[derive(Drop)]
 pub struct ShownLines<'e, R: Clock, E: Write> {
     rt: &'e R,
@@ -329,7 +337,9 @@ impl<'e, R: Clock, E: Write> ShownLines<'e, R, E> {
     {
         let none = Names::new(self.alloc);
         let mut text = Vec::new(self.alloc);
-        if is_fault(&self.line) {
+        if is_object(&self.line) {
+            text.extend_from_slice(&self.line)?;
+        } else if is_fault(&self.line) {
             put_shown(&mut text, self.is_coloured, &none, &self.line)?;
         } else {
             put_time(self.rt, &mut text)?;

@@ -1,7 +1,8 @@
 -- What is kept of the values so far, with one more.
-use Rattle.std.proofs.Common.{◌≡◌, ◌∙◌, ℕ, ◌+◌, ◌-◌, List, [], ◌∷◌, ◌++◌, ap, sym, refl, arith, length, map, append_assoc}
+use Rattle.std.proofs.Common.{◌≡◌, ◌∙◌, ◌≤◌, ◌<◌, ◌⊎◌, ℕ, ◌+◌, ◌-◌, Bool, true, false, Some, None, inl, inr, get_or, List, [], ◌∷◌, ◌++◌, ap, sym, refl, arith, length, map, append_assoc}
+use Rattle.std.proofs.lemmas.Bool.{le-leb, lt-leb}
 use Rattle.std.proofs.lemmas.List.{map-append}
-use Rattle.cm_telling.specs.Waiting.{AreKept, added, entry_of, placed_at, sums, total}
+use Rattle.cm_telling.specs.Waiting.{AreKept, added, entry_of, is_handed, left_untold, next_told, placed_at, sums, total}
 use Rattle.cm_telling.specs.declared.in_order.Placed.{Placed}
 use Rattle.cm_telling.specs.declared.waiting.Untold.{Untold}
 use Rattle.cm_telling.specs.declared.waiting.Waiting.{Waiting}
@@ -39,3 +40,39 @@ module _ {T : Type 0} where
             ∙ sym (sums_more 0 counts n);
         total = is ∙ sum_is ∙ sym (total_more 0 counts n);
       }
+
+  -- and with the first that waits told
+  pub kept_next : (before after : Waiting T) (said : List (Untold T)) (given : List (Placed T)) (counts : List ℕ) (u : Untold T) → AreKept before said given counts
+      → before.untold.items ≡ u ∷ after.untold.items → after.frames ≡ before.frames → AreKept after (said ++ u ∷ []) given counts
+  kept_next before after said given counts u kept items is =
+      let same : (said ++ u ∷ []) ++ after.untold.items ≡ said ++ before.untold.items =
+      append_assoc said (u ∷ []) after.untold.items ∙ ap (λ (us : List (Untold T)). said ++ us) (sym items) in
+      record {
+        each = ap (map entry_of) same ∙ kept.each;
+        sums = ap (map (λ (v : Untold T). v.frames)) same ∙ kept.sums;
+        total = is ∙ kept.total;
+      }
+
+  -- the first that waits is told, and the others are left
+  pub told_first : (items rest : List (Untold T)) (u first : Untold T) (handed : ℕ) (end : Bool) → items ≡ u ∷ rest → first ≡ get_or items 0 first
+      → (first.frames ≤ handed) ⊎ ((handed < first.frames) × (end ≡ true))
+      → (Some (u, is_handed handed first) ≡ next_told items handed end) × (rest ≡ left_untold items handed end)
+  told_first [] rest u first handed end e same due = absurd (cc)
+  told_first (v ∷ vs) rest u first handed end e same (inl soon) =
+      let one : u ≡ v = cc in
+      let others : rest ≡ vs = cc in
+      let test : is_handed handed v ≡ true = le-leb v.frames handed (rw same at soon) in
+      rw (same, test) (ap (λ (w : Untold T). Some (w, true)) one, others)
+  told_first (v ∷ vs) rest u first handed end e same (inr late) =
+      let one : u ≡ v = cc in
+      let others : rest ≡ vs = cc in
+      let test : is_handed handed v ≡ false = lt-leb v.frames handed (rw same at late.0) in
+      rw (same, test, late.1) (ap (λ (w : Untold T). Some (w, false)) one, others)
+
+  -- none is told, and all are left
+  pub told_none : (items : List (Untold T)) (first : Untold T) (handed : ℕ) (end : Bool) → 0 < length items → first ≡ get_or items 0 first
+      → (handed < first.frames) × (end ≡ false) → (None ≡ next_told items handed end) × (items ≡ left_untold items handed end)
+  told_none [] first handed end some same late = absurd (omega arith)
+  told_none (v ∷ vs) first handed end some same late =
+      let test : is_handed handed v ≡ false = lt-leb v.frames handed (rw same at late.0) in
+      rw (test, late.1) (refl, refl)

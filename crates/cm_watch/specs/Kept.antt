@@ -1,5 +1,5 @@
 -- Working definitions: what is kept of a slave and of the network, and what one moment makes of it.
-use Rattle.std.specs.Prelude.{ℕ, Bool, Option, Some, None, true, false, ◌&&◌, if◌then◌else◌, unwrap_or}
+use Rattle.std.specs.Prelude.{ℕ, Bool, Option, Some, None, true, false, if◌then◌else◌, unwrap_or}
 use Rattle.std.specs.Option.{option_or}
 use Rattle.cm_history.specs.Answering.{named_by}
 use Rattle.cm_history.specs.Machine.{own_after, phase_after}

@@ -71,7 +71,7 @@ fn only(cause: Cause, condition: bool) -> Option<Cause>
 }
 
 /// Whether a value of a request resets.
-pub fn is_reset(value: u8) -> bool
+pub(crate) fn is_reset(value: u8) -> bool
     ensures { result ≡ is_reset_value value }
 {
     value == 6 || value == 7

@@ -11,7 +11,7 @@ use cm_history::{Call, Entry, MISSING, Orders, Reply, UNKNOWN, obeyed, state_rep
 use cm_nmt::{Answers, NodeId};
 
 /// The state pre-operational (CiA 301, heartbeat).
-pub const PRE_OPERATIONAL: u8 = 127;
+pub(crate) const PRE_OPERATIONAL: u8 = 127;
 
 /// The state stopped.
 const STOPPED: u8 = 4;
@@ -31,7 +31,7 @@ pub enum Since {
 }
 
 /// The state in which a node is that sends this one: pre-operational behind a boot-up message (CiA 301).
-pub fn entered(state: u8) -> u8
+pub(crate) fn entered(state: u8) -> u8
     ensures { result ≡ entered state }
 {
     if state == 0 { PRE_OPERATIONAL } else { state }

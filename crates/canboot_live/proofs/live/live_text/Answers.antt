@@ -1,75 +1,18 @@
-use Rattle.std.proofs.Common.{◌≡◌, ℕ, ◌+◌, ◌∙◌, List, Result, Ok, Err, true, false, OnOk, IsOk, ap, inl, inr, refl, subst, sym}
-use Rattle.std.specs.Prelude.{Option}
-use Rattle.cm_netlist.specs.Network.{Network, listing}
-use Rattle.cm_history.specs.declared.call.Entry.{Entry}
-use Rattle.cm_history.specs.OrderFrames.{frames_in}
-use Rattle.cm_format.specs.Text.{journal_of}
-use Rattle.cm_format.specs.declared.version.Version.TheVariants.{Two}
-use Rattle.cm_bus.specs.Outlets.{SendsMessages}
-use Rattle.cm_can.specs.declared.format.Format.{Format}
-use Rattle.cm_recorder.specs.Recorded.{contents_of}
-use Rattle.cm_crew.specs.Heard.{IsAllHeard}
-use Rattle.cm_crew.specs.Operated.{IsOperatedLive}
-use Rattle.canboot_live.proofs.Begins.{failed_after, names_outlet, same_journal, written_alike}
+use Rattle.std.proofs.Common.{inr}
+use Rattle.canboot_live.proofs.ListedRuns.{fails_of, runs_of}
 use Rattle.canboot_live.proofs.live.live_text.Goals as goal
 
--- what holds where the call succeeds, and it did
-of_ok : {A E : Type 0} (r : Result A E) (P : Type 0) → OnOk r P → IsOk r → P
-of_ok (Ok x) P h is = h
-of_ok (Err e) P h is = absurd (let p : false ≡ true = is in cc)
+pub returns-in-Ok-clause-done : goal.returns-in-Ok-clause-done
+returns-in-Ok-clause-done g c = λ e.
+    runs_of g.X.Sent.Write.contents c.args.options.bus.format (g.X.Received.Read.remaining c.args.ends.received) (g.X.Typed.Read.remaining c.args.ends.typed)
+    c.in-Ok.network c.args.options.bus.workers 1048576 _ _ _ _ _ _ _ _ c.in-Ok.ensures.list c.args.outputs.now.form (c.live_listed.ensures.done e)
 
--- what was heard in a history, of as many seats under another name
-all_heard_of : (format : Format) (text : Option (List ℕ)) (net : Network) (seats others : ℕ) (h k : List Entry) → seats ≡ others → h ≡ k → IsAllHeard format text net seats h → IsAllHeard format text net others k
-all_heard_of format text net seats others h k s e a = subst (λ (n : ℕ). IsAllHeard format text net n k) s (subst (λ (es : List Entry). IsAllHeard format text net seats es) e a)
+pub returns-in-Ok-clause-refused : goal.returns-in-Ok-clause-refused
+returns-in-Ok-clause-refused g c = λ e.
+    let h = c.live_listed.ensures.refused e in
+    record { cause = inr (c.in-Ok.network, c.in-Ok.ensures.list, h.0); kept = h.1; unwritten = h.2 }
 
-pub returns-in-Ok-live_on-clause-done : goal.returns-in-Ok-live_on-clause-done
-returns-in-Ok-live_on-clause-done g c = λ e.
-    let s = c.written_status-status.ensures in
-    let w = written_alike _ _ _ _ _ _
-    (same_journal c.in-Ok.network c.in-Ok.network (c.args.options.workers + 1) (c.from-seats.result + 1) 1048576 1048576 c.in-Ok-live_on.field-0.recorded.history.items c.as_slice-entries.result.now
-    refl (sym (ap (λ (n : ℕ). n + 1) c.from-seats.ensures)) refl (sym c.as_slice-entries.ensures.value)) refl c.in-Ok-live_on.ensures.written in
-    record {
-      of = journal_of Two c.in-Ok.network (c.from-seats.result + 1) 1048576 c.as_slice-entries.result.now;
-      run = record { list = c.in-Ok.ensures.list; version = refl; journal = c.is_journal.ensures; seats = ap (λ (n : ℕ). n + 1) c.from-seats.ensures; most = refl };
-      heard = all_heard_of c.args.options.format (g.X.Received.Read.remaining c.args.ends.received) c.in-Ok.network (c.args.options.workers + 1) (c.from-seats.result + 1) _ _ (sym (ap (λ (n : ℕ). n + 1) c.from-seats.ensures))
-          (sym c.as_slice-entries.ensures.value) c.in-Ok-live_on.ensures.heard;
-      operated = subst (λ (h : List Entry). IsOperatedLive (g.X.Typed.Read.remaining c.args.ends.typed) h) (sym c.as_slice-entries.ensures.value) c.in-Ok-live_on.ensures.operated;
-      reported = of_ok c.put_report_in-report.result _ c.put_report_in-report.ensures (s.report (c.ending_status.ensures.done e).0);
-      recorded = w.all (sym c.has_failed.ensures ∙ s.journal (c.ending_status.ensures.done e).0);
-      sent = subst (λ (h : List Entry). SendsMessages g.X.Sent.Write.contents (frames_in (listing c.in-Ok.network) h) c.args.outputs.now.trace.messages c.live_on.new.trace.messages)
-          (sym c.as_slice-entries.ensures.value) c.in-Ok-live_on.ensures.sent;
-      well = c.have_failed.ensures (s.messages (c.ending_status.ensures.done e).0);
-    }
-
-pub returns-in-Ok-live_on-clause-failed : goal.returns-in-Ok-live_on-clause-failed
-returns-in-Ok-live_on-clause-failed g c = λ e. inr (record {
-  of = journal_of Two c.in-Ok.network (c.from-seats.result + 1) 1048576 c.as_slice-entries.result.now;
-  run = record { list = c.in-Ok.ensures.list; version = refl; journal = c.is_journal.ensures; seats = ap (λ (n : ℕ). n + 1) c.from-seats.ensures; most = refl };
-  recorded = inl (
-    written_alike _ _ _ _ _ _
-        (same_journal c.in-Ok.network c.in-Ok.network (c.args.options.workers + 1) (c.from-seats.result + 1) 1048576 1048576 c.in-Ok-live_on.field-0.recorded.history.items c.as_slice-entries.result.now
-        refl (sym (ap (λ (n : ℕ). n + 1) c.from-seats.ensures)) refl (sym c.as_slice-entries.ensures.value)) refl c.in-Ok-live_on.ensures.written,
-    all_heard_of c.args.options.format (g.X.Received.Read.remaining c.args.ends.received) c.in-Ok.network (c.args.options.workers + 1) (c.from-seats.result + 1) _ _ (sym (ap (λ (n : ℕ). n + 1) c.from-seats.ensures))
-        (sym c.as_slice-entries.ensures.value) c.in-Ok-live_on.ensures.heard,
-    subst (λ (h : List Entry). IsOperatedLive (g.X.Typed.Read.remaining c.args.ends.typed) h) (sym c.as_slice-entries.ensures.value) c.in-Ok-live_on.ensures.operated,
-  );
-  sent = subst (λ (h : List Entry). SendsMessages g.X.Sent.Write.contents (frames_in (listing c.in-Ok.network) h) c.args.outputs.now.trace.messages c.live_on.new.trace.messages)
-      (sym c.as_slice-entries.ensures.value) c.in-Ok-live_on.ensures.sent;
-})
-
-pub returns-clause-failed : goal.returns-clause-failed
-returns-clause-failed g c = λ e.
-    failed_after g.X.Sent.Write.contents c.args.options.format (g.X.Received.Read.remaining c.args.ends.received) (g.X.Typed.Read.remaining c.args.ends.typed) c.args.options.workers 1048576 _ _ _ c.in-Ok.network (contents_of g.X.Journal.Write.contents) c.args.outputs.now.trace.journal c.live_on.new.trace.journal (λ j. j.failed)
-    c.args.outputs.now.trace.messages c.live_on.new.trace.messages c.in-Ok.ensures.list c.in-Err-live_on.ensures.begun
-
-pub returns-clause-refused : goal.returns-clause-refused
-returns-clause-refused g c = λ e.
-    let h = c.in-Err-live_on.ensures.refused (ap Err (c.no_history_line.ensures.refused e)) in
-    record {
-      cause = inr (c.in-Ok.network, c.in-Ok.ensures.list, h.0);
-      kept = refl;
-      unwritten = ap (contents_of g.X.Journal.Write.contents) h.1;
-    }
-
-pub live_on-requires-clause-messages : goal.live_on-requires-clause-messages
-live_on-requires-clause-messages g c = λ κs lives. names_outlet g.X.Sent.Write.contents c.args.outputs.now.trace.messages c.args.options.format
+pub returns-in-Ok-clause-failed : goal.returns-in-Ok-clause-failed
+returns-in-Ok-clause-failed g c = λ e.
+    fails_of g.X.Sent.Write.contents c.args.options.bus.format (g.X.Received.Read.remaining c.args.ends.received) (g.X.Typed.Read.remaining c.args.ends.typed)
+    c.in-Ok.network c.args.options.bus.workers 1048576 _ _ _ _ _ _ _ _ c.in-Ok.ensures.list _ (c.live_listed.ensures.failed e)

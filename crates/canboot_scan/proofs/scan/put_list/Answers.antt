@@ -22,7 +22,7 @@ returns-in-Ok-clause-done g c = λ lines received heard e.
     record {
       text = c.as_slice.result.now;
       list = list_heard lines received c.args.form.own _ _ _ _ c.as_slice-found.ensures.value c.as_slice.ensures.value c.in-Ok.ensures heard;
-      written = done_written c.put_text.result _ c.output_status.result c.put_text.ensures c.output_status.ensures e;
+      written = done_written c.put_text.result _ c.tell_output.result c.put_text.ensures c.tell_output.ensures e;
     }
 
 pub returns-in-Ok-clause-failed : goal.returns-in-Ok-clause-failed

@@ -1,5 +1,5 @@
-use Rattle.std.proofs.Common.{ap, refl}
-use Rattle.canboot_turns.proofs.Going.{happened_on, still}
+use Rattle.std.proofs.Common.{ap}
+use Rattle.canboot_turns.proofs.Going.{happened_on}
 use Rattle.canboot_turns.proofs.watching.Watcher.hear.Goals as goal
 
 pub returns : goal.returns
@@ -7,6 +7,6 @@ returns g c =
     let before = c.args.self.now in
     let after = c.take.new.self in
     record {
-      goes_on = happened_on c.in-Some.notification before.course.setting.now.options.seconds g.B.BusName.typed before.course.network.now before.course.progress after.course.network.now after.course.progress c.now-now.result
+      goes_on = happened_on c.in-Some.notification before.course.options.seconds g.B.BusName.typed before.course.network.now before.course.progress after.course.network.now after.course.progress c.now-now.result
           before.operator after.operator (ap (λ n. n.now) c.in_ok-take.ensures.network) c.in_ok-take.ensures.told;
     }

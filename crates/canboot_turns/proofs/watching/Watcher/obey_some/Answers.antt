@@ -7,5 +7,5 @@ loop-preserved g c =
     let before = c.loop.self in
     let after = c.take.new.self in
     on_and_on c.args.self.now.course.network.now c.args.self.now.course.progress before.course.network.now before.course.progress after.course.network.now after.course.progress c.loop.invariant
-    (happened_on c.in-Some.notification before.course.setting.now.options.seconds g.B.BusName.typed before.course.network.now before.course.progress after.course.network.now after.course.progress c.now-now.result
+    (happened_on c.in-Some.notification before.course.options.seconds g.B.BusName.typed before.course.network.now before.course.progress after.course.network.now after.course.progress c.now-now.result
     before.operator after.operator (ap (λ n. n.now) c.in_ok-take.ensures.network) c.in_ok-take.ensures.told)

@@ -1,5 +1,0 @@
-use Rattle.canboot_live.proofs.Begins.{contents_in, format_in}
-use Rattle.canboot_live.proofs.live.live_text.Given as goal
-
-abbrev pub ghosts-live_on : goal.ghosts-live_on
-ghosts-live_on g a = record { text = g.X.Received.Read.remaining a.ends.received; format = a.options.format; typed = g.X.Typed.Read.remaining a.ends.typed; message_format = format_in a.trace.now.messages a.options.format; before = contents_in g.X.Sent.Write.contents a.trace.now.messages }
