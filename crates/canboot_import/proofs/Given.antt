@@ -1,22 +1,36 @@
 -- What a slave that is made of a device file has of it.
-use Rattle.std.proofs.Common.{◌≡◌, ℕ, Bool, true, false, true≢false, List, ◌++◌, Option, Some, None, IfSome, Result, Ok, Err, IfOk, ◌⊎◌, inl, inr, refl, sym, subst}
+use Rattle.std.proofs.Common.{◌≡◌, ℕ, Bool, true, false, true≢false, List, ◌++◌, Option, Some, None, IfSome, Result, Ok, Err, IfErr, IfOk, ◌⊎◌, inl, inr, refl, sym, subst}
 use Rattle.std.specs.Prelude.{codes, is_ok}
 use Rattle.std.specs.Result.{OkIff, result_ok}
-use Rattle.std.specs.List.{All}
 use Rattle.cm_netlist.specs.Network.{terms_of}
 use Rattle.cm_netlist.specs.declared.entry.SlaveEntry.{SlaveEntry}
-use Rattle.cm_netlist.specs.ReadBack.{IsReadBack, manager_text}
-use Rattle.cm_device.specs.DeviceFiles.{IsNumber}
-use Rattle.canboot_import.specs.Imports.{AreTermsOf, GivesNone, IsDeviceInfo, IsIdentity, IsImported, IsNodeOf, IsObjectValue, IsOfFile, IsReadAs}
-use Rattle.cm_device.specs.FileValues.{IsGiven, IsSetting, Stands, StandsNone}
-use Rattle.canboot_import.specs.LinesRead.{IsNumberRead, IsObjectRead, StandsAsNode, number_or_0, or_0}
+use Rattle.cm_netlist.specs.ReadBack.{IsListOf, manager_text}
+use Rattle.cm_device.specs.DeviceFiles.{IsNoNumber, IsNumber}
+use Rattle.canboot_import.specs.Imports.{GivesNone, IsDeviceInfo, IsIdentity, IsIdentityUnread, IsImported, IsNodeOf, IsObjectUnread, IsObjectValue, IsOfFile, IsReadAs, IsTold}
+use Rattle.cm_device.specs.FileValues.{IsGiven, Stands, StandsNone, StandsUnread}
+use Rattle.canboot_import.specs.LinesRead.{AreTold, IsNumberRead, IsObjectRead, StandsAsNode, number_or_0, or_0}
 use Rattle.cm_device.specs.declared.device_file.Item.{Item}
+use Rattle.canboot_import.specs.declared.imported.Identity.{Identity}
 use Rattle.canboot_import.specs.declared.imported.ImportWords.{ImportWords}
 use Rattle.canboot_import.specs.declared.made.ImportedText.{ImportedText}
 
 -- the number of a value that stands in the file
 pub given : (file : List ℕ) (node : ℕ) (name key text : List ℕ) (n : ℕ) → Stands file name key text → IsNumber node text n → IsGiven file node name key n
 given file node name key text n stands number = record { text = text; stands = stands; number = number }
+
+-- a value that stands in the file and is no number
+pub unread : (file : List ℕ) (node : ℕ) (name key text : List ℕ) → Stands file name key text → IsNoNumber node text → StandsUnread file node name key
+unread file node name key text stands none = record { text = text; stands = stands; none = none }
+
+-- what holds anyhow holds where it fails
+pub if_err : {X E : Type 0} (r : Result X E) (P : Type 0) → P → IfErr r (λ e. P)
+if_err (Ok x) P holds = tt
+if_err (Err e) P holds = holds
+
+-- what follows holds where it fails
+pub err_if : {X E : Type 0} (r : Result X E) (P Q : Type 0) → (P → Q) → IfErr r (λ e. P) → IfErr r (λ e. Q)
+err_if (Ok x) P Q more holds = tt
+err_if (Err e) P Q more holds = more holds
 
 -- what follows of each value holds of the one that there is
 pub if_there : {X : Type 0} (r : Option X) (P Q : X → Type 0) → ((x : X) → P x → Q x) → IfSome r P → IfSome r Q
@@ -65,24 +79,24 @@ of_info file node name key (Ok n) none is = inr (none, is)
 of_info file node name key (Err item) none is = tt
 
 -- the slave that is read back is the one of the file
-pub imported : {E : Type 0} (r : Result ImportedText E) (file : List ℕ) (words : ImportWords) (node : ℕ) (entry : SlaveEntry)
-    → IsOfFile file words node (terms_of entry) entry.writes.items → IfOk r (λ t. IsReadBack (manager_text node ++ t.slave.items) node entry)
-    → IfOk r (λ t. IsImported file words t.slave.items)
-imported (Ok t) file words node entry slave back = record {
-  node = node;
-  e = back.e;
-  list = back.list;
-  slave = record {
-    device = slave.device;
-    node_is = slave.node_is;
-    listed = subst (AreTermsOf file words node) (sym back.same.listed) slave.listed;
-    set = subst (All (IsSetting file node)) (sym back.same.set) slave.set;
-  };
-}
-imported (Err f) file words node entry slave back = tt
+pub imported : {E : Type 0} (r : Result ImportedText E) (file : List ℕ) (words : ImportWords) (node : ℕ) (entry : SlaveEntry) (found : Identity)
+    → ((told : List ℕ) → AreTold found told → IsOfFile file words node told (terms_of entry) entry.writes.items)
+    → IfOk r (λ t. IsListOf (manager_text node ++ t.slave.items) node entry) → IfOk r (λ t. AreTold found t.told.items)
+    → IfOk r (λ t. IsImported file words t.slave.items t.told.items)
+imported (Ok t) file words node entry found made back lines =
+    let told = t.told.items in
+    let slave : IsOfFile file words node told (terms_of entry) entry.writes.items = made told lines in
+    record {
+      node = node;
+      e = entry;
+      list = back;
+      slave = slave;
+    }
+imported (Err f) file words node entry found made back lines = tt
 
 -- what is listed of a number that was read, or of what stands in the file and is none
-pub listed : (r : Result ℕ Item) (n : ℕ) (mandatory : Bool) (P : ℕ → Type 0) → n ≡ number_or_0 r → IfOk r P → (mandatory ≡ true → is_ok r ≡ true) → IsReadAs mandatory P n
-listed (Ok m) n mandatory P is holds read = inl (subst P (sym is) holds)
-listed (Err item) n true P is holds read = absurd (true≢false (sym (read refl)))
-listed (Err item) n false P is holds read = inr (refl, is)
+pub listed : (r : Result ℕ Item) (n : ℕ) (mandatory : Bool) (P : ℕ → Type 0) (Unread : Type 0) (told part : List ℕ) → n ≡ number_or_0 r → IfOk r P
+    → IfErr r (λ item. Unread) → IfErr r (λ item. IsTold told part) → (mandatory ≡ true → is_ok r ≡ true) → IsReadAs mandatory P Unread told part n
+listed (Ok m) n mandatory P Unread told part is holds unread line read = inl (subst P (sym is) holds)
+listed (Err item) n true P Unread told part is holds unread line read = absurd (true≢false (sym (read refl)))
+listed (Err item) n false P Unread told part is holds unread line read = inr record { optional = refl; unread = unread; line = line; listed = is }

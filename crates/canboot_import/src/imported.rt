@@ -1,16 +1,17 @@
 //! A slave of a network list from a device file.
 
-ghost use Rattle.std.specs.Prelude.{◌≡◌, All, IfOk, IfSome, IsTrue, MatchOption, if◌then◌else◌, true};
+ghost use Rattle.std.specs.Prelude.{◌≡◌, All, IfErr, IfOk, IfSome, IsTrue, MatchOption, codes, if◌then◌else◌, true};
 ghost use Rattle.cm_netlist.specs.Network.{terms_of};
 ghost use Rattle.cm_device.specs.DeviceFiles.{IsNumber};
-ghost use Rattle.canboot_import.specs.Imports.{AreTermsOf, HasDevice, IsDeviceInfo, IsDeviceType, IsIdentity};
-ghost use Rattle.canboot_import.specs.Imports.{IsNodeOf, IsOfFile, IsSerial};
-ghost use Rattle.cm_device.specs.FileValues.{IsSetting};
+ghost use Rattle.canboot_import.specs.Imports.{AreTermsOf, HasDevice, IsDeviceInfo, IsDeviceType, IsIdentity, IsIdentityUnread};
+ghost use Rattle.canboot_import.specs.Imports.{IsNodeOf, IsObjectUnread, IsOfFile, IsSerial};
+ghost use Rattle.cm_device.specs.FileValues.{IsSetting, StandsUnread};
 ghost use Rattle.cm_device.specs.FileLines.{AreAllOf, AreOf};
-ghost use Rattle.canboot_import.specs.LinesRead.{AreIdentitiesOf, AreRead, IsNumberRead, IsObjectRead};
+ghost use Rattle.canboot_import.specs.LinesRead.{AreIdentitiesOf, AreRead, AreTold, AreUnreadOf, IsNumberRead, IsObjectRead};
 ghost use Rattle.canboot_import.specs.LinesRead.{StandsAsNode, number_or_0, or_0};
 ghost use Rattle.cm_device.specs.SettingsMade.{AllWrites, IsOf};
 
+use crate::slave_text::put_uncompared;
 use arrayvec::ArrayVec;
 use cm_device::{
     FileFault, Item, MOST_WRITES, Settings, given_item, number, object_of, settings_of, value_of,
@@ -45,8 +46,8 @@ pub(crate) enum ImportFault<'a> {
     NoNode,
     /// The node-ID that it has is none.
     BadNode(Item<'a>),
-    /// The slave is mandatory, and not all of what its device is compared with can be read.
-    Unread(Identity<'a>),
+    /// The slave is mandatory, and not all of what its device is compared with can be read: a line for each value.
+    Unread(Vec<u8>),
     /// It has more writes than a slave can have, and the first of them weren't asked for.
     Many(Settings<'a>),
     /// Not each of its values is a write.
@@ -85,8 +86,10 @@ fn read_number<'a>(
     key: &str,
     node: NodeId,
 ) -> Result<Option<u32>, Item<'a>>
-    ensures { (file : _) → AreOf file items.now → AreAllOf file items.now
+    ensures read { (file : _) → AreOf file items.now → AreAllOf file items.now
         → IfOk result (IsNumberRead file node name.now key.now) }
+    ensures unread { (file : _) → AreOf file items.now → AreAllOf file items.now
+        → IfErr result (λ _. StandsUnread file node name.now key.now) }
 {
     let Some(item) = given_item(items, name.as_bytes(), key.as_bytes()) else {
         return Ok(None);
@@ -99,8 +102,10 @@ fn read_number<'a>(
 
 /// The value of an object: the one that is given, else its default.
 fn object_value<'a>(items: &[Item<'a>], name: &str, node: NodeId) -> Result<Option<u32>, Item<'a>>
-    ensures { (file : _) → AreOf file items.now → AreAllOf file items.now
+    ensures read { (file : _) → AreOf file items.now → AreAllOf file items.now
         → IfOk result (IsObjectRead file node name.now) }
+    ensures unread { (file : _) → AreOf file items.now → AreAllOf file items.now
+        → IfErr result (λ _. IsObjectUnread file node name.now) }
 {
     match read_number(items, name, "ParameterValue", node)? {
         Some(value) => Ok(Some(value)),
@@ -110,8 +115,10 @@ fn object_value<'a>(items: &[Item<'a>], name: &str, node: NodeId) -> Result<Opti
 
 /// What the file says of its device under this key, or 0.
 fn device_info<'a>(items: &[Item<'a>], key: &str, node: NodeId) -> Result<u32, Item<'a>>
-    ensures { (file : _) → AreOf file items.now → AreAllOf file items.now
+    ensures read { (file : _) → AreOf file items.now → AreAllOf file items.now
         → IfOk result (IsDeviceInfo file node key.now) }
+    ensures unread { (file : _) → AreOf file items.now → AreAllOf file items.now
+        → IfErr result (λ _. StandsUnread file node (codes "DeviceInfo") key.now) }
 {
     match read_number(items, "DeviceInfo", key, node)? {
         Some(value) => Ok(value),
@@ -136,8 +143,10 @@ fn identity_value<'a>(
     key: &str,
     node: NodeId,
 ) -> Result<u32, Item<'a>>
-    ensures { (file : _) → AreOf file items.now → AreAllOf file items.now
+    ensures read { (file : _) → AreOf file items.now → AreAllOf file items.now
         → IfOk result (IsIdentity file node name.now key.now) }
+    ensures unread { (file : _) → AreOf file items.now → AreAllOf file items.now
+        → IfErr result (λ _. IsIdentityUnread file node name.now key.now) }
 {
     let value = object_value(items, name, node)?;
     let number = or_0(value);
@@ -149,8 +158,10 @@ fn identity_value<'a>(
 
 /// The device type, or 0.
 fn device_type<'a>(items: &[Item<'a>], node: NodeId) -> Result<u32, Item<'a>>
-    ensures { (file : _) → AreOf file items.now → AreAllOf file items.now
+    ensures read { (file : _) → AreOf file items.now → AreAllOf file items.now
         → IfOk result (IsDeviceType file node) }
+    ensures unread { (file : _) → AreOf file items.now → AreAllOf file items.now
+        → IfErr result (λ _. IsObjectUnread file node (codes "1000")) }
 {
     match object_value(items, "1000", node)? {
         Some(value) => Ok(value),
@@ -160,7 +171,10 @@ fn device_type<'a>(items: &[Item<'a>], node: NodeId) -> Result<u32, Item<'a>>
 
 /// The serial number that a device configuration file has, or 0.
 fn serial<'a>(items: &[Item<'a>], node: NodeId) -> Result<u32, Item<'a>>
-    ensures { (file : _) → AreOf file items.now → AreAllOf file items.now → IfOk result (IsSerial file node) }
+    ensures read { (file : _) → AreOf file items.now → AreAllOf file items.now
+        → IfOk result (IsSerial file node) }
+    ensures unread { (file : _) → AreOf file items.now → AreAllOf file items.now
+        → IfErr result (λ _. StandsUnread file node (codes "1018sub4") (codes "ParameterValue")) }
 {
     match read_number(items, "1018sub4", "ParameterValue", node)? {
         Some(value) => Ok(value),
@@ -170,7 +184,8 @@ fn serial<'a>(items: &[Item<'a>], node: NodeId) -> Result<u32, Item<'a>>
 
 /// What the device of a file is compared with.
 fn identity_of<'a>(items: &[Item<'a>], node: NodeId) -> Identity<'a>
-    ensures { (file : _) → AreOf file items.now → AreAllOf file items.now → AreIdentitiesOf file node result }
+    ensures read { (file : _) → AreOf file items.now → AreAllOf file items.now → AreIdentitiesOf file node result }
+    ensures unread { (file : _) → AreOf file items.now → AreAllOf file items.now → AreUnreadOf file node result }
 {
     Identity {
         device_type: device_type(items, node),
@@ -272,8 +287,9 @@ fn listed_number(found: &Result<u32, Item<'_>>) -> u32
 
 /// What the list says of the slave beside its writes.
 fn listed_terms(identity: &Identity<'_>, words: &ImportWords) -> Terms
-    ensures { (file : _) (node : _) → AreIdentitiesOf file node identity.now
-        → (words.now.mandatory ≡ true → AreRead identity.now) → AreTermsOf file words.now node result }
+    ensures { (file : _) (node : _) (told : _) → AreIdentitiesOf file node identity.now
+        → AreUnreadOf file node identity.now → AreTold identity.now told
+        → (words.now.mandatory ≡ true → AreRead identity.now) → AreTermsOf file words.now node told result }
 {
     Terms {
         assignment: assignment(words.mandatory),
@@ -342,6 +358,15 @@ fn may_be_listed(identity: &Identity<'_>, words: &ImportWords) -> bool
     !words.mandatory || identity.is_read()
 }
 
+/// That not all of what the device of a mandatory slave is compared with can be read.
+fn unread_fault<'a>(alloc: Global, identity: &Identity<'_>) -> ImportFault<'a> {
+    let mut lines = Vec::new(alloc);
+    match put_uncompared(alloc, identity, "  ", &mut lines) {
+        Ok(()) => ImportFault::Unread(lines),
+        Err(_) => ImportFault::File(FileFault::OutOfMemory),
+    }
+}
+
 /// The slave that the sections of a file give.
 pub(crate) fn slave_of<'a>(
     alloc: Global,
@@ -349,7 +374,8 @@ pub(crate) fn slave_of<'a>(
     words: &ImportWords,
 ) -> Result<Imported<'a>, ImportFault<'a>>
     ensures { (file : _) → AreOf file items.now → AreAllOf file items.now
-        → IfOk result (λ s. IsOfFile file words.now s.id (terms_of s.entry) s.entry.writes.items) }
+        → IfOk result (λ s. (told : _) → AreTold s.identity told
+        → IsOfFile file words.now s.id told (terms_of s.entry) s.entry.writes.items) }
 {
     if !has_device(items) {
         return Err(ImportFault::NoDevice);
@@ -357,7 +383,7 @@ pub(crate) fn slave_of<'a>(
     let id = id_of(items, words)?;
     let identity = identity_of(items, id);
     if !may_be_listed(&identity, words) {
-        return Err(ImportFault::Unread(identity));
+        return Err(unread_fault(alloc, &identity));
     }
     let settings = settings_in(alloc, items, id, words)?;
     let terms = listed_terms(&identity, words);

@@ -4,9 +4,9 @@ ghost use Rattle.std.specs.Prelude.{◌≡◌, ◌⊎◌, OnOk};
 ghost use Rattle.std.specs.Io.KnownBytes.{Appends};
 ghost use Rattle.canboot_import.specs.Importing.{FailsToImport, ImportsSlave};
 
-use crate::imported::{Identity, ImportFault, ImportWords};
+use crate::imported::{ImportFault, ImportWords};
 use crate::made::{ImportedText, import};
-use crate::slave_text::{put_all_unwritten, put_uncompared};
+use crate::slave_text::put_all_unwritten;
 use canboot_faults::{FAILED, REFUSED, fault_line, input_fault_line, output_status};
 use canboot_refusing::read_fault_of;
 use cm_device::{FileFault, Item, MOST_WRITES, Settings};
@@ -29,10 +29,10 @@ fn put_bad_node<E: Write>(item: &Item<'_>, err: &mut E) -> io::Result<()> {
     writeln!(err, "', and has to be 1 to 127; --id gives another")
 }
 
-/// Writes that the identity of a mandatory slave can't be read.
-fn put_bad_identity<E: Write>(identity: &Identity<'_>, err: &mut E) -> io::Result<()> {
+/// Writes that the identity of a mandatory slave can't be read, and these lines of its values.
+fn put_bad_identity<E: Write>(lines: &[u8], err: &mut E) -> io::Result<()> {
     err.write_all(b"canboot: what the device of a mandatory slave is can't be read\n")?;
-    put_uncompared(identity, "  ", err)
+    err.write_all(lines)
 }
 
 /// Writes that a file has too many writes, and gives the exit status.
@@ -66,8 +66,8 @@ fn refuse_import<E: Write>(err: &mut E, fault: ImportFault<'_>) -> u8
             let _ = put_bad_node(&item, err);
             REFUSED
         }
-        ImportFault::Unread(identity) => {
-            let _ = put_bad_identity(&identity, err);
+        ImportFault::Unread(lines) => {
+            let _ = put_bad_identity(lines.as_slice(), err);
             REFUSED
         }
         ImportFault::Many(settings) => refuse_many(&settings, err),
@@ -90,7 +90,8 @@ fn put_slave<W: Write, E: Write>(slave: &ImportedText, out: &mut W, err: &mut E)
 }
 
 /// Reads a device file (CiA 306) to the end of the input, and writes the slave that it gives, as a table of a network list in TOML.
-/// What of the file it doesn't have is written to `err`, a line for each value. The answer is the exit status:
+/// What of the file it doesn't have is written to `err`, a line for each value; the clauses say of these lines only what they are, and not
+/// that they were written, as a write of them that fails is passed over. The answer is the exit status:
 ///
 /// - 0: the table is written;
 /// - 1: the bytes are no device file, or not one of a device with 1000h or 1018h; or neither they nor the words give a node-ID from 1

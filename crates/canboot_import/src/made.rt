@@ -1,15 +1,16 @@
 //! The text of a slave that is made of a device file, read back before it is given.
 
 ghost use Rattle.std.specs.Prelude.{◌++◌, IfOk};
-ghost use Rattle.cm_netlist.specs.ReadBack.{IsReadBack, manager_text};
+ghost use Rattle.cm_netlist.specs.ReadBack.{IsListOf, manager_text};
 ghost use Rattle.canboot_import.specs.Imports.{IsImported};
+ghost use Rattle.canboot_import.specs.LinesRead.{AreTold};
 
 use crate::imported::{ImportFault, ImportWords, Imported, slave_of};
 use crate::slave_text::{put_all_unwritten, put_imported, put_uncompared};
 use cm_device::{FileFault, read_items};
 use cm_netlist::is_read_back;
 use std::alloc::Global;
-use std::io;
+use std::io::{self, Write};
 
 /// A slave's text, and what of its file it doesn't have.
 #[derive(Drop)]
@@ -20,24 +21,32 @@ pub(crate) struct ImportedText {
     pub told: Vec<u8>,
 }
 
-/// Writes the slave's table, and the lines of what isn't compared with the device or written to it.
-fn put_all(slave: &Imported<'_>, text: &mut Vec<u8>, told: &mut Vec<u8>) -> io::Result<()> {
-    put_imported(slave, text)?;
-    put_uncompared(&slave.identity, "not compared: ", told)?;
+/// The lines of what isn't compared with the device or written to it.
+fn told_of(alloc: Global, slave: &Imported<'_>) -> io::Result<Vec<u8>>
+    ensures { IfOk result (λ t. AreTold slave.now.identity t.items) }
+{
+    let mut told = Vec::new(alloc);
+    put_uncompared(alloc, &slave.identity, "not compared: ", &mut told)?;
+    let mut behind = Vec::new(alloc);
     let unwritten = slave.settings.unwritten.as_slice();
-    put_all_unwritten(unwritten, "not written: ", told)
+    put_all_unwritten(unwritten, "not written: ", &mut behind)?;
+    told.write_all(behind.as_slice())?;
+    Ok(told)
 }
 
 /// The slave's text, which is read back before.
 fn text_of<'a>(alloc: Global, slave: &Imported<'a>) -> Result<ImportedText, ImportFault<'a>>
-    ensures { IfOk result (λ t.
-        IsReadBack (manager_text slave.now.id ++ t.slave.items) slave.now.id slave.now.entry) }
+    ensures list { IfOk result (λ t.
+        IsListOf (manager_text slave.now.id ++ t.slave.items) slave.now.id slave.now.entry) }
+    ensures told { IfOk result (λ t. AreTold slave.now.identity t.told.items) }
 {
     let mut text = Vec::new(alloc);
-    let mut told = Vec::new(alloc);
-    if put_all(slave, &mut text, &mut told).is_err() {
+    if put_imported(alloc, slave, &mut text).is_err() {
         return Err(ImportFault::File(FileFault::OutOfMemory));
     }
+    let Ok(told) = told_of(alloc, slave) else {
+        return Err(ImportFault::File(FileFault::OutOfMemory));
+    };
     match is_read_back(alloc, text.as_slice(), slave.id, &slave.entry) {
         Ok(true) => Ok(ImportedText { slave: text, told }),
         Ok(false) => Err(ImportFault::NoList),
@@ -56,7 +65,7 @@ pub(crate) fn import<'a>(
     file: &'a [u8],
     words: ImportWords,
 ) -> Result<ImportedText, ImportFault<'a>>
-    ensures { IfOk result (λ t. IsImported file.now words t.slave.items) }
+    ensures { IfOk result (λ t. IsImported file.now words t.slave.items t.told.items) }
 {
     match read_items(alloc, file) {
         Ok(items) => {

@@ -1,9 +1,15 @@
 //! An imported slave as a table of a network list in TOML.
 
+ghost use Rattle.std.specs.Prelude.{OnOk};
+ghost use Rattle.std.specs.Io.KnownBytes.{Appends};
+ghost use Rattle.canboot_import.specs.Imports.{unread_line};
+ghost use Rattle.canboot_import.specs.LinesRead.{Tells, TellsAll};
+
 use crate::imported::{Identity, Imported};
 use cm_device::{Item, NumberFault, Reason, Setting, Unwritten};
 use cm_netlist::{SlaveEntry, put_comment, put_identity, put_key, put_name};
 use cm_text::hex8;
+use std::alloc::Global;
 use std::io::{self, Write};
 
 /// Writes a hexadecimal number as TOML has it.
@@ -12,38 +18,61 @@ fn put_hex<W: Write>(digits: &[u8], out: &mut W) -> io::Result<()> {
     out.write_all(digits)
 }
 
+/// Writes the line of a value that is no number.
+fn put_no_number<W: Write>(
+    front: &str,
+    part: &str,
+    shown: &[u8],
+    line: usize,
+    out: &mut W,
+) -> io::Result<()>
+    ensures { OnOk result (Appends (W.contents out.old) (W.contents out.new)
+        (unread_line front.now part.now shown.now line)) }
+{
+    write!(out, "{front}{part}: '")?;
+    out.write_all(shown)?;
+    writeln!(out, "' of line {line} is no number")
+}
+
 /// Writes that a part of the identity stands in the file and is no number, where that is so.
 fn put_unread<W: Write>(
+    alloc: Global,
     found: &Result<u32, Item<'_>>,
     part: &str,
     front: &str,
     out: &mut W,
-) -> io::Result<()> {
-    let Err(item) = found else {
-        return Ok(());
-    };
-    write!(out, "{front}{part}: '")?;
-    put_name(item.value, out)?;
-    let line = item.line;
-    writeln!(out, "' of line {line} is no number")
+) -> io::Result<()>
+    ensures { OnOk result (Tells front.now part.now found.now (W.contents out.old) (W.contents out.new)) }
+{
+    match found {
+        Ok(_) => Ok(()),
+        Err(item) => {
+            let mut shown = Vec::new(alloc);
+            put_name(item.value, &mut shown)?;
+            put_no_number(front, part, shown.as_slice(), item.line, out)
+        }
+    }
 }
 
 /// Writes a line, with these words in front, for each part of the identity that stands in the file and is no number.
 pub(crate) fn put_uncompared<W: Write>(
+    alloc: Global,
     identity: &Identity<'_>,
     front: &str,
     out: &mut W,
-) -> io::Result<()> {
-    put_unread(&identity.device_type, "1000h, device type", front, out)?;
-    put_unread(&identity.vendor, "1018h sub 1, vendor-ID", front, out)?;
-    put_unread(&identity.product, "1018h sub 2, product code", front, out)?;
-    put_unread(
-        &identity.revision,
-        "1018h sub 3, revision number",
-        front,
-        out,
-    )?;
-    put_unread(&identity.serial, "1018h sub 4, serial number", front, out)
+) -> io::Result<()>
+    ensures { OnOk result (TellsAll front.now identity.now (W.contents out.old) (W.contents out.new)) }
+{
+    let device_type = "1000h, device type";
+    put_unread(alloc, &identity.device_type, device_type, front, out)?;
+    let vendor = "1018h sub 1, vendor-ID";
+    put_unread(alloc, &identity.vendor, vendor, front, out)?;
+    let product = "1018h sub 2, product code";
+    put_unread(alloc, &identity.product, product, front, out)?;
+    let revision = "1018h sub 3, revision number";
+    put_unread(alloc, &identity.revision, revision, front, out)?;
+    let serial = "1018h sub 4, serial number";
+    put_unread(alloc, &identity.serial, serial, front, out)
 }
 
 /// Writes a value in the digits of its size.
@@ -131,13 +160,17 @@ fn put_terms<W: Write>(entry: &SlaveEntry, out: &mut W) -> io::Result<()> {
 }
 
 /// Writes the slave as a table of a network list.
-pub(crate) fn put_imported<W: Write>(slave: &Imported<'_>, out: &mut W) -> io::Result<()> {
+pub(crate) fn put_imported<W: Write>(
+    alloc: Global,
+    slave: &Imported<'_>,
+    out: &mut W,
+) -> io::Result<()> {
     out.write_all(b"[[slave]]")?;
     put_comment(slave.product, out)?;
     writeln!(out, "id = {}", slave.id.get())?;
     put_terms(&slave.entry, out)?;
     put_writes(slave.settings.settings.as_slice(), out)?;
-    put_uncompared(&slave.identity, "# not compared: ", out)?;
+    put_uncompared(alloc, &slave.identity, "# not compared: ", out)?;
     let unwritten = slave.settings.unwritten.as_slice();
     put_all_unwritten(unwritten, "# not written: ", out)
 }

@@ -1,5 +1,5 @@
 -- What the live run of a network list does.
-use Rattle.std.specs.Prelude.{◌≡◌, ◌⊎◌, ◌+◌, ℕ, Bool, List, [], Option}
+use Rattle.std.specs.Prelude.{◌≡◌, ◌⊎◌, ℕ, Bool, List, [], Option}
 use Rattle.std.specs.Io.KnownBytes.{Appends}
 use Rattle.cm_nmt.specs.declared.frame.Frame.{Frame}
 use Rattle.cm_netlist.specs.Network.{Network, listing}
@@ -12,7 +12,7 @@ use Rattle.cm_bus.specs.Outlets.{IsWell, SendsMessages}
 use Rattle.cm_bus.specs.declared.outlet.Outlet.{Outlet}
 use Rattle.cm_format.specs.Unended.{unended_text}
 pub use Rattle.cm_text.specs.Fronts.{AppendsIfThere, IsWritten}
-pub use Rattle.cm_format.specs.Runs.{IsRun, IsOfNoMaster, RefusesRun}
+pub use Rattle.cm_format.specs.Runs.{IsRun, IsRunOn, IsOfNoMaster, RefusesRun}
 use Rattle.cm_report.specs.declared.report_form.ReportForm.{ReportForm}
 use Rattle.cm_report.specs.ReportForms.{report_in}
 use Rattle.cm_crew.specs.Heard.{IsAllHeard}
@@ -38,15 +38,6 @@ abbrev pub KeptOrBegins : {A : Type 0} → Network → ℕ → ℕ → (A → Op
     → (A → Bool) → (List Frame → Type 0) → Type 0
 KeptOrBegins net seats limit contents journal journal' failed Sends =
     ((journal' ≡ journal) × Sends []) ⊎ Begins net seats limit (contents journal) (contents journal') (failed journal') Sends
-
--- a journal of this network list, of version 2, whose entries are legal, which has a seat for each of this many workers and one
--- more, and this limit
-pub record IsRunOn (net : Network) (workers limit : ℕ) (j : JournalView) : Type 0 where
-  pub network : j.network ≡ net
-  pub version : j.version ≡ Two
-  pub journal : IsJournal j
-  pub seats : j.seats ≡ workers + 1
-  pub most : j.limit ≡ limit
 
 module _ {W : Type 0} (contents : W → Option (List ℕ)) (format : Format) (received typed : Option (List ℕ)) where
   -- a live run that ended in order: of the legal history of such a journal just the report was written, to the

@@ -1,12 +1,10 @@
 -- What the run of a network list with simulated slaves does.
-use Rattle.std.specs.Prelude.{◌≡◌, ◌⊎◌, ◌+◌, ℕ, List, Option}
+use Rattle.std.specs.Prelude.{◌≡◌, ◌⊎◌, ℕ, List, Option}
 use Rattle.std.specs.Io.KnownBytes.{Appends}
 use Rattle.cm_history.specs.declared.call.Entry.{Entry}
 use Rattle.cm_netlist.specs.Network.{Network}
 use Rattle.cm_format.specs.Text.{JournalView, text}
-use Rattle.cm_format.specs.declared.version.Version.TheVariants.{Two}
-use Rattle.cm_format.specs.Journals.{IsJournal}
-use Rattle.cm_format.specs.Runs.{IsRun}
+use Rattle.cm_format.specs.Runs.{IsRun, IsRunOn}
 pub use Rattle.cm_text.specs.Fronts.{AppendsIfThere}
 use Rattle.cm_netlist.specs.ListsRead.{IsList}
 use Rattle.canboot_run.specs.Simulated.{IsSimulated}
@@ -49,15 +47,6 @@ FailsToRun workers attempts faults limit input input' output output' journal jou
     × IsSimulated j.network workers attempts faults j.entries)
 
 -- Working definitions, behind the contract of `run_text`.
-
--- a journal of this network list, of version 2, whose entries are legal, which has a seat for each of this many workers and one
--- more, and this limit
-pub record IsRunOn (net : Network) (workers limit : ℕ) (j : JournalView) : Type 0 where
-  pub network : j.network ≡ net
-  pub version : j.version ≡ Two
-  pub journal : IsJournal j
-  pub seats : j.seats ≡ workers + 1
-  pub most : j.limit ≡ limit
 
 -- of the history of such a journal, which is that of a run with simulated slaves, just the report was written, in the form that has
 -- this text, and to the journal's output, if there is one, just the text of that journal

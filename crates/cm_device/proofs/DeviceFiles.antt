@@ -28,7 +28,7 @@ next_left xs n d x rest e =
 -- ---- each line, section and key is read in one way
 
 -- a text has one form without white space at its ends
-one_trim : (raw a b : List ℕ) → IsTrimAscii raw a → IsTrimAscii raw b → a ≡ b
+pub one_trim : (raw a b : List ℕ) → IsTrimAscii raw a → IsTrimAscii raw b → a ≡ b
 one_trim raw a b p q = trim_ascii_is raw a (drop (prefix_len is_ascii_whitespace raw) raw) refl p ∙ sym (trim_ascii_is raw b (drop (prefix_len is_ascii_whitespace raw) raw) refl q)
 
 nothing_is_trimmed : IsTrimAscii [] []

@@ -1,2 +1,3 @@
 pub mod DeviceFiles
+pub mod Numbers
 pub mod Added

@@ -84,10 +84,14 @@ IsPlain text n = IsWritten (base_and_digits text).0 (base_and_digits text).1 n
 abbrev pub IsNodeId : List ℕ → Type 0
 IsNodeId text = AreSame text (codes "$NODEID")
 
+-- one of the texts stands for the node-ID, and the other one is this number by itself
+abbrev pub IsBesideId : List ℕ → List ℕ → ℕ → Type 0
+IsBesideId one other plain = (IsNodeId one × IsPlain other plain) ⊎ (IsNodeId other × IsPlain one plain)
+
 -- one of the texts is a number and the other one the node-ID, and this is their sum
 pub record AreSummed (node : ℕ) (one other : List ℕ) (n : ℕ) : Type 0 where
   pub plain : ℕ
-  pub which : (IsNodeId one × IsPlain other plain) ⊎ (IsNodeId other × IsPlain one plain)
+  pub which : IsBesideId one other plain
   pub sum : n ≡ plain + node
   pub small : n < 2 ^ 32
 
@@ -105,6 +109,10 @@ pub record IsSum (node : ℕ) (text : List ℕ) (n : ℕ) : Type 0 where
 -- the number of a value of the device of this node-ID
 abbrev pub IsNumber : ℕ → List ℕ → ℕ → Type 0
 IsNumber node text n = IsSum node text n ⊎ ((IsNodeId text × (n ≡ node)) ⊎ IsPlain text n)
+
+-- the text is no number, for the device of this node-ID
+abbrev pub IsNoNumber : ℕ → List ℕ → Type 0
+IsNoNumber node text = (n : ℕ) → IsNumber node text n → ⊥
 
 -- ---- objects
 

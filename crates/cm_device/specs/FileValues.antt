@@ -1,7 +1,7 @@
 -- The values that a device file gives its device (CiA 306; the order of the writes that are made of them is CiA 301's, and in no clause).
 use Rattle.std.specs.Prelude.{◌≡◌, ◌⊎◌, ◌≤◌, ◌/◌, ◌==◌, ◌&&◌, ◌||◌, ℕ, Bool, true, List, [], ◌++◌, Some, bit_or, codes, length}
 use Rattle.cm_nmt.specs.declared.write.Write.{Write}
-use Rattle.cm_device.specs.DeviceFiles.{AreSame, Has, IsNumber, IsObject, IsPlain, IsTypedNumber, IsWritten, behind_mark, size_of}
+use Rattle.cm_device.specs.DeviceFiles.{AreSame, Has, IsNoNumber, IsNumber, IsObject, IsPlain, IsTypedNumber, IsWritten, behind_mark, size_of}
 
 -- the text is a number of the data type that the section gives, in so many bytes
 pub record IsTyped (file section : List ℕ) (node : ℕ) (text : List ℕ) (size n : ℕ) : Type 0 where
@@ -89,3 +89,9 @@ pub record IsGiven (file : List ℕ) (node : ℕ) (name key : List ℕ) (n : ℕ
   pub text : List ℕ
   pub stands : Stands file name key text
   pub number : IsNumber node text n
+
+-- a text that is no number stands in the file under this key in a section of this name
+pub record StandsUnread (file : List ℕ) (node : ℕ) (name key : List ℕ) : Type 0 where
+  pub text : List ℕ
+  pub stands : Stands file name key text
+  pub none : IsNoNumber node text

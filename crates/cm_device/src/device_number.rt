@@ -1,7 +1,7 @@
 //! Numbers of a device file, and what its sections are named for (CiA 306).
 
-ghost use Rattle.std.specs.Prelude.{◌≡◌, ◌⊎◌, ◌≤◌, IfOk, IfSome, IsTrue};
-ghost use Rattle.cm_device.specs.DeviceFiles.{AreSummed, IsNegative, IsNodeId, IsNumber, IsObject, IsPlain, IsReal};
+ghost use Rattle.std.specs.Prelude.{◌≡◌, ◌⊎◌, ◌≤◌, IfNone, IfOk, IfSome, IsTrue, false};
+ghost use Rattle.cm_device.specs.DeviceFiles.{AreSummed, IsBesideId, IsNegative, IsNoNumber, IsNodeId, IsNumber, IsObject, IsPlain, IsReal};
 ghost use Rattle.cm_device.specs.DeviceFiles.{IsTypedNumber, IsWritten, base_and_digits, half_of, size_of};
 ghost use Rattle.cm_nmt.specs.Size.{is_size};
 
@@ -28,36 +28,52 @@ const REAL32: u32 = 8;
 /// The number of 32 bits at most that the digits are in this base.
 fn in_base(digits: &[u8], base: u32) -> Option<u32>
     requires { (2 ≤ base) × (base ≤ 36) }
-    ensures { IfSome result (λ n. IsWritten base digits.now n) }
+    ensures number { IfSome result (λ n. IsWritten base digits.now n) }
+    ensures none { IfNone result ((n : _) → IsWritten base digits.now n → ⊥) }
 {
     if let [b'+', ..] = digits {
         return None;
     }
-    let digits = str::from_utf8(digits).ok()?;
-    u32::from_str_radix(digits, base).ok()
+    match str::from_utf8(digits) {
+        Ok(digits) => u32::from_str_radix(digits, base).ok(),
+        Err(_) => None,
+    }
 }
 
-/// The number as C has it: behind `0x` in base 16, behind another 0 in base 8, else in base 10.
-pub(crate) fn plain_number(text: &[u8]) -> Option<u32>
-    ensures { IfSome result (λ n. IsPlain text.now n) }
+/// The base and the digits of a number as C has it: behind `0x` base 16, behind another 0 base 8, else base 10.
+fn base_and_digits(text: &[u8]) -> (u32, &[u8])
+    ensures base { result.0 ≡ (base_and_digits text.now).0 }
+    ensures digits { result.1.now ≡ (base_and_digits text.now).1 }
+    ensures small { (2 ≤ result.0) × (result.0 ≤ 36) }
 {
     match text {
-        [b'0', b'x' | b'X', digits @ ..] => in_base(digits, 16),
-        [b'0', _, ..] => in_base(&text[1..], 8),
-        _ => in_base(text, 10),
+        [b'0', b'x' | b'X', digits @ ..] => (16, digits),
+        [b'0', _, ..] => (8, &text[1..]),
+        _ => (10, text),
     }
+}
+
+/// The number as C has it.
+pub(crate) fn plain_number(text: &[u8]) -> Option<u32>
+    ensures number { IfSome result (λ n. IsPlain text.now n) }
+    ensures none { IfNone result ((n : _) → IsPlain text.now n → ⊥) }
+{
+    let (base, digits) = base_and_digits(text);
+    in_base(digits, base)
 }
 
 /// Whether the text stands for the node-ID.
 fn is_node_id(text: &[u8]) -> bool
-    ensures { IsTrue result → IsNodeId text.now }
+    ensures same { IsTrue result → IsNodeId text.now }
+    ensures other { result ≡ false → IsNodeId text.now → ⊥ }
 {
     is_same(text, b"$NODEID")
 }
 
 /// The number of a value: a plain one, the node-ID, or the sum of both.
 pub fn number(text: &[u8], node: NodeId) -> Option<u32>
-    ensures { IfSome result (λ n. IsNumber node text.now n) }
+    ensures number { IfSome result (λ n. IsNumber node text.now n) }
+    ensures none { IfNone result (IsNoNumber node text.now) }
 {
     if is_node_id(text) {
         return Some(u32::from(node.get()));
@@ -73,17 +89,26 @@ pub fn number(text: &[u8], node: NodeId) -> Option<u32>
     sum(first.trim_ascii(), second.trim_ascii(), node)
 }
 
+/// The plain number of two texts of which the other one stands for the node-ID.
+fn beside_id(first: &[u8], second: &[u8]) -> Option<u32>
+    ensures number { IfSome result (IsBesideId first.now second.now) }
+    ensures none { IfNone result ((n : _) → IsBesideId first.now second.now n → ⊥) }
+{
+    if is_node_id(first) {
+        return plain_number(second);
+    }
+    if is_node_id(second) {
+        return plain_number(first);
+    }
+    None
+}
+
 /// The sum of the node-ID and a plain number, in either order.
 fn sum(first: &[u8], second: &[u8], node: NodeId) -> Option<u32>
-    ensures { IfSome result (λ n. AreSummed node first.now second.now n) }
+    ensures number { IfSome result (λ n. AreSummed node first.now second.now n) }
+    ensures none { IfNone result ((n : _) → AreSummed node first.now second.now n → ⊥) }
 {
-    let other = if is_node_id(first) {
-        plain_number(second)?
-    } else if is_node_id(second) {
-        plain_number(first)?
-    } else {
-        return None;
-    };
+    let other = beside_id(first, second)?;
     other.checked_add(u32::from(node.get()))
 }
 

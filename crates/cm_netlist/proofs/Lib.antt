@@ -8,3 +8,4 @@ pub mod Lines
 mod Finds
 mod Walk
 pub mod ListsRead
+pub mod Entries

@@ -4,7 +4,7 @@ use Rattle.toml.specs.Data.{Members}
 use Rattle.toml.specs.Parse.{parse_document}
 use Rattle.cm_netlist.specs.Document.{fault_of}
 use Rattle.cm_netlist.specs.Named.{network_of}
-use Rattle.cm_netlist.specs.Network.{Network, entry, listed_ids, terms_of}
+use Rattle.cm_netlist.specs.Network.{Network, entry, listed_ids}
 use Rattle.cm_netlist.specs.declared.entry.SlaveEntry.{SlaveEntry}
 
 -- a text on a line of its own
@@ -23,22 +23,9 @@ pub record IsListOf (text : List ℕ) (node : ℕ) (e : SlaveEntry) : Type 0 whe
   pub only : listed_ids (network_of list) ≡ node ∷ []
   pub is : entry (network_of list) node ≡ Some e
 
--- the same is listed of two slaves, with the same writes
-pub record AreSameEntries (one other : SlaveEntry) : Type 0 where
-  pub listed : terms_of one ≡ terms_of other
-  pub set : one.writes.items ≡ other.writes.items
-
--- the text is the list of just this slave, with what is listed of it in this entry
-pub record IsReadBack (text : List ℕ) (node : ℕ) (entry : SlaveEntry) : Type 0 where
-  pub e : SlaveEntry
-  pub list : IsListOf text node e
-  pub same : AreSameEntries e entry
-
 -- Working definition: no public contract cites it.
 
--- just this slave is listed
-pub record ListsOnly (network : Network) (node : ℕ) (listed : SlaveEntry) : Type 0 where
-  pub e : SlaveEntry
+-- just this slave is listed, with this entry
+pub record ListsOnly (network : Network) (node : ℕ) (e : SlaveEntry) : Type 0 where
   pub only : listed_ids network ≡ node ∷ []
   pub is : entry network node ≡ Some e
-  pub same : AreSameEntries e listed

@@ -1,12 +1,12 @@
 //! Whether the text of a slave is read back as that slave.
 
 ghost use Rattle.std.specs.Prelude.{◌≡◌, [], ◌∷◌, ◌++◌, IfOk, IsTrue};
-ghost use Rattle.cm_netlist.specs.ReadBack.{AreSameEntries, IsReadBack, ListsOnly, manager_text};
+ghost use Rattle.cm_netlist.specs.ReadBack.{IsListOf, ListsOnly, manager_text};
 
 use crate::entry::SlaveEntry;
 use crate::list_reading::{CheckFault, list_of};
 use crate::network::Network;
-use cm_nmt::{NodeId, Terms, Write as Configuring};
+use cm_nmt::NodeId;
 use std::alloc::{AllocError, Global};
 
 /// The lines of a manager that isn't the slave itself.
@@ -20,41 +20,11 @@ fn manager_lines(slave: NodeId) -> &'static str
     }
 }
 
-/// Whether the terms are the same.
-fn are_same_terms(one: Terms, other: Terms) -> bool
-    ensures { IsTrue result → one ≡ other }
-{
-    one == other
-}
-
-/// Whether the write is the same.
-fn is_same_write(one: Configuring, other: Configuring) -> bool
-    ensures { IsTrue result → one ≡ other }
-{
-    one == other
-}
-
-/// Whether the writes are the same.
-fn are_same_writes(one: &[Configuring], other: &[Configuring]) -> bool
-    ensures { IsTrue result → one.now ≡ other.now }
-{
-    if one.len() != other.len() {
-        return false;
-    }
-    for at in 0..one.len() {
-        if !is_same_write(one[at], other[at]) {
-            return false;
-        }
-    }
-    true
-}
-
 /// Whether both entries are the same.
 fn is_same_entry(one: &SlaveEntry, other: &SlaveEntry) -> bool
-    ensures { IsTrue result → AreSameEntries one.now other.now }
+    ensures { IsTrue result → one.now ≡ other.now }
 {
-    are_same_terms(one.terms(), other.terms())
-        && are_same_writes(one.writes.as_slice(), other.writes.as_slice())
+    one == other
 }
 
 /// Whether this node-ID alone is among them.
@@ -84,7 +54,7 @@ fn is_list_of(
     id: NodeId,
     entry: &SlaveEntry,
 ) -> Result<bool, AllocError>
-    ensures { IfOk result (λ is. IsTrue is → IsReadBack text.now id entry.now) }
+    ensures { IfOk result (λ is. IsTrue is → IsListOf text.now id entry.now) }
 {
     match list_of(alloc, text) {
         Ok(network) => Ok(lists_only(&network, id, entry)),
@@ -101,7 +71,7 @@ pub fn is_read_back(
     id: NodeId,
     entry: &SlaveEntry,
 ) -> Result<bool, AllocError>
-    ensures { IfOk result (λ is. IsTrue is → IsReadBack (manager_text id ++ text.now) id entry.now) }
+    ensures { IfOk result (λ is. IsTrue is → IsListOf (manager_text id ++ text.now) id entry.now) }
 {
     let mut list = Vec::from_slice(alloc, manager_lines(id).as_bytes())?;
     list.extend_from_slice(text)?;

@@ -18,16 +18,16 @@ never_refused (Ok x) status is one = absurd (omega (arith, is, one))
 never_refused (Err e) status is one = absurd (omega (arith, is, one))
 
 -- the bytes that were read, and the slave of a file that they are
-slave_of : (words : ImportWords) (input input' : Option (List ℕ)) (bytes file text : List ℕ) → ReadsAll 4194304 input input' bytes → file ≡ bytes → IsImported file words text
+slave_of : (words : ImportWords) (input input' : Option (List ℕ)) (bytes file text told : List ℕ) → ReadsAll 4194304 input input' bytes → file ≡ bytes → IsImported file words text told
     → IsSlaveOf words input input' text
-slave_of words input input' bytes file text read same slave =
-    record { bytes = bytes; read = read; slave = subst (λ (it : List ℕ). IsImported it words text) same slave }
+slave_of words input input' bytes file text told read same slave =
+    record { bytes = bytes; read = read; told = told; slave = subst (λ (it : List ℕ). IsImported it words text told) same slave }
 
 pub returns-in-Ok-import-clause-done : goal.returns-in-Ok-import-clause-done
 returns-in-Ok-import-clause-done g c = λ e.
     record {
       text = c.in-Ok-import.slave.slave.items;
-      slave = slave_of c.args.words _ _ c.in-Ok.bytes.items c.as_slice.result.now c.in-Ok-import.slave.slave.items c.in-Ok.ensures c.as_slice.ensures.value c.in-Ok-import.ensures;
+      slave = slave_of c.args.words _ _ c.in-Ok.bytes.items c.as_slice.result.now c.in-Ok-import.slave.slave.items c.in-Ok-import.slave.told.items c.in-Ok.ensures c.as_slice.ensures.value c.in-Ok-import.ensures;
       written = done_written c.put_slave-written.result _ c.output_status.result c.put_slave-written.ensures c.output_status.ensures e;
     }
 
@@ -38,7 +38,7 @@ pub returns-in-Ok-import-clause-failed : goal.returns-in-Ok-import-clause-failed
 returns-in-Ok-import-clause-failed g c = λ e.
     inr (
       c.in-Ok-import.slave.slave.items,
-      slave_of c.args.words _ _ c.in-Ok.bytes.items c.as_slice.result.now c.in-Ok-import.slave.slave.items c.in-Ok.ensures c.as_slice.ensures.value c.in-Ok-import.ensures,
+      slave_of c.args.words _ _ c.in-Ok.bytes.items c.as_slice.result.now c.in-Ok-import.slave.slave.items c.in-Ok-import.slave.told.items c.in-Ok.ensures c.as_slice.ensures.value c.in-Ok-import.ensures,
     )
 
 pub returns-in-Ok-import-clause-statuses : goal.returns-in-Ok-import-clause-statuses

@@ -9,4 +9,5 @@ returns-in_ok-slave-in-Ok c =
     let slave = c.in_ok-slave-in-Ok.slave in
     let items = subst (AreOf file) (sym c.as_slice.ensures.value) c.in-Ok.ensures.items in
     let all = subst (AreAllOf file) (sym c.as_slice.ensures.value) c.in-Ok.ensures.all in
-    imported c.text_of.result file c.args.words slave.id slave.entry (c.in_ok-slave-in-Ok.ensures file items all) c.text_of.ensures
+    imported c.text_of.result file c.args.words slave.id slave.entry slave.identity (c.in_ok-slave-in-Ok.ensures file items all) c.text_of.ensures.list
+    c.text_of.ensures.told

@@ -23,7 +23,7 @@ returns c = λ file all is.
           has = described.0;
           key_is = described.1.1;
           count = c.in_ok-plain_number.field-0;
-          count_is = c.in_ok-plain_number.ensures;
+          count_is = c.in_ok-plain_number.ensures.number;
           inside = c.in_ok-sub.ensures.1;
         };
       },
