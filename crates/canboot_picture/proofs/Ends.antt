@@ -25,6 +25,10 @@ pub next_end : (column width count from : ℕ) → from ≡ min (column * width)
     → from + min width (count - from) ≡ min ((column + 1) * width) count
 next_end column width count from is h = omega arith
 
+-- the column that begins here isn't empty
+pub next_filled : (column width count from : ℕ) → from ≡ min (column * width) count → from < count → (column + 1) * width < count + width
+next_filled column width count from is h = omega arith
+
 -- a column more
 pub column_more : (net : Network) (entries : List Entry) (width : ℕ) (managers : List Manager) (m : Manager) → AreSoFar net entries width managers
     → Stands m net (past_at width entries (length managers)) → AreSoFar net entries width (managers ++ m ∷ [])

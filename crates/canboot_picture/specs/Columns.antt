@@ -18,8 +18,15 @@ past_at width entries column = reverse (take (entries_to width entries column) e
 abbrev pub shown_at : Network → List Entry → ℕ → ℕ → ℕ → ℕ
 shown_at net entries width node column = shown (listing net) (past_at width entries column) node
 
--- a manager for each column, which stands for the history up to its end; the columns are all of the history
+-- just as many columns as so many entries take: `width` entries, at least 1, stand in each column, and in the last one those that are left,
+-- so that no entry is left over and no column is empty (own)
+pub record AreAsMany (entries width columns : ℕ) : Type 0 where
+  pub some : 0 < width
+  pub whole : entries ≤ columns * width
+  pub filled : columns * width < entries + width
+
+-- a manager for each column, which stands for the history up to its end; the columns are all of the history, and just as many as it takes
 pub record AreColumns (net : Network) (entries : List Entry) (width : ℕ) (managers : List Manager) : Type 0 where
   pub stands : (column : ℕ) (m : Manager) → column < length managers → m ≡ get_or managers column m → Stands m net (past_at width entries column)
-  pub whole : length entries ≤ length managers * width
+  pub divided : AreAsMany (length entries) width (length managers)
   pub few : length managers ≤ length entries

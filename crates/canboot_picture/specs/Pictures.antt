@@ -1,12 +1,11 @@
 -- What a picture of a history is (own). Entries are given with the oldest first.
-use Rattle.std.specs.Prelude.{◌≡◌, ℕ, List, ◌∷◌, ◌++◌, codes, decimal, flat_map, length, Option}
+use Rattle.std.specs.Prelude.{◌≡◌, ℕ, ◌+◌, ◌<◌, ◌≤◌, List, ◌∷◌, ◌++◌, codes, decimal, flat_map, length, Option}
 use Rattle.std.specs.Io.KnownBytes.{Appends}
 use Rattle.cm_netlist.specs.Network.{Network, listed_ids}
 use Rattle.cm_history.specs.declared.call.Entry.{Entry}
-use Rattle.cm_sequential.specs.declared.manager.Manager.{Manager}
-use Rattle.canboot_picture.specs.Columns.{AreColumns}
+use Rattle.canboot_picture.specs.Columns.{AreAsMany}
 use Rattle.canboot_picture.specs.Marks.{mark_text}
-use Rattle.canboot_picture.specs.Spans.{AreLanes}
+use Rattle.canboot_picture.specs.Spans.{AreLanes, height_of, left_of, top_of, width_of}
 use Rattle.canboot_picture.specs.Xml.{IsDocument, declaration}
 use Rattle.canboot_picture.specs.declared.mark.Mark.{Mark}
 use Rattle.canboot_picture.specs.declared.scale.Scale.{Scale}
@@ -38,7 +37,8 @@ abbrev pub tail_text : List ℕ
 tail_text = codes "</svg>\n"
 
 -- the text is a picture of the history: a document, in which each lane, the manager's and then those of the listed slaves in rising
--- node-ID, has just the spans of the states that the history shows of its node
+-- node-ID, has just the spans of the states that the history shows of its node. The columns are just as many as the history's entries
+-- take. Each has 1 to 40 pixels, and it lies in the document, as each lane does
 pub record Pictures (net : Network) (entries : List Entry) (text : List ℕ) : Type 0 where
   pub scale : Scale
   pub columns : ℕ
@@ -48,6 +48,13 @@ pub record Pictures (net : Network) (entries : List Entry) (text : List ℕ) : T
   pub marks : List Mark
   pub shown : AreLanes net entries scale columns (net.own ∷ listed_ids net) lanes
   pub counted : scale.entries ≡ length entries
+  pub divided : AreAsMany (length entries) scale.width columns
+  pub seen : 1 ≤ scale.pitch
+  pub narrow : scale.pitch ≤ 40
+  pub wide : width ≡ width_of scale columns
+  pub high : height ≡ height_of (length (listed_ids net))
+  pub columns_inside : (column : ℕ) → column < columns → left_of scale column + scale.pitch ≤ width
+  pub lanes_inside : (row : ℕ) → row ≤ length (listed_ids net) → top_of row + 30 ≤ height
   pub is : text ≡ head_text width height ++ (style_text ++ (heading_text scale.entries scale.width ++ (lanes ++ (flat_map mark_text marks ++ tail_text))))
   pub document : IsDocument text
 

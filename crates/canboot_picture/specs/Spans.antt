@@ -1,5 +1,5 @@
 -- Spans: columns beside each other in which a node is shown in one state (own).
-use Rattle.std.specs.Prelude.{◌≡◌, ◌≢◌, ℕ, suc, ◌+◌, ◌*◌, ◌-◌, ◌<◌, ◌≤◌, ◌==◌, nat_lt, min, if◌then◌else◌, List, [], ◌∷◌, ◌++◌}
+use Rattle.std.specs.Prelude.{◌≡◌, ◌≢◌, ℕ, suc, ◌+◌, ◌*◌, ◌-◌, ◌<◌, ◌≤◌, ◌==◌, nat_lt, max, min, if◌then◌else◌, List, [], ◌∷◌, ◌++◌}
 use Rattle.std.specs.Prelude.{codes, decimal, flat_map, length, Option}
 use Rattle.std.specs.Io.KnownBytes.{Appends}
 use Rattle.cm_netlist.specs.Network.{Network}
@@ -38,6 +38,14 @@ left_of scale column = 96 + column * scale.pitch
 -- where a lane begins; the manager's is lane 0
 abbrev pub top_of : ℕ → ℕ
 top_of row = 64 + row * 30
+
+-- how wide a picture with so many columns is, so that each of them lies in it, with 94 pixels behind the last one; at least 900
+abbrev pub width_of : Scale → ℕ → ℕ
+width_of scale columns = max 900 (columns * scale.pitch + 190)
+
+-- how high a picture of so many slaves is, so that each of their lanes and the manager's lies in it, with 86 pixels below the last one
+abbrev pub height_of : ℕ → ℕ
+height_of slaves = slaves * 30 + 180
 
 -- ---- the text of a span
 

@@ -4,16 +4,17 @@ ghost use Rattle.std.specs.Prelude.{◌≡◌, ◌*◌, ◌<◌, ◌≤◌, ◌^
 ghost use Rattle.std.specs.Io.KnownBytes.{Appends};
 ghost use Rattle.cm_history.specs.Legal.{IsLegal, most_entries};
 ghost use Rattle.cm_history.specs.declared.call.Entry.{Entry as AnEntry};
-ghost use Rattle.cm_netlist.specs.Network.{listing};
+ghost use Rattle.cm_netlist.specs.Network.{listed_ids, listing};
 ghost use Rattle.canboot_picture.specs.Columns.{AreColumns};
 ghost use Rattle.canboot_picture.specs.Drawn.{IsPictureOf};
 ghost use Rattle.canboot_picture.specs.Pictures.{WritesPicture, head_text, heading_text, style_text, tail_text};
+ghost use Rattle.canboot_picture.specs.Spans.{height_of, width_of};
 
 use crate::columns::columns_of;
 use crate::drawn::Picture;
 use crate::mark::put_marks;
 use crate::marks::marks_of;
-use crate::scale::Scale;
+use crate::scale::{Scale, product};
 use crate::spans::put_lanes;
 use cm_history::Entry;
 use cm_netlist::Network;
@@ -51,8 +52,11 @@ fn fits(picture: &Picture, network: &Network) -> bool {
     length <= LONGEST
 }
 
-/// How wide a column is, in pixels, where there are so many at most.
-fn pitch_of(columns: u32) -> u32 {
+/// How wide a column is, in pixels, where there are so many.
+fn pitch_of(columns: u32) -> u32
+    ensures seen { 1 ≤ result }
+    ensures narrow { result ≤ 40 }
+{
     match 1000u32.checked_div(columns) {
         Some(pitch) => pitch.clamp(1, 40),
         None => 40,
@@ -107,6 +111,20 @@ pub fn picture_of(
     picture_with(alloc, network, entries, 10)
 }
 
+/// How wide the document of so many columns is, in pixels: so wide that each of them lies in it.
+fn width_of(scale: &Scale, columns: u32) -> u64
+    ensures { result ≡ width_of scale.now columns }
+{
+    (product(columns, scale.pitch) + 190).max(900)
+}
+
+/// How high the document is, in pixels: so high that each lane lies in it, the manager's and those of the listed slaves.
+fn height_of(network: &Network) -> u64
+    ensures { result ≡ height_of (length (listed_ids network.now)) }
+{
+    network.listed_ids().len() as u64 * 30 + 180
+}
+
 /// Writes what stands before the content of the document.
 fn put_head<W: Write>(width: u64, height: u64, out: &mut W) -> io::Result<()>
     ensures { OnOk result (Appends (W.contents out.old) (W.contents out.new) (head_text width height)) }
@@ -150,13 +168,9 @@ pub fn put_picture<W: Write>(picture: &Picture, network: &Network, out: &mut W) 
     ensures { (entries : List AnEntry) → IsPictureOf picture.now network.now entries
         → OnOk result (WritesPicture network.now entries (W.contents out.old) (W.contents out.new)) }
 {
-    let columns = picture.managers.len() as u64;
-    let rows = network.listed_ids().len() as u64;
-    let width = (columns
-        .saturating_mul(picture.scale.pitch as u64)
-        .saturating_add(190))
-    .max(900);
-    let height = rows.saturating_mul(30).saturating_add(180);
+    let columns = picture.managers.len() as u32;
+    let width = width_of(&picture.scale, columns);
+    let height = height_of(network);
     put_head(width, height, out)?;
     put_style(out)?;
     put_heading(&picture.scale, out)?;

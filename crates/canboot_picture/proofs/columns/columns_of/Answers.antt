@@ -1,10 +1,10 @@
-use Rattle.std.proofs.Common.{◌≡◌, ℕ, ◌+◌, ◌*◌, List, [], ◌∷◌, ◌++◌, length, take, sym, ◌∙◌, ap, subst, arith, length-append}
+use Rattle.std.proofs.Common.{◌≡◌, ℕ, ◌<◌, ◌+◌, ◌*◌, List, [], ◌∷◌, ◌++◌, length, take, sym, ◌∙◌, ap, subst, arith, length-append}
 use Rattle.std.specs.Prelude.{min, reverse}
 use Rattle.cm_history.specs.declared.call.Entry.{Entry}
 use Rattle.cm_sequential.specs.Compact.{IsReplayOf}
 use Rattle.cm_sequential.specs.Standing.{Stands}
 use Rattle.cm_sequential.specs.declared.manager.Manager.{Manager}
-use Rattle.canboot_picture.proofs.Ends.{AreSoFar, column_more, next_end, taken_to}
+use Rattle.canboot_picture.proofs.Ends.{AreSoFar, column_more, next_end, next_filled, taken_to}
 use Rattle.canboot_picture.proofs.columns.columns_of.Goals as goal
 
 pub loop-from-preserved : goal.loop-from-preserved
@@ -28,5 +28,7 @@ loop-from-preserved c =
       replay = replay;
       columns = subst (λ (ms : List Manager). AreSoFar net entries width ms) (sym put) (column_more net entries width old m so_far.columns stands);
       ends = end ∙ ap (λ (n : ℕ). min (n * width) (length entries)) (sym longer);
+      filled = subst (λ (n : ℕ). n * width < length entries + width) (sym longer)
+          (next_filled (length old) width (length entries) from so_far.ends c.loop-from-test.true);
       few = omega (arith, longer, so_far.few, c.min.ensures, c.requires.wide, c.loop-from-test.true);
     }

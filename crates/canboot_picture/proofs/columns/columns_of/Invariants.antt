@@ -1,4 +1,4 @@
-use Rattle.std.proofs.Common.{◌≡◌, ◌≤◌, ◌-◌, ◌*◌, length, take}
+use Rattle.std.proofs.Common.{◌≡◌, ◌<◌, ◌≤◌, ◌+◌, ◌-◌, ◌*◌, length, take}
 use Rattle.std.specs.Prelude.{min}
 use Rattle.cm_sequential.specs.Compact.{IsReplayOf}
 use Rattle.canboot_picture.proofs.Ends.{AreSoFar}
@@ -10,6 +10,7 @@ invariant-loop-from l = record {
   replay : IsReplayOf l.replay l.network (take l.from l.entries);
   columns : AreSoFar l.network l.entries l.width l.managers.items;
   ends : l.from ≡ min (length l.managers.items * l.width) (length l.entries);
+  filled : length l.managers.items * l.width < length l.entries + l.width;
   few : length l.managers.items ≤ l.from;
 }
 
