@@ -1,6 +1,7 @@
 //! The threads of a scan: each worker asks its nodes, one after another.
 
 ghost use Rattle.std.specs.Prelude.{◌≡◌, ◌<◌};
+ghost use Rattle.cm_bus.specs.Sent.{IsHadBy};
 
 use crate::device::{HeardDevice, hear_device};
 use crate::scanned::NoScan;
@@ -72,7 +73,10 @@ fn make_askers<'a, 'n, R: Wait + Clock + Clone + Drop, B: BusName, W: Write + Dr
     setting: &Setting<'a, 'n, R>,
     nodes: &[NodeId],
     written: Vec<W>,
-) -> Result<(Vec<Asker<'n, R, B, W>>, Vec<Sender<Received<B>>>), AllocError> {
+) -> Result<(Vec<Asker<'n, R, B, W>>, Vec<Sender<Received<B>>>), AllocError>
+    requires format { setting.now.options.format ≡ B.format }
+    requires had { IsHadBy W.contents B.had written.items }
+{
     let alloc = setting.alloc;
     let count = written.len();
     let mut askers = Vec::new(alloc);
@@ -160,6 +164,7 @@ pub(crate) fn ask_nodes<
 ) -> Result<Devices<B>, NoScan>
     requires format { setting.now.options.format ≡ B.format }
     requires text { I.remaining received ≡ B.text }
+    requires had { IsHadBy W.contents B.had written.items }
 {
     let frames = Source::<B, I>::new(received, setting.options.format);
     let (askers, hears) = make_askers(setting, nodes, written)?;

@@ -3,7 +3,7 @@
 use arrayvec::ArrayVec;
 use cm_boot::Question;
 use cm_bus::{Port, Talk};
-use cm_can::{CanFrame, Kind, TIMED_OUT, abort_frame, sdo_request};
+use cm_can::{CanFrame, Kind, Request, TIMED_OUT, abort_frame, segment_request, upload_request};
 use cm_nmt::NodeId;
 use cm_receiving::BusName;
 
@@ -19,11 +19,7 @@ const NO_MORE: u32 = 0x0504_0005;
 /// The identifier of a node's SDO server, less the node-ID.
 const FROM_SERVER: u16 = 0x580;
 
-/// The commands of a client that asks for an upload, and for a segment of it; and the bit that each segment turns.
-const UPLOAD: u8 = 0x40;
-
-const SEGMENT: u8 = 0x60;
-
+/// The bit that each segment of an upload turns.
 const TOGGLE: u8 = 0x10;
 
 /// The command of an abort.
@@ -110,11 +106,11 @@ fn said_by(node: NodeId, part: Part, frame: &CanFrame) -> Option<Said> {
     }
 }
 
-/// The frame that asks for it.
-fn request(node: NodeId, part: Part) -> CanFrame {
+/// What asks for it.
+fn request(node: NodeId, part: Part) -> Request {
     match part {
-        Part::Beginning => sdo_request(node, UPLOAD, NAME, 0, 0),
-        Part::Segment(toggle) => sdo_request(node, SEGMENT | toggle, 0, 0, 0),
+        Part::Beginning => upload_request(node, NAME, 0),
+        Part::Segment(toggle) => segment_request(node, toggle != 0),
     }
 }
 

@@ -1,6 +1,7 @@
 //! The devices on a bus are asked what they are.
 
 ghost use Rattle.std.specs.Prelude.{◌≡◌, All, IfOk};
+ghost use Rattle.cm_bus.specs.Sent.{IsHadBy};
 ghost use Rattle.canboot_scan.specs.Scanning.{IsHeardDevice};
 
 use crate::asking::ask_nodes;
@@ -59,6 +60,7 @@ fn find_on<
 >(rt: &R, alloc: Global, network: &Network, scan: Scan<'_, I, W>) -> Result<Scanned, NoScan>
     requires format { scan.options.format ≡ B.format }
     requires text { I.remaining scan.ends.received ≡ B.text }
+    requires had { IsHadBy W.contents B.had scan.ends.written.items }
     ensures { IfOk result (λ s. All (IsHeardDevice B.format B.text) s.found.items) }
 {
     let Scan {

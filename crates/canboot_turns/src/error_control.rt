@@ -11,9 +11,10 @@ ghost use Rattle.canboot_turns.specs.Sendings.{HasSentSteps, IsFrameFor, is_fram
 use crate::ending::Ending;
 use crate::progress::LiveCourse;
 use canboot_saying::count_beats;
-use cm_bus::Outlet;
-use cm_can::{CanFrame, ErrorControl, error_control_frame, guard_request};
+use cm_bus::CausedOutlet;
+use cm_can::{ControlFrame, ErrorControl};
 use cm_netlist::Network;
+use cm_receiving::BusName;
 use cm_watched::Step;
 use std::io::Write;
 use std::sync::Wait;
@@ -21,16 +22,16 @@ use std::sync::atomic::Ordering;
 use std::time::Clock;
 
 /// The frame that a step is, if it is one.
-fn frame_of(network: &Network, step: &Step) -> Option<CanFrame>
-    ensures some { IfSome result (IsFrameFor network.now step.now) }
+fn frame_of(network: &Network, step: &Step) -> Option<ControlFrame>
+    ensures some { IfSome result (λ f. IsFrameFor network.now step.now f.frame) }
     ensures none { IfNone result (is_frame step.now ≡ false) }
 {
     match step {
         Step::Beat(byte) => {
             let node = network.own_id();
-            Some(error_control_frame(ErrorControl { node, byte: *byte }))
+            Some(ControlFrame::beat(ErrorControl { node, byte: *byte }))
         }
-        Step::Guard(id) => Some(guard_request(*id)),
+        Step::Guard(id) => Some(ControlFrame::guard(*id)),
         Step::Lost(_)
         | Step::Boot(_)
         | Step::Wake(_)
@@ -43,10 +44,14 @@ fn frame_of(network: &Network, step: &Step) -> Option<CanFrame>
 }
 
 /// Sends the frame of a step, if it is one.
-fn send_step<W: Write + Drop>(network: &Network, step: &Step, outlet: &mut Outlet<W>)
-    ensures sent { HasSentSteps W.contents network.now (step.now ∷ []) outlet.old outlet.new }
-    ensures stopped { IsTrue outlet.old.failed → outlet.new ≡ outlet.old }
-    ensures format { outlet.new.format ≡ outlet.old.format }
+fn send_step<W: Write + Drop, B: BusName>(
+    network: &Network,
+    step: &Step,
+    outlet: &mut CausedOutlet<W, B, ControlFrame>,
+)
+    ensures sent { HasSentSteps W.contents network.now (step.now ∷ []) outlet.old.outlet outlet.new.outlet }
+    ensures stopped { IsTrue outlet.old.outlet.failed → outlet.new.outlet ≡ outlet.old.outlet }
+    ensures format { outlet.new.outlet.format ≡ outlet.old.outlet.format }
 {
     match frame_of(network, step) {
         Some(frame) => outlet.send(&frame),
@@ -55,8 +60,12 @@ fn send_step<W: Write + Drop>(network: &Network, step: &Step, outlet: &mut Outle
 }
 
 /// Sends the frames of these steps.
-fn send_steps<W: Write + Drop>(network: &Network, steps: &[Step], outlet: &mut Outlet<W>)
-    ensures { HasSentSteps W.contents network.now steps.now outlet.old outlet.new }
+fn send_steps<W: Write + Drop, B: BusName>(
+    network: &Network,
+    steps: &[Step],
+    outlet: &mut CausedOutlet<W, B, ControlFrame>,
+)
+    ensures { HasSentSteps W.contents network.now steps.now outlet.old.outlet outlet.new.outlet }
 {
     for step in steps {
         send_step(network, step, outlet);
@@ -65,15 +74,15 @@ fn send_steps<W: Write + Drop>(network: &Network, steps: &[Step], outlet: &mut O
 
 impl<'w, 'a, 'n, R: Wait + Clock> LiveCourse<'w, 'a, 'n, R> {
     /// Sends what the watch gives now for error control. Where it can't be written, the run ends.
-    pub(crate) fn send_error_control<W: Write + Drop>(
+    pub(crate) fn send_error_control<W: Write + Drop, B: BusName>(
         &mut self,
-        outlet: &mut Outlet<W>,
+        outlet: &mut CausedOutlet<W, B, ControlFrame>,
         now: u64,
     ) -> Result<(), Ending>
         requires { now < 2 ^ 63 }
         ensures sent { (s : WatchSettings) (past : Past) → Follows self.old.progress self.old.network.now s past
             → IfOk result (λ _. HasSentSteps W.contents self.old.network.now
-            (error_control_at self.old.network.now s past now) outlet.old outlet.new) }
+            (error_control_at self.old.network.now s past now) outlet.old.outlet outlet.new.outlet) }
         ensures given { (s : WatchSettings) (past : Past) → Follows self.old.progress self.old.network.now s past
             → IfOk result (λ _. Follows self.new.progress self.old.network.now s
             (given now (error_control_at self.old.network.now s past now) past)) }

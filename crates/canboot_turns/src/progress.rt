@@ -18,11 +18,12 @@ use crate::ending::{Ending, can_go_on};
 use crate::setting::LiveSetting;
 use crate::watching::{MOST_TAKEN, is_set};
 use canboot_saying::{Boots, Events, Teller, count_sent};
-use cm_bus::{LiveOptions, Outlet, Setting};
+use cm_bus::{CausedOutlet, LiveOptions, Setting};
+use cm_can::ControlFrame;
 use cm_history::{CallFault, Entry};
 use cm_netlist::Network;
 use cm_nmt::NodeId;
-use cm_receiving::{Heartbeats, Notification};
+use cm_receiving::{BusName, Heartbeats, Notification};
 use cm_register::{RunName, Seat};
 use cm_sequential::frames;
 use cm_telling::{Tried, Waiting};
@@ -289,10 +290,10 @@ impl<'w, 'a, 'n, R: Wait + Clock> LiveCourse<'w, 'a, 'n, R> {
 
     /// Notes which slaves were heard again, tells what is to be told by now, and sends what is to be sent for error control. Where
     /// a frame or an entry was lost, the run ends.
-    pub(crate) fn keep_up<K: RunName, E: Write, W: Write + Drop>(
+    pub(crate) fn keep_up<K: RunName, B: BusName, E: Write, W: Write + Drop>(
         &mut self,
         err: &mut E,
-        outlet: &mut Outlet<W>,
+        outlet: &mut CausedOutlet<W, B, ControlFrame>,
         versions: &mut VersionReader<K>,
         seat: &Seat<K>,
         now: u64,

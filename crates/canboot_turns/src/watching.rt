@@ -17,7 +17,8 @@ use crate::saying::running;
 use crate::setting::LiveSetting;
 use crate::typing::Typing;
 use canboot_saying::Events;
-use cm_bus::Outlet;
+use cm_bus::CausedOutlet;
+use cm_can::ControlFrame;
 use cm_crew::OperatorSeat;
 use cm_history::Call;
 use cm_nmt::NodeId;
@@ -252,7 +253,7 @@ impl<'w, 'a, 'n, R: Wait + Clock + Drop, K: RunName, B: BusName, M: LiveRegister
         &mut self,
         err: &mut E,
         notifications: &Receiver<Notification>,
-        outlet: &mut Outlet<W>,
+        outlet: &mut CausedOutlet<W, B, ControlFrame>,
         publisher: &mut Publisher<K, R>,
     ) -> Result<(), Ending>
         ensures goes_on { IfOk result (λ _. GoesOn self.old.course.network.now self.old.course.progress
@@ -298,7 +299,7 @@ impl<'w, 'a, 'n, R: Wait + Clock + Drop, K: RunName, B: BusName, M: LiveRegister
         &mut self,
         err: &mut E,
         notifications: &Receiver<Notification>,
-        outlet: &mut Outlet<W>,
+        outlet: &mut CausedOutlet<W, B, ControlFrame>,
         publisher: &mut Publisher<K, R>,
     ) -> Ending {
         for _ in self.course.setting.rt.forever() {

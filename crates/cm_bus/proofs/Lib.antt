@@ -1,4 +1,5 @@
 pub mod Given
 pub mod Giving
 pub mod Messages
+pub mod Sending
 pub mod Waiting

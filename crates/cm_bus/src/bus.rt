@@ -10,7 +10,7 @@ use crate::port::Port;
 use crate::talk::Talk;
 use cm_boot::{Answer, Bus, Question};
 use cm_can::{
-    CanFrame, NO_SEGMENTS, TIMED_OUT, abort_frame, answered_by, is_segmented, request_of,
+    CanFrame, NO_SEGMENTS, Request, TIMED_OUT, abort_frame, answered_by, is_segmented, request_of,
 };
 use cm_netlist::Network;
 use cm_nmt::NodeId;
@@ -64,8 +64,8 @@ impl<'n, B: BusName, P: Port<B>> Model for LiveBus<'n, B, P> {
 
 /// The abort of the transfer of a question, behind the frame with which the waiting ended: it is aborted where no
 /// answer came in time, and where a segmented upload was begun.
-fn abort_of(id: NodeId, question: &Question, last: Option<CanFrame>) -> Option<CanFrame>
-    ensures some { IfSome result (IsAbort id question.now last) }
+fn abort_of(id: NodeId, question: &Question, last: Option<CanFrame>) -> Option<Request>
+    ensures some { IfSome result (λ r. IsAbort id question.now last r.frame) }
     ensures none { IfNone result ((code : ℕ) → IsAbortCode id question.now last code → ⊥) }
 {
     match question {
@@ -140,14 +140,14 @@ fn wait_for<B: BusName, P: Port<B>>(
     expire(log)
 }
 
-/// Sends a frame, and puts that into the log.
-fn send<B: BusName, P: Port<B>>(port: &mut P, log: &mut Vec<PortEvent>, frame: CanFrame)
+/// Sends a request, and puts that into the log.
+fn send<B: BusName, P: Port<B>>(port: &mut P, log: &mut Vec<PortEvent>, request: Request)
     requires room { vec_len log.old < vec_capacity log.old }
-    ensures log { log.new.items ≡ log.old.items ++ PortEvent.Sent frame ∷ [] }
+    ensures log { log.new.items ≡ log.old.items ++ PortEvent.Sent request.frame ∷ [] }
     ensures capacity { vec_capacity log.new ≡ vec_capacity log.old }
 {
-    port.send(&frame);
-    log.push_reserved(PortEvent::Sent(frame));
+    port.send(&request);
+    log.push_reserved(PortEvent::Sent(request.frame));
 }
 
 /// Sends the request of a question, if it has one.

@@ -13,6 +13,7 @@
 
 mod bus;
 mod bus_paths;
+mod caused_outlet;
 mod event;
 mod identifying;
 mod live_port;
@@ -28,6 +29,7 @@ mod wire;
 
 pub use bus::LiveBus;
 pub use bus_paths::BusPaths;
+pub use caused_outlet::CausedOutlet;
 pub use event::PortEvent;
 pub use identifying::{Identity, identify};
 pub use live_port::LivePort;

@@ -2,11 +2,11 @@ ghost use Rattle.std.specs.Prelude.{◌≡◌, IfNone, IsFalse, IsTrue, None};
 ghost use Rattle.cm_bus.specs.Outlets.{Writes};
 ghost use Rattle.cm_bus.specs.Patience.{next_part};
 
-use crate::outlet::Outlet;
+use crate::caused_outlet::CausedOutlet;
 use crate::patience::Patience;
 use crate::port::Port;
 use cm_boot::Question;
-use cm_can::CanFrame;
+use cm_can::Request;
 use cm_nmt::NodeId;
 use cm_receiving::{BusName, Listening, Received, ms_in};
 use cm_text::ENDLESS;
@@ -25,7 +25,7 @@ pub struct LivePort<R: Wait + Clock + Drop, B: BusName, W: Write + Drop> {
     pub worker: usize,
     pub heard: Receiver<Received<B>>,
     pub listening: Arc<Listening>,
-    pub outlet: Outlet<W>,
+    pub outlet: CausedOutlet<W, B, Request>,
     /// Set once a write has failed.
     pub broken: Arc<AtomicBool>,
     /// Set once the run is over: nothing is waited for any more.
@@ -74,12 +74,13 @@ impl<R: Wait + Clock + Drop, B: BusName, W: Write + Drop> Port<B> for LivePort<R
         self.listening.last_boot_up(node)
     }
 
-    fn send(&mut self, frame: &CanFrame)
-        ensures written { IsFalse self.new.outlet.failed → Writes self.old.outlet.format frame.now
-            (W.contents self.old.outlet.writer) (W.contents self.new.outlet.writer) }
-        ensures stopped { IsTrue self.old.outlet.failed → self.new.outlet ≡ self.old.outlet }
+    fn send(&mut self, request: &Request)
+        ensures written { IsFalse self.new.outlet.outlet.failed → Writes self.old.outlet.outlet.format request.now.frame
+            (W.contents self.old.outlet.outlet.writer) (W.contents self.new.outlet.outlet.writer) }
+        ensures stopped { IsTrue self.old.outlet.outlet.failed → self.new.outlet.outlet ≡ self.old.outlet.outlet }
+        ensures worker { self.new.outlet.worker ≡ self.old.outlet.worker }
     {
-        self.outlet.send(frame);
+        self.outlet.send(request);
         if self.outlet.has_failed() {
             self.broken.store(true, Ordering::SeqCst);
         }

@@ -1,9 +1,10 @@
 //! What makes a bus: ports of workers, whom each frame is given to, and the thread that reads frames.
 
-ghost use Rattle.std.specs.Prelude.{◌≡◌, [], IfOk};
+ghost use Rattle.std.specs.Prelude.{◌≡◌, [], IfOk, Some};
 ghost use Rattle.cm_netlist.specs.Network.{listed_ids};
 
 use crate::bus::LiveBus;
+use crate::caused_outlet::CausedOutlet;
 use crate::live_port::LivePort;
 use crate::outlet::Outlet;
 use crate::patience::Patience;
@@ -16,12 +17,15 @@ use std::sync::{Arc, Wait};
 use std::thread::{self, Threads};
 use std::time::Clock;
 
-/// The bus of one worker, and by what it gets frames.
+/// The bus of one worker, and by what it gets frames. The conditions say that `B` knows in what lines frames are written, and what the
+/// writer has.
 pub fn make_bus<'a, 'n, R: Wait + Clock + Clone + Drop, B: BusName, W: Write + Drop>(
     setting: &Setting<'a, 'n, R>,
     worker: usize,
     writer: W,
 ) -> Result<(LiveBus<'n, B, LivePort<R, B, W>>, Sender<Received<B>>), AllocError>
+    requires format { setting.now.options.format ≡ B.format }
+    requires had { W.contents writer ≡ B.had (Some worker) }
     ensures { IfOk result (λ r. (r.0.log ≡ []) × (r.0.heard ≡ 0)) }
 {
     let (hears, heard) = crossbeam_channel::unbounded(setting.alloc)?;
@@ -30,7 +34,7 @@ pub fn make_bus<'a, 'n, R: Wait + Clock + Clone + Drop, B: BusName, W: Write + D
         worker,
         heard,
         listening: Arc::try_clone(&setting.listening)?,
-        outlet: Outlet::new(writer, setting.options.format),
+        outlet: CausedOutlet::new(Outlet::new(writer, setting.options.format), Some(worker)),
         broken: Arc::try_clone(&setting.broken)?,
         over: Arc::try_clone(&setting.over)?,
         patience: Patience::none(),

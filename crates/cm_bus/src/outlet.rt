@@ -71,7 +71,7 @@ impl<W: Write + Drop> Outlet<W> {
     }
 
     /// Writes a frame, in its line. Where that fails, the first bytes of the line were written, and nothing else.
-    pub fn send(&mut self, frame: &CanFrame)
+    pub(crate) fn send(&mut self, frame: &CanFrame)
         ensures written { IsFalse self.new.failed
             → Writes self.old.format frame.now (W.contents self.old.writer) (W.contents self.new.writer) }
         ensures front { IsFalse self.old.failed

@@ -1,5 +1,5 @@
 use cm_boot::Question;
-use cm_can::CanFrame;
+use cm_can::Request;
 use cm_nmt::NodeId;
 use cm_receiving::{BusName, Received};
 
@@ -17,8 +17,8 @@ pub trait Port<B: BusName>: Drop {
     /// The place of the node's last boot-up message among these bytes; 0 where none was.
     fn last_boot_up(&self, node: NodeId) -> u64;
 
-    /// Sends a frame.
-    fn send(&mut self, frame: &CanFrame);
+    /// Sends a request.
+    fn send(&mut self, request: &Request);
 
     /// The next frame that is heard; `None` once the time is over, or where no frame can come any more.
     fn hear(&mut self) -> Option<Received<B>>;

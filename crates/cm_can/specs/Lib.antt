@@ -1,6 +1,7 @@
 pub mod Frames
 pub mod Sdo
 pub mod Control
+pub mod Requests
 pub mod Questions
 pub mod Lines
 pub mod Emergencies

@@ -4,6 +4,7 @@ ghost use Rattle.cm_can.specs.Control.{IsErrorControl};
 ghost use Rattle.cm_can.specs.Frames.{IsData, IsRemote};
 
 use crate::frame::{CanFrame, CanId, Kind};
+use crate::request::Request;
 use cm_nmt::{Frame, NodeId};
 
 /// The frame of an NMT message: identifier 000h and its two bytes.
@@ -20,12 +21,10 @@ pub fn nmt_frame(frame: Frame) -> CanFrame
 }
 
 /// The frame that asks the node for its state: a remote frame with identifier 700h + node-ID.
-pub fn guard_request(node: NodeId) -> CanFrame
-    ensures { IsRemote result (1792 + node) }
+pub(crate) fn guard_request(node: NodeId) -> Request
+    ensures { IsRemote result.frame (1792 + node) }
 {
-    CanFrame::remote(CanId {
-        number: 0x700 + u16::from(node.get()),
-    })
+    Request::guard(node)
 }
 
 /// An error control message: whose it is, and its byte, which [`cm_nmt::Signal::read`] reads.
@@ -36,7 +35,7 @@ pub struct ErrorControl {
 }
 
 /// The frame of an error control message: identifier 700h + node-ID and its byte.
-pub fn error_control_frame(message: ErrorControl) -> CanFrame
+pub(crate) fn error_control_frame(message: ErrorControl) -> CanFrame
     ensures { IsErrorControl message.node message.byte result }
 {
     let id = CanId {

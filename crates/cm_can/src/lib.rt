@@ -9,7 +9,9 @@
 
 mod adapter;
 mod can_error;
+mod caused;
 mod control;
+mod control_frame;
 mod emergency;
 mod error_lines;
 mod format;
@@ -17,12 +19,15 @@ mod frame;
 mod lines;
 mod node;
 mod remark;
+mod request;
 mod sdo;
 mod text;
 
 pub use adapter::{adapter_text, read_adapter_line};
 pub use can_error::{BusState, CanError, ControllerError, ErrorClass};
-pub use control::{ErrorControl, error_control, error_control_frame, guard_request, nmt_frame};
+pub use caused::Caused;
+pub use control::{ErrorControl, error_control, nmt_frame};
+pub use control_frame::ControlFrame;
 pub use emergency::{Emergency, read_emergency};
 pub use error_lines::{read_error, read_error_line};
 pub use format::Format;
@@ -30,6 +35,8 @@ pub use frame::{CanFrame, CanId, Kind};
 pub use lines::{frame_text, one_frame, read_frame, read_log_line};
 pub use node::{answered_by, request_of};
 pub use remark::{Remark, read_remark};
+pub use request::Request;
 pub use sdo::{
-    NO_SEGMENTS, TIMED_OUT, abort_frame, downloaded_by, is_segmented, sdo_request, uploaded_by,
+    NO_SEGMENTS, TIMED_OUT, abort_frame, downloaded_by, is_segmented, segment_request,
+    upload_request, uploaded_by,
 };

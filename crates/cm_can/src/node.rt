@@ -5,6 +5,7 @@ ghost use Rattle.cm_can.specs.Sdo.{download_command};
 
 use crate::control::{error_control, guard_request};
 use crate::frame::CanFrame;
+use crate::request::Request;
 use crate::sdo::{downloaded_by, sdo_request, upload_request, uploaded_by};
 use cm_boot::{Answer, Question};
 use cm_nmt::{NodeId, Signal};
@@ -21,8 +22,8 @@ fn command_of(size: u8) -> u8
 }
 
 /// The frame that asks a node this question; `None` for a heartbeat, which comes by itself.
-pub fn request_of(node: NodeId, question: &Question) -> Option<CanFrame>
-    ensures some { IfSome result (IsRequest node question.now) }
+pub fn request_of(node: NodeId, question: &Question) -> Option<Request>
+    ensures some { IfSome result (λ r. IsRequest node question.now r.frame) }
     ensures none { IfNone result (IsAwaited question.now) }
 {
     match question {

@@ -1,8 +1,9 @@
-ghost use Rattle.std.specs.Prelude.{◌≡◌, ◌+◌, ℕ, IfNone, IfSome, IsFalse, IsSome, IsTrue};
+ghost use Rattle.std.specs.Prelude.{◌≡◌, ◌+◌, ℕ, if◌then◌else◌, IfNone, IfSome, IsFalse, IsSome, IsTrue};
 ghost use Rattle.cm_can.specs.Sdo.{IsFromClient, IsFromServer, uploaded};
 ghost use Rattle.cm_can.specs.Questions.{download_answer, upload_answer};
 
-use crate::frame::{CanFrame, CanId, Kind};
+use crate::frame::{CanFrame, Kind};
+use crate::request::Request;
 use cm_boot::Answer;
 use cm_nmt::NodeId;
 
@@ -12,33 +13,40 @@ pub const TIMED_OUT: u32 = 0x0504_0000;
 /// The abort code of a client that takes no segments (CiA 301, command specifier not valid or unknown).
 pub const NO_SEGMENTS: u32 = 0x0504_0001;
 
-/// The commands of a client: an upload is asked for, a transfer is aborted.
+/// The commands of a client: an upload is asked for, a segment of one, a transfer is aborted.
 const UPLOAD: u8 = 0x40;
+
+const SEGMENT: u8 = 0x60;
 
 const ABORT: u8 = 0x80;
 
 /// A frame from the client to the node: a command about an object of its dictionary, and four bytes of data.
-pub fn sdo_request(node: NodeId, command: u8, index: u16, sub: u8, word: u32) -> CanFrame
-    ensures { IsFromClient node command index sub word result }
+pub(crate) fn sdo_request(node: NodeId, command: u8, index: u16, sub: u8, word: u32) -> Request
+    ensures { IsFromClient node command index sub word result.frame }
 {
     let [low, high] = index.to_le_bytes();
     let [a, b, c, d] = word.to_le_bytes();
-    let id = CanId {
-        number: 0x600 + u16::from(node.get()),
-    };
-    CanFrame::full(id, [command, low, high, sub, a, b, c, d])
+    Request::sdo(node, [command, low, high, sub, a, b, c, d])
 }
 
 /// The request to upload an object.
-pub(crate) fn upload_request(node: NodeId, index: u16, sub: u8) -> CanFrame
-    ensures { IsFromClient node 64 index sub 0 result }
+pub fn upload_request(node: NodeId, index: u16, sub: u8) -> Request
+    ensures { IsFromClient node 64 index sub 0 result.frame }
 {
     sdo_request(node, UPLOAD, index, sub, 0)
 }
 
+/// The request of the next segment of an upload, with its toggle bit.
+pub fn segment_request(node: NodeId, toggle: bool) -> Request
+    ensures { IsFromClient node (if toggle then 112 else 96) 0 0 0 result.frame }
+{
+    let command = if toggle { SEGMENT | 0x10 } else { SEGMENT };
+    sdo_request(node, command, 0, 0, 0)
+}
+
 /// The client's abort of a transfer, with its code.
-pub fn abort_frame(node: NodeId, index: u16, sub: u8, code: u32) -> CanFrame
-    ensures { IsFromClient node 128 index sub code result }
+pub fn abort_frame(node: NodeId, index: u16, sub: u8, code: u32) -> Request
+    ensures { IsFromClient node 128 index sub code result.frame }
 {
     sdo_request(node, ABORT, index, sub, code)
 }

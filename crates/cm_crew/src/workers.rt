@@ -1,6 +1,7 @@
 //! The workers of a live run: who they are, their threads, and what each does.
-ghost use Rattle.std.specs.Prelude.{◌≡◌, ◌+◌, ◌≤◌, [], All, IfOk, min, vec_len};
+ghost use Rattle.std.specs.Prelude.{◌≡◌, ◌+◌, ◌≤◌, [], All, IfOk, Some, min, vec_len};
 ghost use Rattle.cm_register.specs.Reads.{HasMadeCalls};
+ghost use Rattle.cm_bus.specs.Sent.{IsHadBy};
 ghost use Rattle.cm_crew.specs.Faults.{fault_of};
 
 use crate::booth::Booth;
@@ -125,6 +126,8 @@ fn make_worker<'a, 'n, R: Wait + Clock + Clone + Drop, K: RunName, B: BusName, W
 ) -> Result<(Worker<'n, R, K, B, W>, Sender<Received<B>>, Sender<NodeId>), AllocError>
     requires list { seat.list ≡ [] }
     requires workers { (1 ≤ setting.now.options.workers) × (setting.now.options.workers + 1 ≡ K.seats) }
+    requires format { setting.now.options.format ≡ B.format }
+    requires had { W.contents writer ≡ B.had (Some place) }
     ensures seat { IfOk result (λ r. r.0.booth ≡ seat) }
     ensures attempts { IfOk result (λ r. r.0.attempts ≡ attempts) }
 {
@@ -171,7 +174,8 @@ impl<'n, R: Wait + Clock + Drop, K: RunName, B: BusName, W: Write + Drop> Worker
     }
 }
 
-/// The workers, one for each seat, each of which tries a slave so often at most, and the channels to them.
+/// The workers, one for each seat, each of which tries a slave so often at most, and the channels to them. The conditions say that `B` knows
+/// in what lines frames are written, and what their writers have.
 pub fn make_workers<
     'a,
     'n,
@@ -187,6 +191,8 @@ pub fn make_workers<
 ) -> Result<Workers<'n, R, K, B, W>, AllocError>
     requires seats { All (λ s. s.list ≡ []) seats.items }
     requires workers { (1 ≤ setting.now.options.workers) × (setting.now.options.workers + 1 ≡ K.seats) }
+    requires format { setting.now.options.format ≡ B.format }
+    requires had { IsHadBy W.contents B.had written.items }
     ensures workers { IfOk result (λ m. vec_len m.workers ≡ min (vec_len seats) (vec_len written)) }
     ensures channels { IfOk result (λ m. (vec_len m.hears ≡ vec_len m.workers)
         × (vec_len m.jobs ≡ vec_len m.workers)) }

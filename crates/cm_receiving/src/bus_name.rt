@@ -19,6 +19,10 @@ pub trait BusName {
     /// What the writer of messages had.
     ghost before: { Option (List ℕ) };
 
+    /// What the writers had by which no NMT message is written: of none that of error control, of a number that of this worker, counted
+    /// from 0.
+    ghost had: { Option ℕ → Option (List ℕ) };
+
     /// What the reader of typed lines holds, where that is known.
     ghost typed: { Option (List ℕ) };
 }
@@ -34,6 +38,8 @@ impl BusName for Brand {
     ghost message_format = { CanUtils };
 
     ghost before = { None };
+
+    ghost had = { λ _. None };
 
     ghost typed = { None };
 }

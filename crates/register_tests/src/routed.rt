@@ -2,13 +2,13 @@
 
 use crate::support::{node, sure};
 use cm_boot::Question;
-use cm_bus::{LivePort, Outlet, Patience, Port};
+use cm_bus::{CausedOutlet, LivePort, Outlet, Patience, Port};
 use cm_can::{CanFrame, Format, read_frame};
 use cm_nmt::NodeId;
 use cm_receiving::{Heartbeats, Listening, Notification, Received, Routes, Source};
 use crossbeam_channel::{Receiver, Sender};
 use std::alloc::Global;
-use std::io::{self, Read};
+use std::io::{self, Empty, Read};
 use std::marker::Brand;
 use std::process::Abort;
 use std::sync::atomic::AtomicBool;
@@ -44,7 +44,7 @@ fn make_port<R: Wait + Clock + Clone + Drop + Abort>(
     alloc: Global,
     listening: &Arc<Listening>,
     worker: usize,
-) -> (LivePort<R, Brand, Vec<u8>>, Sender<Received<Brand>>) {
+) -> (LivePort<R, Brand, Empty>, Sender<Received<Brand>>) {
     let channel = crossbeam_channel::unbounded(alloc);
     let (hears, heard) = channel.ok().expect(rt, "a channel");
     let port = LivePort {
@@ -52,7 +52,7 @@ fn make_port<R: Wait + Clock + Clone + Drop + Abort>(
         worker,
         heard,
         listening: Arc::try_clone(listening).ok().expect(rt, "memory"),
-        outlet: Outlet::new(Vec::new(alloc), Format::CanUtils),
+        outlet: CausedOutlet::new(Outlet::new(io::empty(), Format::CanUtils), Some(worker)),
         broken: unset(rt, alloc),
         over: unset(rt, alloc),
         patience: Patience::none(),
@@ -113,8 +113,8 @@ fn give<R: Wait + Clock + Abort>(
 /// Each of these workers listens to the answer of its question.
 fn listen_each<R: Wait + Clock + Drop + Abort>(
     rt: &R,
-    first: &mut LivePort<R, Brand, Vec<u8>>,
-    second: &mut LivePort<R, Brand, Vec<u8>>,
+    first: &mut LivePort<R, Brand, Empty>,
+    second: &mut LivePort<R, Brand, Empty>,
     asks: &[(usize, u8, Question)],
 ) {
     for (worker, id, question) in asks {
@@ -150,7 +150,7 @@ fn receive<R: Wait + Clock + Clone + Drop + Abort>(
     alloc: Global,
     asks: &[(usize, u8, Question)],
     left: &'static [u8],
-) -> (LivePort<R, Brand, Vec<u8>>, LivePort<R, Brand, Vec<u8>>) {
+) -> (LivePort<R, Brand, Empty>, LivePort<R, Brand, Empty>) {
     let listening = listening_of(rt, alloc);
     let (mut first, to_first) = make_port(rt, alloc, &listening, 0);
     let (mut second, to_second) = make_port(rt, alloc, &listening, 1);

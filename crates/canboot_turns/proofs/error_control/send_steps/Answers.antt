@@ -8,7 +8,7 @@ use Rattle.canboot_turns.proofs.Sendings.{no_steps_written, written_more}
 use Rattle.canboot_turns.proofs.error_control.send_steps.Goals as goal
 
 pub loop-step-init : goal.loop-step-init
-loop-step-init g c = record { sent = λ h. no_steps_written c.args.outlet.now.format c.args.network.now _; format = refl }
+loop-step-init g c = record { sent = λ h. no_steps_written c.args.outlet.now.outlet.format c.args.network.now _; format = refl }
 
 pub loop-step-preserved : goal.loop-step-preserved
 loop-step-preserved g c =
@@ -16,9 +16,9 @@ loop-step-preserved g c =
     let steps : List Step = c.args.steps.now in
     let i = c.loop-step.step-index in
     let s = c.step-item.result in
-    let first = c.args.outlet.now in
-    let old = c.loop-step.outlet in
-    let new = c.send_step.new.outlet in
+    let first = c.args.outlet.now.outlet in
+    let old = c.loop-step.outlet.outlet in
+    let new = c.send_step.new.outlet.outlet in
     let contents = g.W.Write.contents in
     let was = c.loop-step.invariant in
     let within : i < length steps = omega arith in
@@ -34,5 +34,5 @@ loop-step-preserved g c =
 
 pub returns : goal.returns
 returns g c =
-    subst (λ (xs : List Step). HasSentSteps g.W.Write.contents c.args.network.now xs c.args.outlet.now c.loop-step.outlet)
+    subst (λ (xs : List Step). HasSentSteps g.W.Write.contents c.args.network.now xs c.args.outlet.now.outlet c.loop-step.outlet.outlet)
     (take_all c.loop-step.step-index c.args.steps.now (omega arith)) c.loop-step.invariant.sent

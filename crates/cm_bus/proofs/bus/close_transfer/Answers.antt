@@ -7,4 +7,4 @@ use Rattle.cm_bus.proofs.bus.close_transfer.Goals as goal
 
 pub returns-in-Some-clause-closing : goal.returns-in-Some-clause-closing
 returns-in-Some-clause-closing g c =
-    record { events = Sent c.in-Some.abort ∷ []; is = inr (c.in-Some.abort, subst (λ (last : Option CanFrame). IsAbort c.args.id c.args.question.now last c.in-Some.abort) c.frame_in.ensures c.in-Some.ensures.some, refl); grown = c.send.ensures.log }
+    record { events = Sent c.in-Some.abort.frame ∷ []; is = inr (c.in-Some.abort.frame, subst (λ (last : Option CanFrame). IsAbort c.args.id c.args.question.now last c.in-Some.abort.frame) c.frame_in.ensures c.in-Some.ensures.some, refl); grown = c.send.ensures.log }

@@ -1,7 +1,8 @@
-use Rattle.std.proofs.Common.{◌≡◌, ◌<◌, ◌+◌, ◌++◌, ◌∷◌, [], ◌∙◌, length, vec_len, arith, sym, ap, append_assoc, length-append}
+use Rattle.std.proofs.Common.{◌≡◌, ℕ, Some, ◌<◌, ◌+◌, ◌++◌, ◌∷◌, [], ◌∙◌, length, vec_len, arith, sym, ap, append_assoc, length-append}
 use Rattle.std.specs.Vec.Iter.{into_iter_items}
 use Rattle.std.proofs.lemmas.Bool.{eqb-true}
 use Rattle.std.proofs.Math.Nat.{min-eq_left, min-eq_right}
+use Rattle.cm_bus.proofs.Sending.{had_next}
 use Rattle.cm_crew.proofs.Fresh.{first_fresh, rest_fresh}
 use Rattle.cm_crew.proofs.workers.make_workers.Goals as goal
 use Rattle.cm_crew.proofs.workers.make_workers.Goals.{in-None, in-Some+then-is_empty}
@@ -10,6 +11,17 @@ pub make_worker-requires-clause-list : goal.make_worker-requires-clause-list
 make_worker-requires-clause-list g c =
     let some : 0 < length c.loop-writer.seats.items = omega (arith, c.remove-seat.ensures.len, c.loop-writer.seats.ok.0) in
     first_fresh c.loop-writer.seats.items c.remove-seat.result some c.remove-seat.ensures.value c.loop-writer.invariant.fresh
+
+pub make_worker-requires-clause-had : goal.make_worker-requires-clause-had
+make_worker-requires-clause-had g c =
+    let was = c.loop-writer.invariant in
+    let more = c.loop-writer.yielded in
+    let writer = c.in-Some.writer in
+    let all : more ++ writer ∷ into_iter_items c.next.new.self ≡ c.args.written.items =
+    ap (λ w. more ++ w) (sym c.in-Some.ensures.steps.0) ∙ was.left in
+    let place : c.len-place.result ≡ length more = c.len-place.ensures ∙ was.workers in
+    had_next g.W.Write.contents g.B.BusName.had c.args.written.items more (into_iter_items c.next.new.self) writer c.requires.had all
+    ∙ ap (λ (k : ℕ). g.B.BusName.had (Some k)) (sym place)
 
 pub loop-writer-preserved : goal.loop-writer-preserved
 loop-writer-preserved g c =

@@ -10,7 +10,7 @@ use Rattle.canboot_turns.proofs.progress.LiveCourse.send_error_control.Goals as 
 
 pub returns-clause-sent : goal.returns-clause-sent
 returns-clause-sent g c = λ s past f.
-    subst (λ (xs : List Step). HasSentSteps g.W.Write.contents c.args.self.now.network.now xs c.args.outlet.now c.send_steps.new.outlet)
+    subst (λ (xs : List Step). HasSentSteps g.W.Write.contents c.args.self.now.network.now xs c.args.outlet.now.outlet c.send_steps.new.outlet.outlet)
     (c.as_slice.ensures.value ∙ c.in_ok-steps.ensures.steps s past f.watches) c.send_steps.ensures
 
 pub returns-clause-given : goal.returns-clause-given
