@@ -6,8 +6,8 @@ use crate::control::{ErrorControl, error_control_frame, guard_request};
 use crate::frame::CanFrame;
 use cm_nmt::NodeId;
 
-/// A frame of error control: a heartbeat, a boot-up message, or the request of a state (CiA 301). It is made here alone, and is never an
-/// NMT message.
+/// A frame of error control: a heartbeat, a boot-up message, or the request of a state (CiA 301). Whoever makes one has to prove that, so it
+/// is never an NMT message.
 #[derive(Clone, Copy, Debug, PartialEq, Eq)]
 pub struct ControlFrame {
     pub frame: CanFrame,

@@ -6,8 +6,8 @@ ghost use Rattle.cm_can.specs.Sdo.{sdo_bytes};
 use crate::frame::{CanFrame, CanId};
 use cm_nmt::NodeId;
 
-/// A frame to one node: what is sent to its SDO server, or the request of its state (CiA 301). It is made here alone, and is never an
-/// NMT message.
+/// A frame to one node: what is sent to its SDO server, or the request of its state (CiA 301). Whoever makes one has to prove that, so it
+/// is never an NMT message.
 #[derive(Clone, Copy, Debug, PartialEq, Eq)]
 pub struct Request {
     pub frame: CanFrame,
