@@ -2,7 +2,7 @@
 """Writes the cases of what `--explain` says behind the fault of a journal. Each is a legal journal, whose answers another implementation
 gave, with one change: what was expected there is what stood there before. It knows nothing of canboot.
 
-    tests/expected_lines.py crates/canboot_gate/data/version-*.cases > crates/canboot_gate/data/expected.cases
+    tests/expected_lines.py tests/data/version-*.cases > tests/data/expected.cases
 """
 import random
 import re
