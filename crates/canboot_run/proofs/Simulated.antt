@@ -21,8 +21,7 @@ use Rattle.cm_run.specs.Buses.{Steps}
 use Rattle.cm_run.specs.declared.bus.SimBus.{SimBus}
 use Rattle.cm_run.specs.Operating.{with_receipts}
 use Rattle.cm_run.specs.declared.outcome.Outcome.{Outcome}
-use Rattle.canboot_run.specs.Simulated.{AreBusesOf, AreMade, BootsSlaves, HasEnded, HasRun, HaveBooted, HaveWorkedOver, IsOperated, IsSimulated, calls_behind}
-use Rattle.cm_run.specs.Started.{HasStarted}
+use Rattle.canboot_run.specs.Simulated.{AreBusesOf, AreMade, BootsSlaves, HasEnded, HasRun, HasStartedFirst, HaveBooted, HaveWorkedOver, IsOperated, IsSimulated, calls_behind}
 use Rattle.canboot_run.specs.declared.slave_faults.SlaveFaults.{SlaveFaults}
 
 -- ---- what holds of all outcomes holds of a worker's
@@ -99,16 +98,15 @@ at_place : (h : List Entry) (handed ss : List SeatView) (s : SeatView) (k : ℕ)
 at_place h handed ss s k all is lt =
     subst (HasItsCalls h) (ap (λ (l : List SeatView). get_or l k s) is ∙ get_or_append_left ss (s ∷ []) s k lt) (all k s (omega (arith, lt, ap length is, length-append ss (s ∷ []))))
 
-pub operated : (h : List Entry) (handed ss : List SeatView) (fresh started last : SeatView) (faults : SlaveFaults) (outcomes : List Outcome) → HaveTheirCalls h handed → handed ≡ ss ++ last ∷ [] → fresh ≡ fresh_seat 1 → HasStarted fresh started
+pub operated : (h : List Entry) (handed ss : List SeatView) (fresh started last : SeatView) (faults : SlaveFaults) (outcomes : List Outcome) → HaveTheirCalls h handed → handed ≡ ss ++ last ∷ [] → fresh ≡ fresh_seat 1 → HasStartedFirst fresh started
     → HasEnded faults outcomes started last → IsOperated faults outcomes h
 operated h handed ss fresh started last faults outcomes theirs is e s d =
     let behind : List Made = with_receipts (calls_behind faults outcomes) d.receipts in
     record {
-      first = s.place;
       receipts = d.receipts;
       count = d.count;
       calls = ap (calls_of h) (sym (d.number ∙ (s.number ∙ ap (λ (v : SeatView). v.number) e)))
-          ∙ (sym (at_last h handed ss last theirs is) ∙ (d.list ∙ ap (λ (l : List Made). l ++ behind) (s.list ∙ ap (λ (v : SeatView). v.list ++ made s.place call.StartNetwork reply.Started ∷ []) e)));
+          ∙ (sym (at_last h handed ss last theirs is) ∙ (d.list ∙ ap (λ (l : List Made). l ++ behind) (s.list ∙ ap (λ (v : SeatView). v.list ++ made 1 call.StartNetwork reply.Started ∷ []) e)));
     }
 
 pub worked : (net : Network) (attempts n : ℕ) (buses : List SimBus) (outcomes : List Outcome) (h : List Entry) (all given handed ss : List SeatView) (last : SeatView) → HaveTheirCalls h handed → handed ≡ ss ++ last ∷ [] → all ≡ fresh_seats n → given ≡ remove all 0 → 0 < n

@@ -46,14 +46,13 @@ losses faults outcomes = map (λ o. call.Lost o.id) (filter (λ o. is_lost fault
 abbrev pub calls_behind : SlaveFaults → List Outcome → List Call
 calls_behind faults outcomes = losses faults outcomes ++ call.Elapsed 0 ∷ []
 
--- the operator, who has seat 1, has made just these calls, each with a reply: the network was started, and behind the boots
--- that came to these outcomes each slave that died was reported as lost, and then it was said that no time went by
+-- the operator, who has seat 1, has made just these calls, each with a reply: by the first entry of all the network was started, and
+-- behind the boots that came to these outcomes each slave that died was reported as lost, and then it was said that no time went by
 pub record IsOperated (faults : SlaveFaults) (outcomes : List Outcome) (entries : List Entry) : Type 0 where
-  pub first : ℕ
   pub receipts : List Receipt
   pub count : length receipts ≡ length (calls_behind faults outcomes)
   pub calls : calls_of entries 1
-      ≡ made first call.StartNetwork reply.Started ∷ with_receipts (calls_behind faults outcomes) receipts
+      ≡ made 1 call.StartNetwork reply.Started ∷ with_receipts (calls_behind faults outcomes) receipts
 
 -- the node is one of these
 abbrev pub is_one_of : List ℕ → ℕ → Bool
@@ -100,6 +99,11 @@ pub record IsSimulated (net : Network) (w attempts : ℕ) (faults : SlaveFaults)
   pub worked : (k : ℕ) → k < w → HasWorked net w attempts faults outcomes entries k
 
 -- Working definitions, behind the contract of `run_text`.
+
+-- the seat started the network, by the first entry of all
+pub record HasStartedFirst (old new : SeatView) : Type 0 where
+  pub number : new.number ≡ old.number
+  pub list : new.list ≡ old.list ++ made 1 call.StartNetwork reply.Started ∷ []
 
 -- the seat made the operator's calls behind the boots
 pub record HasEnded (faults : SlaveFaults) (outcomes : List Outcome) (old new : SeatView) : Type 0 where

@@ -4,6 +4,7 @@ use Rattle.std.specs.Prelude.{All, Option, Result, Ok, Err, IfOk, OnErr}
 use Rattle.std.proofs.lemmas.List.Elements.{All-head, All-nil, All-tail}
 use Rattle.cm_history.specs.declared.call.Call.{Call}
 use Rattle.cm_history.specs.declared.call.Call.TheVariants as call
+use Rattle.cm_history.specs.declared.call.Reply.TheVariants as reply
 use Rattle.cm_history.specs.declared.call.Entry.{Entry}
 use Rattle.cm_crew.specs.ReceivedCalls.{IsNoReport}
 use Rattle.cm_register.specs.Handing.{AreApart, HaveTheirCalls, count_calls}
@@ -43,14 +44,14 @@ operated_on typed old new from upto m is k o = record {
   requests = subst (λ (l : List Made). AreTyped typed l 0 upto) (sym is.1) (add_typed typed old.list m 0 from upto o.requests k);
 }
 
-pub first_call : (typed : Option (List ℕ)) (old new : SeatView) (m : Made) → (old.number ≡ 1) × (old.list ≡ []) → (new.number ≡ old.number) × (new.list ≡ old.list ++ m ∷ []) → m.call ≡ call.StartNetwork
+pub first_call : (typed : Option (List ℕ)) (old new : SeatView) (m : Made) → (old.number ≡ 1) × (old.list ≡ []) → (new.number ≡ old.number) × (new.list ≡ old.list ++ m ∷ []) → m ≡ made 1 call.StartNetwork reply.Started
     → IsOperators typed new 0
 first_call typed old new m fresh is start =
     let list : new.list ≡ m ∷ [] = is.1 ∙ ap (λ (l : List Made). l ++ m ∷ []) fresh.1 in
     record {
       number = is.0 ∙ fresh.0;
       started = subst (λ (l : List Made). BeginsWithStart l) (sym list) start;
-      requests = subst (λ (l : List Made). AreTyped typed l 0 0) (sym list) (0, subst (λ (c : Call). IsTypedCall typed c 0 0) (sym start) (let z : 0 ≤ 0 = omega arith in z), omega arith);
+      requests = subst (λ (l : List Made). AreTyped typed l 0 0) (sym list) (0, subst (λ (c : Made). IsTypedCall typed c.call 0 0) (sym start) (let z : 0 ≤ 0 = omega arith in z), omega arith);
     }
 
 -- ---- a call that no line spells

@@ -5,8 +5,8 @@ use Rattle.cm_register.specs.SeatCalls.{calls_of}
 use Rattle.cm_register.specs.SeatViews.{SeatView}
 use Rattle.cm_crew.specs.Typing.{AreTyped, BeginsWithStart, NoRequests}
 
--- the seat is the operator's: its number is 1, its calls begin with the start of the network, and each of its requests stands in
--- what is typed, behind the one before, up to this place, or wakes a slave
+-- the seat is the operator's: its number is 1, its calls begin with the start of the network, which is the first of all, and each of its
+-- requests stands in what is typed, behind the one before, up to this place, or wakes a slave
 pub record IsOperators (typed : Option (List ℕ)) (s : SeatView) (upto : ℕ) : Type 0 where
   pub number : s.number ≡ 1
   pub started : BeginsWithStart s.list
@@ -20,8 +20,8 @@ EndsWithOperator typed ss = (ws : List SeatView) × (s : SeatView) × (upto : �
 abbrev pub RequestsIfOperator : SeatView → Type 0
 RequestsIfOperator s = s.number ≢ 1 → NoRequests s.list
 
--- in a history, whose oldest entry comes first, the calls of seat 1, the operator's, begin with the start of the network; each
--- of its requests stands as a line in what was typed, behind the line of the one before, or wakes a slave; and no other seat makes a
+-- in a history, whose oldest entry comes first, the calls of seat 1, the operator's, begin with the start of the network, which is the
+-- first entry; each of its requests stands as a line in what was typed, behind the line of the one before, or wakes a slave; and no other seat makes a
 -- request
 pub record IsOperatedLive (typed : Option (List ℕ)) (entries : List Entry) : Type 0 where
   pub started : BeginsWithStart (calls_of entries 1)

@@ -3,7 +3,9 @@ use Rattle.std.specs.Prelude.{◌≡◌, ◌<◌, ◌≤◌, ℕ, List, [], ◌�
 use Rattle.cm_nmt.specs.NodeId.{IsNodeId}
 use Rattle.cm_history.specs.declared.call.Call.{Call}
 use Rattle.cm_history.specs.declared.call.Call.TheVariants as call
+use Rattle.cm_history.specs.declared.call.Reply.TheVariants as reply
 use Rattle.cm_receiving.specs.Places.{LineStandsIn}
+use Rattle.cm_register.specs.SeatCalls.{made}
 use Rattle.cm_register.specs.declared.made.Made.{Made}
 use Rattle.cm_operator.specs.Console.{asked_by}
 use Rattle.cm_operator.specs.declared.console.Command.TheVariants.{Request, Start}
@@ -49,7 +51,7 @@ abbrev pub AreTyped : Option (List ℕ) → List Made → ℕ → ℕ → Type 0
 AreTyped typed [] from upto = from ≤ upto
 AreTyped typed (m ∷ ms) from upto = (mid : ℕ) × IsTypedCall typed m.call from mid × AreTyped typed ms mid upto
 
--- the first of these calls is the start of the network
+-- the first of these calls is that by which the network was started, the first entry of all
 abbrev pub BeginsWithStart : List Made → Type 0
 BeginsWithStart [] = ⊥
-BeginsWithStart (m ∷ ms) = m.call ≡ call.StartNetwork
+BeginsWithStart (m ∷ ms) = m ≡ made 1 call.StartNetwork reply.Started

@@ -53,7 +53,7 @@ impl<K: RunName, B: BusName> Model for OperatorSeat<K, B> {
 }
 
 impl<K: RunName, B: BusName> OperatorSeat<K, B> {
-    /// The first call: the operator starts the network.
+    /// The operator starts the network, by the first entry of all. That another's call is first never comes.
     pub fn start<R: Wait, M: SharedManager<K, R>>(
         rt: &R,
         register: &M,
@@ -67,6 +67,9 @@ impl<K: RunName, B: BusName> OperatorSeat<K, B> {
         match register.call(rt, &mut seat, Call::StartNetwork) {
             Ok(receipt) => {
                 started(is_master, Ok(receipt))?;
+                if receipt.position != 1 {
+                    return Err(NoHistory::NoWorker);
+                }
                 Ok(OperatorSeat {
                     seat,
                     last: 0,

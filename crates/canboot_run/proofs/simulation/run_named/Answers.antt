@@ -19,11 +19,11 @@ returns-clause-run g c =
     (λ s theirs. record {
       outcomes = booted.outcomes.items;
       slaves = was.slaves;
-      operated = operated s.history.items c.push.new.self.items booted.seats.items c.remove-operator.result c.start.new.operator c.end.new.operator c.args.options.now.faults booted.outcomes.items
+      operated = operated s.history.items c.push.new.self.items booted.seats.items c.remove-operator.result c.start_first.new.operator c.end.new.operator c.args.options.now.faults booted.outcomes.items
           theirs c.in-Ok-push.ensures.items
           (first_seat g.K.RunName.seats c.in-Ok.named.1.items c.remove-operator.result c.in-Ok.ensures.seats some c.remove-operator.ensures.value)
-          c.in_ok-start.ensures.started
-          (subst (λ (os : List Outcome). HasEnded c.args.options.now.faults os c.start.new.operator c.end.new.operator) c.as_slice.ensures.value c.in_ok-end.ensures.ended);
+          c.in_ok-start_first.ensures.started
+          (subst (λ (os : List Outcome). HasEnded c.args.options.now.faults os c.start_first.new.operator c.end.new.operator) c.as_slice.ensures.value c.in_ok-end.ensures.ended);
       worked = worked g.K.HistoryName.net c.args.options.now.attempts g.K.RunName.seats c.args.buses.items booted.outcomes.items s.history.items c.in-Ok.named.1.items c.remove-operator.new.self.items c.push.new.self.items booted.seats.items c.end.new.operator
           theirs c.in-Ok-push.ensures.items
           c.in-Ok.ensures.seats c.remove-operator.ensures.items some was;
