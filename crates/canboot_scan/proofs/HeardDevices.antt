@@ -1,5 +1,5 @@
 -- A device each of whose values was heard.
-use Rattle.std.proofs.Common.{◌≡◌, ◌≢◌, ◌∙◌, ℕ, List, Option, refl, sym, subst, inl, inr, arith}
+use Rattle.std.proofs.Common.{◌≡◌, ◌≢◌, ◌≤◌, ◌∙◌, ℕ, List, Option, refl, sym, subst, inl, inr, arith}
 use Rattle.std.specs.Prelude.{All, IsFalse, IsTrue, Some}
 use Rattle.std.proofs.lemmas.List.Elements.{All-contains}
 use Rattle.cm_nmt.specs.declared.terms.Terms.{Terms}
@@ -34,6 +34,14 @@ module _ (format : Format) (text : Option (List ℕ)) (node : ℕ) where
   heard_as q v begun from upto answer.Silent is given = record { on = given.on; heard = λ some. absurd (some is) }
   heard_as q v begun from upto (answer.State s) is given = record { on = given.on; heard = λ some. absurd (some is) }
 
+  -- a device type that was given was heard, also up to a later place
+  answered : (v from upto later : ℕ) → upto ≤ later → IsGiven format text node (ask.Read 4096 0) (answer.Value v) from from upto
+      → IsHeard format text node (ask.Read 4096 0) (answer.Value v) from from later
+  answered v from upto later le given = elim given.given [
+    | inl silent ↦ absurd (cc)
+    | inr h ↦ record { place = h.place; frame = h.frame; behind = h.behind; within = omega (arith, h.within, le); stands = h.stands; answers = h.answers; same = h.same }
+  ]
+
   -- the steps of a live bus
   abbrev Step : BusView → Question → Answer → BusView → Type 0
   Step b q x c = IsAsked node q x b.log c.log × IsPut format text node q x b c
@@ -57,10 +65,12 @@ module _ (format : Format) (text : Option (List ℕ)) (node : ℕ) where
       let vendor = read_as p.from said.one said.two 4120 1 i.vendor p.still same said.vendor in
       let product = read_as p.from said.two said.three 4120 2 i.product vendor.1 vendor.2 said.product in
       let revision = read_as p.from said.three said.four 4120 3 i.revision product.1 product.2 said.revision in
-      let serial = read_as p.from said.four c 4120 4 i.serial revision.1 revision.2 said.serial in (
-        p.from,
-        c.heard,
-        record {
+      let serial = read_as p.from said.four c 4120 4 i.serial revision.1 revision.2 said.serial in
+      record {
+        begun = p.from;
+        upto = c.heard;
+        there = answered i.device_type p.from said.one.heard c.heard (omega (arith, vendor.0.on, product.0.on, revision.0.on, serial.0.on)) first;
+        values = record {
           first = said.one.heard;
           second = said.two.heard;
           third = said.three.heard;
@@ -70,8 +80,8 @@ module _ (format : Format) (text : Option (List ℕ)) (node : ℕ) where
           product = product.0;
           revision = revision.0;
           serial = serial.0;
-        },
-      )
+        };
+      }
 
   -- ---- what that says of a network list
 
@@ -87,21 +97,21 @@ module _ (format : Format) (text : Option (List ℕ)) (node : ℕ) where
 -- a device that was heard, and has the expected values, was heard with them
 has_expected : (format : Format) (text : Option (List ℕ)) (net : Network) (t : Terms) (f : Found) → terms net f.id ≡ Some t
     → HasExpected t f → IsHeardDevice format text f → IsHeardAsListed format text net f.id
-has_expected format text net t f listed has heard = let h = heard.2 in record {
+has_expected format text net t f listed has heard = let h = heard.values in record {
   t = t;
-  begun = heard.0;
-  upto = heard.1;
+  begun = heard.begun;
+  upto = heard.upto;
   listed = listed;
   heard = record {
     first = h.first;
     second = h.second;
     third = h.third;
     fourth = h.fourth;
-    device_type = expected_heard format text f.id device_type f.device_type t.device_type heard.0 heard.0 h.first has.device_type h.device_type;
-    vendor = expected_heard format text f.id vendor_id f.vendor t.vendor heard.0 h.first h.second has.vendor h.vendor;
-    product = expected_heard format text f.id product_code f.product t.product heard.0 h.second h.third has.product h.product;
-    revision = expected_heard format text f.id revision_number f.revision t.revision heard.0 h.third h.fourth has.revision h.revision;
-    serial = expected_heard format text f.id serial_number f.serial t.serial heard.0 h.fourth heard.1 has.serial h.serial;
+    device_type = expected_heard format text f.id device_type f.device_type t.device_type heard.begun heard.begun h.first has.device_type h.device_type;
+    vendor = expected_heard format text f.id vendor_id f.vendor t.vendor heard.begun h.first h.second has.vendor h.vendor;
+    product = expected_heard format text f.id product_code f.product t.product heard.begun h.second h.third has.product h.product;
+    revision = expected_heard format text f.id revision_number f.revision t.revision heard.begun h.third h.fourth has.revision h.revision;
+    serial = expected_heard format text f.id serial_number f.serial t.serial heard.begun h.fourth heard.upto has.serial h.serial;
   };
 }
 
