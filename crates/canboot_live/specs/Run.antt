@@ -1,5 +1,5 @@
 -- What the live run of a network list does.
-use Rattle.std.specs.Prelude.{◌≡◌, ◌⊎◌, ℕ, Bool, List, [], Option}
+use Rattle.std.specs.Prelude.{◌≡◌, ◌⊎◌, ℕ, Bool, List, [], Option, None, Some, length}
 use Rattle.std.specs.Io.KnownBytes.{Appends}
 use Rattle.cm_nmt.specs.declared.frame.Frame.{Frame}
 use Rattle.cm_netlist.specs.Network.{Network, listing}
@@ -9,6 +9,8 @@ use Rattle.cm_format.specs.Journals.{IsJournal}
 use Rattle.cm_history.specs.declared.call.Entry.{Entry}
 use Rattle.cm_history.specs.OrderFrames.{frames_in}
 use Rattle.cm_bus.specs.Outlets.{IsWell, SendsMessages}
+use Rattle.cm_bus.specs.Sent.{AreWrittenFrom, HasWritten}
+use Rattle.cm_can.specs.Requests.{IsErrorControlFrame, IsToNode}
 use Rattle.cm_bus.specs.declared.outlet.Outlet.{Outlet}
 use Rattle.cm_format.specs.Unended.{unended_text}
 pub use Rattle.cm_text.specs.Fronts.{AppendsIfThere, IsWritten}
@@ -91,3 +93,13 @@ module _ {W : Type 0} (contents : W → Option (List ℕ)) (format : Format) (re
       → Option (Outlet W) → Option (Outlet W) → Type 0
   FailsToLive workers limit input input' output output' journal journal' failed messages messages' =
       FailsToLiveOf (IsRun workers limit input input') output output' journal journal' failed messages messages'
+
+-- by the outlets of the workers, as many as said, just requests to nodes were written behind what their writers had, and by the outlet
+-- of error control just its own frames: lines of them, the last of which may be its first bytes where a write has failed
+pub record SendsBeside {W : Type 0} (contents : W → Option (List ℕ)) (format : Format) (had : Option ℕ → Option (List ℕ)) (workers : ℕ)
+    (requests : List (Outlet W)) (error_control : Option (Outlet W)) : Type 0 where
+  pub requested : AreWrittenFrom IsToNode contents format had 0 requests
+  pub all : length requests ≡ workers
+  pub controlling : Outlet W
+  pub there : error_control ≡ Some controlling
+  pub controlled : HasWritten IsErrorControlFrame contents format (had None) controlling

@@ -53,6 +53,10 @@ pub struct LiveEnds<X: LiveIo> {
 pub struct LiveTrace<X: LiveIo> {
     /// Where the NMT messages are written. It is taken out while the run goes on.
     pub messages: Option<Outlet<X::Sent>>,
+    /// By what the workers have written their requests, in their order: it is put here at the end of the run.
+    pub requests: Vec<Outlet<X::Sent>>,
+    /// By what was written for error control: it is put here at the end of the run.
+    pub error_control: Option<Outlet<X::Sent>>,
     /// Where the journal is written, if it is.
     pub journal: JournalOutput<X::Journal>,
 }

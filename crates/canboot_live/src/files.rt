@@ -272,6 +272,8 @@ fn live_over<R: Host, F: ReplaceFile + Send + Drop + 'static, O: Write, E: Write
         err: &mut *err,
         trace: LiveTrace {
             messages: Some(messages),
+            requests: Vec::new(rt.alloc()),
+            error_control: None,
             journal,
         },
     };

@@ -350,6 +350,8 @@ fn lives<R: Wait + Threads + Clock + Clone + Abort + Send + Sync + Drop + 'stati
         err: Vec::new(alloc),
         trace: LiveTrace::<InMemory<R>> {
             messages: Some(messages),
+            requests: Vec::new(alloc),
+            error_control: None,
             journal: JournalOutput::new(Some(Vec::new(alloc))),
         },
     };
@@ -361,6 +363,8 @@ fn lives<R: Wait + Threads + Clock + Clone + Abort + Send + Sync + Drop + 'stati
         ..
     } = outputs;
     assert!(rt; trace.messages.is_some());
+    assert_eq!(rt; trace.requests.len(), 4);
+    assert!(rt; trace.error_control.is_some());
     let Some(journal) = trace.journal.into_writer() else {
         return Err(Fail::from("no journal"));
     };

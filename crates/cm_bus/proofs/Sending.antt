@@ -1,12 +1,12 @@
 -- A frame more by an outlet for frames of one kind.
-use Rattle.std.proofs.Common.{◌≡◌, ℕ, Bool, true, false, true≢false, List, [], ◌∷◌, ◌++◌, Option, Some, None, refl, ap, sym, ◌∙◌, subst, append_assoc, append-nil, length, map, get_or}
+use Rattle.std.proofs.Common.{◌≡◌, ◌+◌, ℕ, arith, Bool, true, false, true≢false, List, [], ◌∷◌, ◌++◌, Option, Some, None, refl, ap, sym, ◌∙◌, subst, append_assoc, append-nil, length, map, get_or}
 use Rattle.std.specs.List.{AllByRecursion}
 use Rattle.std.specs.Io.KnownBytes.{Appends}
 use Rattle.std.proofs.KnownBytes.{Appends-nil, Appends-trans}
 use Rattle.cm_can.specs.declared.format.Format.{Format}
 use Rattle.cm_can.specs.declared.frame.CanFrame.{CanFrame}
 use Rattle.cm_bus.specs.Outlets.{IsLine, Writes, WritesFront}
-use Rattle.cm_bus.specs.Sent.{AreFrameLines, HasWritten, IsHadBy}
+use Rattle.cm_bus.specs.Sent.{AreFrameLines, AreWrittenFrom, HasWritten, IsHadBy}
 use Rattle.cm_bus.specs.declared.outlet.Outlet.{Outlet}
 
 all_and_one : (Is : CanFrame → Type 0) (fs : List CanFrame) (f : CanFrame) → AllByRecursion Is fs → Is f → AllByRecursion Is (fs ++ f ∷ [])
@@ -96,3 +96,12 @@ pub had_next : {W : Type 0} (contents : W → Option (List ℕ)) (had : Option �
     → before ++ w ∷ after ≡ all → contents w ≡ had (Some (length before))
 had_next {W} contents had all before after w is e =
     sym (is (length before) ∙ (ap (λ (ws : List W). get_or (map contents ws) (length before) None) (sym e) ∙ nth_of contents before w after))
+
+-- one outlet more, of the worker behind these
+pub written_behind : {W : Type 0} (Is : CanFrame → Type 0) (contents : W → Option (List ℕ)) (format : Format) (had : Option ℕ → Option (List ℕ)) (k : ℕ) (os : List (Outlet W)) (o : Outlet W)
+    → AreWrittenFrom Is contents format had k os → HasWritten Is contents format (had (Some (k + length os))) o → AreWrittenFrom Is contents format had k (os ++ o ∷ [])
+written_behind Is contents format had k [] o is w = (subst (λ (n : ℕ). HasWritten Is contents format (had (Some n)) o) (omega (arith)) w, tt)
+written_behind {W} Is contents format had k (p ∷ os) o is w = (
+  is.0,
+  written_behind Is contents format had (k + 1) os o is.1 (subst (λ (n : ℕ). HasWritten Is contents format (had (Some n)) o) (omega (arith)) w),
+)

@@ -1,5 +1,5 @@
 -- What was written by who sends frames of one kind alone (own).
-use Rattle.std.specs.Prelude.{◌≡◌, ℕ, false, List, [], ◌∷◌, ◌++◌, Option, Some, None, get_or, map}
+use Rattle.std.specs.Prelude.{◌≡◌, ◌+◌, ℕ, false, List, [], ◌∷◌, ◌++◌, Option, Some, None, get_or, map}
 use Rattle.std.specs.List.{AllByRecursion}
 use Rattle.std.specs.Io.KnownBytes.{Appends}
 use Rattle.cm_can.specs.declared.format.Format.{Format}
@@ -25,6 +25,13 @@ pub record HasWritten {W : Type 0} (Is : CanFrame → Type 0) (contents : W → 
   pub lines : AreFrameLines format frames text
   pub front : AppendsFront before (contents now.writer) text
   pub all : now.failed ≡ false → Appends before (contents now.writer) text
+
+-- so it is of the outlets of the workers from the k-th on, in their order, behind what their writers had
+abbrev pub AreWrittenFrom : {W : Type 0} → (CanFrame → Type 0) → (W → Option (List ℕ)) → Format → (Option ℕ → Option (List ℕ)) → ℕ
+    → List (Outlet W) → Type 0
+AreWrittenFrom Is contents format had k [] = Unit {0}
+AreWrittenFrom Is contents format had k (o ∷ outlets) =
+    HasWritten Is contents format (had (Some k)) o × AreWrittenFrom Is contents format had (k + 1) outlets
 
 -- what contracts see of an outlet for frames of one kind: the outlet, and the worker whose it is
 pub record CausedOutletView (O : Type 0) : Type 0 where

@@ -317,6 +317,11 @@ impl<'n, B: BusName, P: Port<B>> LiveBus<'n, B, P> {
     {
         self.log.as_slice()
     }
+
+    /// The port.
+    pub fn into_port(self) -> P {
+        self.port
+    }
 }
 
 /// How long a heartbeat of the node is waited for, in ms.

@@ -1,6 +1,10 @@
+ghost use Rattle.std.specs.Prelude.{◌≡◌, IfSome, vec_len};
+ghost use Rattle.cm_bus.specs.Sent.{AreWrittenFrom};
+
 use crate::outlet::Outlet;
 use cm_can::Caused;
 use cm_receiving::BusName;
+use std::alloc::Global;
 use std::io::Write;
 use std::marker::{Model, PhantomData};
 
@@ -67,6 +71,16 @@ impl<W: Write + Drop, B: BusName, F: Caused> CausedOutlet<W, B, F> {
         self.outlet.has_failed()
     }
 
+    /// Whether it is this worker's, counted from 0; without a number, whether it is that of error control.
+    pub fn is_of(&self, worker: Option<usize>) -> bool
+        ensures { IsTrue result → self.now.worker ≡ worker }
+    {
+        match (self.worker, worker) {
+            (Some(own), Some(other)) => own == other,
+            (own, other) => own.is_none() && other.is_none(),
+        }
+    }
+
     /// The outlet: its writer got lines of such frames alone.
     pub fn into_outlet(self) -> Outlet<W>
         ensures same { result ≡ self.outlet }
@@ -74,4 +88,25 @@ impl<W: Write + Drop, B: BusName, F: Caused> CausedOutlet<W, B, F> {
     {
         self.outlet
     }
+}
+
+/// The outlets of workers, in their order: by each just such frames were written, behind what its worker's writer had. `None` where memory
+/// is refused, or where they aren't those of worker 0, worker 1 and so on.
+pub fn outlets_of<W: Write + Drop, B: BusName, F: Caused>(
+    alloc: Global,
+    outlets: Vec<CausedOutlet<W, B, F>>,
+) -> Option<Vec<Outlet<W>>>
+    ensures written { IfSome result (λ v. AreWrittenFrom F.causes W.contents B.format B.had 0 v.items) }
+    ensures all { IfSome result (λ v. vec_len v ≡ vec_len outlets) }
+{
+    let mut plain = Vec::new(alloc);
+    for outlet in outlets {
+        if !outlet.is_of(Some(plain.len())) {
+            return None;
+        }
+        let Ok(()) = plain.push(outlet.into_outlet()) else {
+            return None;
+        };
+    }
+    Some(plain)
 }

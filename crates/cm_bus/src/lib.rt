@@ -29,7 +29,7 @@ mod wire;
 
 pub use bus::LiveBus;
 pub use bus_paths::BusPaths;
-pub use caused_outlet::CausedOutlet;
+pub use caused_outlet::{CausedOutlet, outlets_of};
 pub use event::PortEvent;
 pub use identifying::{Identity, identify};
 pub use live_port::LivePort;

@@ -93,10 +93,11 @@ impl<'n, K: RunName, B: BusName, P: Port<B>> Booth<'n, K, B, P> {
         ))
     }
 
-    /// The seat.
-    pub fn into_seat(self) -> HeardSeat<K, B>
-        ensures { result ≡ self.entry }
+    /// The seat, and the port of the bus.
+    pub fn into_parts(self) -> (HeardSeat<K, B>, P)
+        ensures seat { result.0 ≡ self.entry }
     {
-        HeardSeat::around(self.seat)
+        let Booth { seat, bus, .. } = self;
+        (HeardSeat::around(seat), bus.into_port())
     }
 }

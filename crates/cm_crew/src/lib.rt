@@ -21,4 +21,4 @@ pub use heard_seat::HeardSeat;
 pub use lookout::UntilOver;
 pub use operator_seat::OperatorSeat;
 pub use rounds::live_round;
-pub use workers::{Worker, Workers, join_workers, make_workers, start_workers};
+pub use workers::{Left, Worker, Workers, join_workers, make_workers, start_workers};

@@ -6,7 +6,8 @@ ghost use Rattle.cm_crew.specs.Faults.{fault_of};
 
 use crate::booth::Booth;
 use crate::heard_seat::HeardSeat;
-use cm_bus::{LivePort, Setting, make_bus};
+use cm_bus::{CausedOutlet, LivePort, Setting, make_bus};
+use cm_can::Request;
 use cm_history::CallFault;
 use cm_nmt::NodeId;
 use cm_receiving::{BusName, Notification, Received};
@@ -27,6 +28,13 @@ pub struct Worker<'n, R: Wait + Clock + Drop, K: RunName, B: BusName, W: Write +
     jobs: Receiver<NodeId>,
     notifications: Sender<Notification>,
     attempts: u8,
+}
+
+/// What a worker leaves: its seat, and by what it has written its requests.
+#[derive(Drop)]
+pub struct Left<K: RunName, B: BusName, W: Write + Drop> {
+    pub seat: HeardSeat<K, B>,
+    pub outlet: CausedOutlet<W, B, Request>,
 }
 
 /// Why a call couldn't be made, if one couldn't.
@@ -76,7 +84,7 @@ fn boot_handed<
     }
 }
 
-/// What one worker does: rounds of the slaves that it is handed, until the run is over. Its seat comes back.
+/// What one worker does: rounds of the slaves that it is handed, until the run is over.
 fn work<
     'n,
     R: Wait + Clock + Drop,
@@ -84,8 +92,8 @@ fn work<
     B: BusName,
     M: SharedManager<K, R>,
     W: Write + Drop,
->(rt: &R, register: &M, worker: Worker<'n, R, K, B, W>, over: &AtomicBool) -> HeardSeat<K, B>
-    ensures { HasMadeCalls worker.entry.booth result }
+>(rt: &R, register: &M, worker: Worker<'n, R, K, B, W>, over: &AtomicBool) -> Left<K, B, W>
+    ensures { HasMadeCalls worker.entry.booth result.seat }
 {
     let Worker {
         mut booth,
@@ -103,7 +111,8 @@ fn work<
         attempts,
         over,
     );
-    booth.into_seat()
+    let (seat, LivePort { outlet, .. }) = booth.into_parts();
+    Left { seat, outlet }
 }
 
 /// The workers of a live run, with the ends of their channels.
@@ -225,7 +234,7 @@ fn start_worker<
     register: &'s M,
     worker: Worker<'s, R, K, B, W>,
     over: &'s AtomicBool,
-    handles: &mut Vec<JoinHandle<HeardSeat<K, B>>>,
+    handles: &mut Vec<JoinHandle<Left<K, B, W>>>,
 ) -> bool {
     match scope.spawn(move || work(rt, register, worker, over)) {
         Ok(handle) => handles.push(handle).is_ok(),
@@ -248,7 +257,7 @@ pub fn start_workers<
     register: &'s M,
     workers: Vec<Worker<'s, R, K, B, W>>,
     over: &'s AtomicBool,
-    handles: &mut Vec<JoinHandle<HeardSeat<K, B>>>,
+    handles: &mut Vec<JoinHandle<Left<K, B, W>>>,
 ) -> bool {
     for worker in workers {
         if !start_worker(scope, rt, register, worker, over, handles) {
@@ -258,16 +267,20 @@ pub fn start_workers<
     true
 }
 
-/// Waits for the workers, and puts their seats behind the others.
-pub fn join_workers<R: Threads, K: RunName, B: BusName>(
+/// Waits for the workers, and puts their seats, and by what they have written, behind the others.
+pub fn join_workers<R: Threads, K: RunName, B: BusName, W: Write + Drop>(
     rt: &R,
-    handles: Vec<JoinHandle<HeardSeat<K, B>>>,
+    handles: Vec<JoinHandle<Left<K, B, W>>>,
     seats: &mut Vec<HeardSeat<K, B>>,
+    outlets: &mut Vec<CausedOutlet<W, B, Request>>,
 ) -> Result<(), AllocError>
-    ensures { IfOk result (λ _. vec_len seats.new ≡ vec_len seats.old + vec_len handles) }
+    ensures seats { IfOk result (λ _. vec_len seats.new ≡ vec_len seats.old + vec_len handles) }
+    ensures outlets { IfOk result (λ _. vec_len outlets.new ≡ vec_len outlets.old + vec_len handles) }
 {
     for handle in handles {
-        seats.push(handle.join(rt))?;
+        let Left { seat, outlet } = handle.join(rt);
+        seats.push(seat)?;
+        outlets.push(outlet)?;
     }
     Ok(())
 }
