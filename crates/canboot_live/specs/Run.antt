@@ -1,5 +1,5 @@
 -- What the live run of a network list does.
-use Rattle.std.specs.Prelude.{◌≡◌, ◌⊎◌, ℕ, Bool, List, [], Option, None, Some, length}
+use Rattle.std.specs.Prelude.{◌≡◌, ◌⊎◌, ℕ, Bool, List, [], Option, None, Some, length, map}
 use Rattle.std.specs.Io.KnownBytes.{Appends}
 use Rattle.cm_nmt.specs.declared.frame.Frame.{Frame}
 use Rattle.cm_netlist.specs.Network.{Network, listing}
@@ -9,7 +9,7 @@ use Rattle.cm_format.specs.Journals.{IsJournal}
 use Rattle.cm_history.specs.declared.call.Entry.{Entry}
 use Rattle.cm_history.specs.OrderFrames.{frames_in}
 use Rattle.cm_bus.specs.Outlets.{IsWell, SendsMessages}
-use Rattle.cm_bus.specs.Sent.{AreWrittenFrom, HasWritten}
+use Rattle.cm_bus.specs.Sent.{AreWrittenFrom, HasWritten, had_by}
 use Rattle.cm_can.specs.Requests.{IsErrorControlFrame, IsToNode}
 use Rattle.cm_bus.specs.declared.outlet.Outlet.{Outlet}
 use Rattle.cm_format.specs.Unended.{unended_text}
@@ -103,3 +103,15 @@ pub record SendsBeside {W : Type 0} (contents : W → Option (List ℕ)) (format
   pub controlling : Outlet W
   pub there : error_control ≡ Some controlling
   pub controlled : HasWritten IsErrorControlFrame contents format (had None) controlling
+
+-- so it is of what these writers had
+abbrev pub SendsBesideOf : {W : Type 0} → (W → Option (List ℕ)) → Format → W → List W → ℕ → List (Outlet W) → Option (Outlet W) → Type 0
+SendsBesideOf contents format control writers workers requests error_control =
+    SendsBeside contents format (had_by (contents control) (map contents writers)) workers requests error_control
+
+-- and so, or none of these outlets came back
+abbrev pub SendsBesideOrKeeps : {W V : Type 0} → (W → Option (List ℕ)) → Format → W → List W → ℕ → (V → List (Outlet W)) → V → V
+    → Option (Outlet W) → Option (Outlet W) → Type 0
+SendsBesideOrKeeps contents format control writers workers items requests requests' error_control error_control' =
+    SendsBesideOf contents format control writers workers (items requests') error_control'
+    ⊎ ((requests' ≡ requests) × (error_control' ≡ error_control))

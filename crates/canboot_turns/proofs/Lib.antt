@@ -1,3 +1,4 @@
+pub mod CallsOfSteps
+pub mod Ends
 pub mod Going
 pub mod Sendings
-pub mod CallsOfSteps

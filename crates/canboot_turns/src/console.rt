@@ -1,6 +1,6 @@
 //! What a live run does for its operator.
 
-ghost use Rattle.std.specs.Prelude.{◌≡◌, ◌<◌, ◌^◌, ◌++◌, IfOk, Some};
+ghost use Rattle.std.specs.Prelude.{◌≡◌, ◌<◌, ◌^◌, ◌++◌, Err, IfOk, Some};
 ghost use Rattle.cm_history.specs.declared.call.Call.TheVariants.{Request as RequestCall};
 ghost use Rattle.cm_operator.specs.Console.{AsksPlainly, asked_by};
 ghost use Rattle.cm_receiving.specs.Places.{LineStandsIn};
@@ -13,7 +13,8 @@ ghost use Rattle.cm_crew.specs.CallsMade.{HasMadeOrNot};
 ghost use Rattle.canboot_turns.specs.Steps.{HasObeyed, HasObeyedIf};
 ghost use Rattle.canboot_turns.specs.Going.{Follows, HasTaken};
 ghost use Rattle.canboot_turns.specs.Asking.{asked_of, asked_unless, is_start_of_all, no_boot_of};
-ghost use Rattle.cm_operator.specs.declared.console.Command.TheVariants.{Start};
+ghost use Rattle.canboot_turns.specs.Ending.{Quits};
+ghost use Rattle.cm_operator.specs.declared.console.Command.TheVariants.{Quit, Start};
 
 use crate::ending::Ending;
 use crate::progress::LiveCourse;
@@ -155,6 +156,7 @@ impl<'w, 'a, 'n, R: Wait + Clock + Drop, K: RunName, B: BusName, M: LiveRegister
         ensures made { IfOk result
             (λ _. HasMadeOrNot (RequestCall target value) self.old.operator self.new.operator) }
         ensures course { self.new.course ≡ self.old.course }
+        ensures other { result ≡ Err Ending.Asked → ⊥ }
     {
         let rt = self.course.setting.rt;
         self.operator
@@ -166,6 +168,7 @@ impl<'w, 'a, 'n, R: Wait + Clock + Drop, K: RunName, B: BusName, M: LiveRegister
     fn start(&mut self, line: &TypedLine<B>) -> Result<(), Ending>
         ensures made { IfOk result (λ _. HasObeyed Start self.old.operator self.new.operator) }
         ensures course { self.new.course ≡ self.old.course }
+        ensures other { result ≡ Err Ending.Asked → ⊥ }
     {
         if is_start_of_all(&self.course.progress.watch) {
             self.request(line, 128, 5)
@@ -182,6 +185,7 @@ impl<'w, 'a, 'n, R: Wait + Clock + Drop, K: RunName, B: BusName, M: LiveRegister
             → IfOk result (λ _. HasTaken Typed self.old.course.options.seconds B.typed
             self.new.course.progress self.old.course.network.now s past now self.old.operator self.new.operator) }
         ensures network { IfOk result (λ _. self.new.course.network ≡ self.old.course.network) }
+        ensures quits { result ≡ Err Ending.Asked → Quits B.typed }
     {
         match self.typed.recv(self.course.setting.rt) {
             Ok(line) => self.obey(err, &line, now),
@@ -205,6 +209,7 @@ impl<'w, 'a, 'n, R: Wait + Clock + Drop, K: RunName, B: BusName, M: LiveRegister
             → IfOk result (λ _. Follows self.new.course.progress self.old.course.network.now s
             (asked_of (Some command.now) self.old.course.network.now past now ++ past)) }
         ensures network { IfOk result (λ _. self.new.course.network ≡ self.old.course.network) }
+        ensures quits { result ≡ Err Ending.Asked → command.now ≡ Quit }
     {
         self.course.ask(err, command, now);
         match command {
@@ -229,6 +234,7 @@ impl<'w, 'a, 'n, R: Wait + Clock + Drop, K: RunName, B: BusName, M: LiveRegister
             → IfOk result (λ _. Follows self.new.course.progress self.old.course.network.now s
             (asked_of (asked_by line.now.line) self.old.course.network.now past now ++ past)) }
         ensures network { IfOk result (λ _. self.new.course.network ≡ self.old.course.network) }
+        ensures quits { result ≡ Err Ending.Asked → asked_by line.now.line ≡ Some Quit }
     {
         match read_command(line.line()) {
             Ok(command) => self.carry_out(err, line, &command, now),

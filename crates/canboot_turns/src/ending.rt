@@ -21,6 +21,10 @@ pub enum Ending {
 }
 
 impl From<AllocError> for Ending {
+    ghost use Rattle.canboot_turns.specs.declared.ending.Ending.TheVariants.{OutOfMemory};
+
+    ghost from_gives = { λ _ e. e ≡ OutOfMemory };
+
     fn from(_refused: AllocError) -> Ending
         ensures { result ≡ Ending.OutOfMemory }
     {
@@ -29,6 +33,10 @@ impl From<AllocError> for Ending {
 }
 
 impl From<CallFault> for Ending {
+    ghost use Rattle.canboot_turns.specs.declared.ending.Ending.TheVariants.{NotCalled};
+
+    ghost from_gives = { λ fault e. e ≡ NotCalled fault };
+
     fn from(fault: CallFault) -> Ending
         ensures { result ≡ Ending.NotCalled fault }
     {

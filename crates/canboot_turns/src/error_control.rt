@@ -1,6 +1,6 @@
 //! What a live run sends for error control: the heartbeat of the manager itself, and the requests of node guarding (CiA 301).
 
-ghost use Rattle.std.specs.Prelude.{◌≡◌, ◌<◌, ◌^◌, ◌∷◌, [], IfNone, IfOk, IfSome, IsTrue, false};
+ghost use Rattle.std.specs.Prelude.{◌≡◌, ◌<◌, ◌^◌, ◌∷◌, [], Err, IfNone, IfOk, IfSome, IsTrue, false};
 ghost use Rattle.cm_watch.specs.ErrorControl.{error_control_at};
 ghost use Rattle.cm_watched.specs.Pasts.{Past};
 ghost use Rattle.cm_watch.specs.Steps.{given};
@@ -87,6 +87,7 @@ impl<'w, 'a, 'n, R: Wait + Clock> LiveCourse<'w, 'a, 'n, R> {
             → IfOk result (λ _. Follows self.new.progress self.old.network.now s
             (given now (error_control_at self.old.network.now s past now) past)) }
         ensures network { self.new.network ≡ self.old.network }
+        ensures other { result ≡ Err Ending.Asked → ⊥ }
     {
         let alloc = self.setting.alloc;
         let steps = self.progress.watch.error_control(alloc, self.network, now)?;

@@ -1,6 +1,6 @@
 //! How a live run makes the steps that its watch gives.
 
-ghost use Rattle.std.specs.Prelude.{◌≡◌, ℕ, ◌<◌, ◌^◌, ◌∷◌, [], IfOk};
+ghost use Rattle.std.specs.Prelude.{◌≡◌, ℕ, ◌<◌, ◌^◌, ◌∷◌, [], Err, IfOk};
 ghost use Rattle.cm_watched.specs.Pasts.{Past};
 ghost use Rattle.cm_watch.specs.Steps.{given, steps_at};
 ghost use Rattle.cm_telling.specs.Tried.{Tries};
@@ -65,6 +65,7 @@ impl<'w, 'a, 'n, R: Wait + Clock + Drop, K: RunName, B: BusName, M: LiveRegister
         ensures waiting { self.new.course.progress.waiting ≡ self.old.course.progress.waiting }
         ensures watch { self.new.course.progress.watch ≡ self.old.course.progress.watch }
         ensures network { self.new.course.network ≡ self.old.course.network }
+        ensures other { result ≡ Err Ending.Asked → ⊥ }
     {
         self.course.progress.tried.give(step);
         self.course.do_beside(err, self.jobs.as_slice(), step);
@@ -85,6 +86,7 @@ impl<'w, 'a, 'n, R: Wait + Clock + Drop, K: RunName, B: BusName, M: LiveRegister
         ensures ended { (s : WatchSettings) (past : Past) → Follows self.old.course.progress self.old.course.network.now s past
             → IfOk result (λ ended. ended ≡ is_ended_by (steps_at self.old.course.network.now s past now)) }
         ensures network { self.new.course.network ≡ self.old.course.network }
+        ensures other { result ≡ Err Ending.Asked → ⊥ }
     {
         let alloc = self.course.setting.alloc;
         let network = self.course.network;

@@ -1,6 +1,6 @@
 //! How far a live run has come.
 
-ghost use Rattle.std.specs.Prelude.{◌≡◌, ◌<◌, ◌^◌, [], ◌∷◌, ◌++◌, ℕ, List, Option, false, IfNone, IfOk, IfSome, OnOk, Some};
+ghost use Rattle.std.specs.Prelude.{◌≡◌, ◌<◌, ◌^◌, [], ◌∷◌, ◌++◌, ℕ, List, Option, false, Err, IfNone, IfOk, IfSome, OnOk, Some};
 ghost use Rattle.cm_register.specs.SeatViews.{SeatView};
 ghost use Rattle.cm_netlist.specs.Network.{Network as NetworkList};
 ghost use Rattle.cm_watched.specs.Guarding.{guard_of, heard_at};
@@ -212,6 +212,7 @@ impl<'w, 'a, 'n, R: Wait + Clock> LiveCourse<'w, 'a, 'n, R> {
         ensures told { (s : WatchSettings) (past : Past) → Follows self.old.progress self.old.network.now s past
             → IfOk result (λ _. Follows self.new.progress self.old.network.now s ((now, Happened (Ended id)) ∷ past)) }
         ensures network { self.new.network ≡ self.old.network }
+        ensures other { result ≡ Err Ending.Asked → ⊥ }
     {
         if let Some(fault) = fault {
             return Err(Ending::NotCalled(fault));
@@ -249,6 +250,7 @@ impl<'w, 'a, 'n, R: Wait + Clock> LiveCourse<'w, 'a, 'n, R> {
             (λ _. (typed : Option (List ℕ)) (seat : SeatView) → HasTaken notification self.old.options.seconds typed
             self.new.progress self.old.network.now s past now seat seat) }
         ensures network { self.new.network ≡ self.old.network }
+        ensures other { result ≡ Err Ending.Asked → ⊥ }
     {
         let rt = self.setting.rt;
         match notification {
@@ -299,8 +301,9 @@ impl<'w, 'a, 'n, R: Wait + Clock> LiveCourse<'w, 'a, 'n, R> {
         now: u64,
     ) -> Result<(), Ending>
         requires { now < 2 ^ 63 }
-        ensures { IfOk result
+        ensures goes_on { IfOk result
             (λ _. GoesOn self.old.network.now self.old.progress self.new.network.now self.new.progress) }
+        ensures other { result ≡ Err Ending.Asked → ⊥ }
     {
         let heartbeats = &self.setting.heartbeats;
         note_heartbeats(&mut self.progress.watch, self.network, heartbeats, now);

@@ -1,9 +1,10 @@
 //! How a live run goes on: what happens is told to the watch, and the steps that it gives are made.
 
-ghost use Rattle.std.specs.Prelude.{◌≡◌, ◌<◌, ◌^◌, ◌++◌, ◌∷◌, [], IfOk};
+ghost use Rattle.std.specs.Prelude.{◌≡◌, ◌<◌, ◌^◌, ◌++◌, ◌∷◌, [], Err, IfOk};
 ghost use Rattle.cm_netlist.specs.Network.{Network as NetworkList};
 ghost use Rattle.cm_watched.specs.Pasts.{Past};
 ghost use Rattle.cm_watched.specs.declared.settings.Settings.{Settings as WatchSettings};
+ghost use Rattle.canboot_turns.specs.Ending.{IsAskedToEnd, Quits};
 ghost use Rattle.canboot_turns.specs.Going.{Follows, GoesOn, HasTaken};
 ghost use Rattle.cm_crew.specs.CallsMade.{calls_made};
 ghost use Rattle.cm_crew.specs.Typing.{IsUntyped};
@@ -134,6 +135,7 @@ impl<'w, 'a, 'n, R: Wait + Clock + Drop, K: RunName, B: BusName, M: LiveRegister
         requires { IsUntyped call }
         ensures made { IfOk result (λ _. calls_made self.new.operator ≡ calls_made self.old.operator ++ call ∷ []) }
         ensures course { self.new.course ≡ self.old.course }
+        ensures other { result ≡ Err Ending.Asked → ⊥ }
     {
         let rt = self.course.setting.rt;
         self.operator.call(rt, self.register, call)?;
@@ -152,6 +154,7 @@ impl<'w, 'a, 'n, R: Wait + Clock + Drop, K: RunName, B: BusName, M: LiveRegister
             → IfOk result (λ _. HasTaken notification self.old.course.options.seconds B.typed
             self.new.course.progress self.old.course.network.now s past now self.old.operator self.new.operator) }
         ensures network { IfOk result (λ _. self.new.course.network ≡ self.old.course.network) }
+        ensures quits { result ≡ Err Ending.Asked → Quits B.typed }
     {
         match notification {
             Notification::Typed => self.obey_next(err, now),
@@ -163,6 +166,7 @@ impl<'w, 'a, 'n, R: Wait + Clock + Drop, K: RunName, B: BusName, M: LiveRegister
     fn hear<E: Write>(&mut self, err: &mut E, notification: Notification) -> Result<(), Ending>
         ensures goes_on { IfOk result (λ _. GoesOn self.old.course.network.now self.old.course.progress
             self.new.course.network.now self.new.course.progress) }
+        ensures quits { result ≡ Err Ending.Asked → Quits B.typed }
     {
         let now = self.course.setting.now();
         let Some(notification) = self.typing.put_off(notification) else {
@@ -181,6 +185,7 @@ impl<'w, 'a, 'n, R: Wait + Clock + Drop, K: RunName, B: BusName, M: LiveRegister
     ) -> Result<(), Ending>
         ensures goes_on { IfOk result (λ _. GoesOn self.old.course.network.now self.old.course.progress
             self.new.course.network.now self.new.course.progress) }
+        ensures quits { result ≡ Err Ending.Asked → Quits B.typed }
     {
         let setting = self.course.setting;
         let mut wait = if self.typing.is_empty() {
@@ -202,6 +207,7 @@ impl<'w, 'a, 'n, R: Wait + Clock + Drop, K: RunName, B: BusName, M: LiveRegister
     fn obey_some<E: Write>(&mut self, err: &mut E) -> Result<(), Ending>
         ensures goes_on { IfOk result (λ _. GoesOn self.old.course.network.now self.old.course.progress
             self.new.course.network.now self.new.course.progress) }
+        ensures quits { result ≡ Err Ending.Asked → Quits B.typed }
     {
         let began = self.course.setting.now();
         for _ in 0..MOST_OBEYED {
@@ -225,6 +231,7 @@ impl<'w, 'a, 'n, R: Wait + Clock + Drop, K: RunName, B: BusName, M: LiveRegister
     ) -> Result<(), Ending>
         ensures goes_on { IfOk result (λ _. GoesOn self.old.course.network.now self.old.course.progress
             self.new.course.network.now self.new.course.progress) }
+        ensures quits { result ≡ Err Ending.Asked → Quits B.typed }
     {
         self.hear_all(err, notifications)?;
         self.obey_some(err)?;
@@ -258,6 +265,8 @@ impl<'w, 'a, 'n, R: Wait + Clock + Drop, K: RunName, B: BusName, M: LiveRegister
     ) -> Result<(), Ending>
         ensures goes_on { IfOk result (λ _. GoesOn self.old.course.network.now self.old.course.progress
             self.new.course.network.now self.new.course.progress) }
+        ensures asked { result ≡ Err Ending.Asked
+            → IsAskedToEnd B.typed self.old.course.network.now self.old.course.progress self.new.course.progress }
     {
         self.take_all(err, notifications)?;
         self.show(err, publisher);
@@ -301,10 +310,14 @@ impl<'w, 'a, 'n, R: Wait + Clock + Drop, K: RunName, B: BusName, M: LiveRegister
         notifications: &Receiver<Notification>,
         outlet: &mut CausedOutlet<W, B, ControlFrame>,
         publisher: &mut Publisher<K, R>,
-    ) -> Ending {
+    ) -> Ending
+        ensures { result ≡ Ending.Asked
+            → IsAskedToEnd B.typed self.old.course.network.now self.old.course.progress self.new.course.progress }
+    {
         for _ in self.course.setting.rt.forever() {
-            if let Err(ending) = self.turn(err, notifications, outlet, publisher) {
-                return ending;
+            match self.turn(err, notifications, outlet, publisher) {
+                Ok(()) => {}
+                Err(ending) => return ending,
             }
         }
         unreachable!()

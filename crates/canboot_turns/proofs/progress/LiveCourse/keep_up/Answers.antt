@@ -5,8 +5,8 @@ use Rattle.canboot_turns.specs.declared.progress.Progress.{Progress}
 use Rattle.canboot_turns.proofs.Going.{heard_on, ok_always, on_and_on, steps_on, still}
 use Rattle.canboot_turns.proofs.progress.LiveCourse.keep_up.Goals as goal
 
-pub returns : goal.returns
-returns g c =
+pub returns-clause-goes_on : goal.returns-clause-goes_on
+returns-clause-goes_on g c =
     let began = c.args.self.now in
     let net = began.network.now in
     let heard : Progress Entry = record { watch = c.note_heartbeats.new.watch; waiting = began.progress.waiting; tried = began.progress.tried } in

@@ -6,3 +6,6 @@ pub returns-in-Ok-clause-obeyed : goal.returns-in-Ok-clause-obeyed
 returns-in-Ok-clause-obeyed g c = λ s past f.
     both_ok c.obey.result (c.obey.ensures.told s past f) c.obey.ensures.made
     (λ follows made. inr (record { place = c.in-Ok.line.place; line = c.in-Ok.line.line; stands = c.obey.ensures.stands; follows = follows; made = made }))
+
+pub returns-in-Ok-clause-quits : goal.returns-in-Ok-clause-quits
+returns-in-Ok-clause-quits g c = λ e. (c.in-Ok.line.place, c.in-Ok.line.line, c.obey.ensures.stands, c.obey.ensures.quits e)

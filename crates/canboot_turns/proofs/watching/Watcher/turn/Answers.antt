@@ -1,8 +1,9 @@
-use Rattle.std.proofs.Common.{ap, subst, sym}
+use Rattle.std.proofs.Common.{◌∙◌, ap, inr, subst, sym}
 use Rattle.cm_history.specs.declared.call.Entry.{Entry}
 use Rattle.canboot_turns.specs.Going.{Follows, GoesOn}
 use Rattle.canboot_turns.specs.declared.progress.Progress.{Progress}
 use Rattle.cm_watch.specs.Steps.{steps_at}
+use Rattle.canboot_turns.proofs.Ends.{gives_end}
 use Rattle.canboot_turns.proofs.Going.{on_and_on, steps_on, still}
 use Rattle.canboot_turns.proofs.watching.Watcher.turn.Goals as goal
 use Rattle.canboot_turns.proofs.watching.Watcher.turn.Goals.{After-keep_up}
@@ -21,17 +22,23 @@ so_far g c kept =
     (λ s past f. subst (λ (p : Progress Entry). Follows p took.network.now s past) (sym (ap (λ k. k.progress) c.show.ensures.course)) f)))
     kept
 
-pub returns-then-not-look : goal.returns-then-not-look
-returns-then-not-look g c = record { goes_on = so_far g (goal.at.returns-then-not-look g c).After-keep_up c.in_ok-keep_up.ensures }
+pub returns-then-not-look-clause-goes_on : goal.returns-then-not-look-clause-goes_on
+returns-then-not-look-clause-goes_on g c = so_far g (goal.at.returns-then-not-look-clause-goes_on g c).After-keep_up c.in_ok-keep_up.ensures.goes_on
 
-pub returns : goal.returns
-returns g c =
+pub returns-clause-goes_on : goal.returns-clause-goes_on
+returns-clause-goes_on g c =
     let began = c.args.self.now.course in
     let kept_up = c.keep_up.new.self in
     let turned = c.make_steps.new.self.course in
-    record {
-      goes_on = on_and_on began.network.now began.progress kept_up.network.now kept_up.progress turned.network.now turned.progress
-          (so_far g (goal.at.returns g c).After-keep_up c.in_ok-keep_up.ensures)
-          (steps_on (λ s past. steps_at kept_up.network.now s past c.now-now.result) kept_up.network.now kept_up.progress turned.network.now turned.progress c.now-now.result
-          (ap (λ n. n.now) c.make_steps.ensures.network) c.in_ok-make_steps.ensures.given);
-    }
+    on_and_on began.network.now began.progress kept_up.network.now kept_up.progress turned.network.now turned.progress
+    (so_far g (goal.at.returns-clause-goes_on g c).After-keep_up c.in_ok-keep_up.ensures.goes_on)
+    (steps_on (λ s past. steps_at kept_up.network.now s past c.now-now.result) kept_up.network.now kept_up.progress turned.network.now turned.progress c.now-now.result
+    (ap (λ n. n.now) c.make_steps.ensures.network) c.in_ok-make_steps.ensures.given)
+
+pub returns-then-branch-clause-asked : goal.returns-then-branch-clause-asked
+returns-then-branch-clause-asked g c = λ e.
+    let began = c.args.self.now.course in
+    let kept_up = c.keep_up.new.self in
+    inr (gives_end began.network.now began.progress kept_up.network.now kept_up.progress c.make_steps.new.self.course.progress c.now-now.result
+    (so_far g (goal.at.returns-then-branch-clause-asked g c).After-keep_up c.in_ok-keep_up.ensures.goes_on)
+    c.in_ok-make_steps.ensures.given (λ s past f. sym (c.in_ok-make_steps.ensures.ended s past f) ∙ c.if-branch.true))
