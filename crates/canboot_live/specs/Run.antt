@@ -18,7 +18,9 @@ pub use Rattle.cm_format.specs.Runs.{IsRun, IsRunOn, IsOfNoMaster, RefusesRun}
 use Rattle.cm_report.specs.declared.report_form.ReportForm.{ReportForm}
 use Rattle.cm_report.specs.ReportForms.{report_in}
 use Rattle.cm_crew.specs.Heard.{IsAllHeard}
-use Rattle.cm_crew.specs.Operated.{IsOperatedLive}
+use Rattle.cm_crew.specs.Operated.{IsOperatedLive, operator_calls}
+use Rattle.cm_bus.specs.declared.options.LiveOptions.{LiveOptions}
+use Rattle.canboot_turns.specs.Driven.{IsDriven}
 use Rattle.cm_can.specs.declared.format.Format.{Format}
 
 -- of the text of the journal of this history the beginning was written, and all of it where no write has failed
@@ -45,28 +47,31 @@ module _ {W : Type 0} (contents : W → Option (List ℕ)) (format : Format) (re
   -- a live run that ended in order: of the legal history of such a journal just the report was written, to the
   -- journal's output, if there is one, just the text of that journal, and to the outlet of messages, of which no write has
   -- failed, just the lines of that history's frames; in it each report whose orders start a slave has the slave's identity
-  -- among the frames that stand in what the reader of received frames held; and each request in it is one of seat 1, which has
-  -- started the network, and stands as a line in what the reader of typed lines held, in their order
-  pub record RunsLiveOf (Is : JournalView → Type 0) (report : ReportForm) (output output' : Option (List ℕ)) (journal journal' : Option (Option (List ℕ)))
+  -- among the frames that stand in what the reader of received frames held; seat 1, which has started the network, has made just the calls
+  -- that were typed, by lines in what the reader of typed lines held, in their order, and those of the watch's steps, by what it was told,
+  -- each error control message by a line among what was received; and every other seat has made the calls of boots alone
+  pub record RunsLiveOf (options : LiveOptions) (Is : JournalView → Type 0) (report : ReportForm) (output output' : Option (List ℕ)) (journal journal' : Option (Option (List ℕ)))
       (messages messages' : Option (Outlet W)) : Type 0 where
     pub of : JournalView
     pub run : Is of
     pub heard : IsAllHeard format received of.network of.seats of.entries
     pub operated : IsOperatedLive typed of.entries
+    pub driven : IsDriven format received typed of.network options (operator_calls of.entries)
     pub reported : Appends output output' (report_in report of.network of.entries)
     pub recorded : AppendsIfThere journal journal' (text of)
     pub sent : SendsMessages contents (frames_in (listing of.network) of.entries) messages messages'
     pub well : IsWell messages'
 
   -- the same of a journal of the list that the input was
-  abbrev pub RunsLive : ReportForm → ℕ → ℕ → Option (List ℕ) → Option (List ℕ) → Option (List ℕ) → Option (List ℕ)
+  abbrev pub RunsLive : LiveOptions → ReportForm → ℕ → ℕ → Option (List ℕ) → Option (List ℕ) → Option (List ℕ) → Option (List ℕ)
       → Option (Option (List ℕ)) → Option (Option (List ℕ)) → Option (Outlet W) → Option (Outlet W) → Type 0
-  RunsLive report workers limit input input' output output' journal journal' messages messages' =
-      RunsLiveOf (IsRun workers limit input input') report output output' journal journal' messages messages'
+  RunsLive options report workers limit input input' output output' journal journal' messages messages' =
+      RunsLiveOf options (IsRun workers limit input input') report output output' journal journal' messages messages'
 
   -- of such a journal of a live run, whose history is legal, the beginning of the text was written to its output, if there is one,
   -- and all of it where no write has failed, but for its last line where the history isn't closed; where it is, the identity
-  -- of each slave that a report started was heard so, and each request was typed so; and just the frames of this history were sent
+  -- of each slave that a report started was heard so, and the calls of seat 1 were typed so, or are such as the watch makes; and just the
+  -- frames of this history were sent
   pub record RecordsLive (Is : JournalView → Type 0) (journal journal' : Option (Option (List ℕ))) (failed : Bool)
       (messages messages' : Option (Outlet W)) : Type 0 where
     pub of : JournalView

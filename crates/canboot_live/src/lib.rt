@@ -7,6 +7,7 @@
 //! The turns of the run are those of `canboot_turns`, its files those of `canboot_live_files`.
 #![tactic(auto)]
 
+mod beside;
 mod ends;
 mod files;
 mod inputs;

@@ -91,18 +91,18 @@ fn make_askers<'a, 'n, R: Wait + Clock + Clone + Drop, B: BusName, W: Write + Dr
     Ok((askers, senders))
 }
 
-/// Whom each frame is given to that is received.
+/// Whom each frame is given to that is received. Nobody is told of error control messages.
 fn make_routes<'a, 'n, R, B: BusName>(
     setting: &Setting<'a, 'n, R>,
     nodes: &[NodeId],
     workers: Vec<Sender<Received<B>>>,
 ) -> Result<Routes<B>, AllocError> {
+    let (heard, _unheard) = crossbeam_channel::bounded(setting.alloc, 1)?;
     Ok(Routes {
-        start: setting.start,
         listed: Vec::from_slice(setting.alloc, nodes)?,
         listening: Arc::try_clone(&setting.listening)?,
-        heartbeats: Arc::try_clone(&setting.heartbeats)?,
         workers,
+        heard,
         notifications: setting.notifications.clone()?,
     })
 }

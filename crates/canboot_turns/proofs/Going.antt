@@ -1,7 +1,15 @@
 -- What is kept of a live run goes on from step to step.
-use Rattle.std.proofs.Common.{◌≡◌, ℕ, List, [], ◌∷◌, ◌++◌, Option, Some, None, Result, Ok, Err, Bool, true, false, inl, inr, ◌⊎◌, refl, sym, subst, ◌∙◌, append_assoc}
+use Rattle.std.proofs.Common.{◌≡◌, ◌<◌, ◌≤◌, arith, ℕ, List, [], ◌∷◌, ◌++◌, Option, Some, None, Result, Ok, Err, Bool, true, false, inl, inr, ◌⊎◌, refl, sym, subst, ◌∙◌, append_assoc, ap}
 use Rattle.std.specs.Prelude.{IfNone, IfOk}
+use Rattle.std.specs.Result.{IsErrAnd}
+use Rattle.std.proofs.lemmas.List.{append-nil}
+use Rattle.cm_crew.specs.CallsMade.{calls_made}
+use Rattle.cm_history.specs.declared.call.Call.{Call}
 use Rattle.cm_history.specs.declared.call.Entry.{Entry}
+use Rattle.cm_operator.specs.Console.{asked_by}
+use Rattle.cm_operator.specs.declared.console.Command.{Command}
+use Rattle.cm_can.specs.declared.format.Format.{Format}
+use Rattle.cm_receiving.specs.Places.{IsControlAt, LineStandsIn}
 use Rattle.cm_receiving.specs.declared.notification.Notification.{Notification}
 use Rattle.cm_receiving.specs.declared.notification.Notification.TheVariants as live
 use Rattle.cm_netlist.specs.Network.{Network}
@@ -9,7 +17,8 @@ use Rattle.cm_register.specs.SeatViews.{SeatView}
 use Rattle.cm_telling.proofs.Tries.{same_tries}
 use Rattle.cm_watched.specs.Guarding.{heard_at, heard_if}
 use Rattle.cm_watched.specs.Pasts.{Past}
-use Rattle.cm_watch.specs.Steps.{given}
+use Rattle.cm_watch.specs.ErrorControl.{error_control_at}
+use Rattle.cm_watch.specs.Steps.{given, steps_at}
 use Rattle.cm_telling.specs.Tried.{Tries, may_change_boots}
 use Rattle.cm_telling.specs.Waiting.{Tells}
 use Rattle.cm_watch.specs.Watches.{Watches}
@@ -22,8 +31,10 @@ use Rattle.cm_watched.specs.declared.settings.Settings.{Settings}
 use Rattle.cm_telling.specs.declared.tried.Tried.{Tried}
 use Rattle.cm_telling.specs.declared.waiting.Untold.{Untold}
 use Rattle.cm_telling.specs.declared.waiting.Waiting.{Waiting}
-use Rattle.canboot_turns.specs.Again.{AreHeardAgain, HasHeardAgain, IsHeardAgain}
-use Rattle.canboot_turns.specs.Going.{Follows, GoesOn, HasGoneOn, HasObeyedLine, HasTaken, called_at, counts_by, counts_in, ends_behind, placed_by, placed_in}
+use Rattle.canboot_turns.specs.Asking.{calls_asked}
+use Rattle.canboot_turns.specs.Causes.{Any, AreCauses, Cause, Course, Ended, EndsAsAsked, Entered, GoesOn, GoesOnAs, HasGoneOn, HasSent, Heard, IsAskedToEnd, IsCause, Made, NoMoreTyped, Obeyed, Sent, Stand, calls_behind, calls_by, past_behind, past_by}
+use Rattle.canboot_turns.specs.Ending.{is_ended_by}
+use Rattle.canboot_turns.specs.Going.{Follows, HasObeyedLine, HasQuit, HasTaken, counts_by, counts_in, placed_by, placed_in}
 use Rattle.canboot_turns.specs.declared.progress.Progress.{Progress}
 
 -- ---- what a clause says where nothing came
@@ -41,6 +52,10 @@ both_ok (Err e) p q f = tt
 pub ok_always : {X E P : Type 0} (r : Result X E) → P → IfOk r (λ _. P)
 ok_always (Ok x) p = p
 ok_always (Err e) p = tt
+
+-- an error that is passed on as it is
+pub passed_on : {X Y E : Type 0} (r : Result X E) (q : Result Y E) (x a : E) → r ≡ Err x → IsErrAnd q (λ y. y ≡ x) → q ≡ Err a → r ≡ Err a
+passed_on {X} {Y} {E} r q x a was gave is = was ∙ ap Err (sym (subst (λ (s : Result Y E). IsErrAnd s (λ y. y ≡ x)) is gave))
 
 -- ---- moments that are no entries
 
@@ -90,41 +105,7 @@ heard_follows old new net s past now i b false tried waiting f w = record {
   tells = tells_same old.waiting new.waiting f.arrived (placed_in past) (placed_in past) f.said (counts_in net past) (counts_in net past) waiting refl refl f.tells;
 }
 
--- ---- states that were heard again
-
-heard_only : (net : Network) (m : Moment) (past : Past) → IsHeardAgain net m past → may_change_boots m ≡ false
-heard_only net (moment.Happened (happening.Heard j b)) past again = refl
-heard_only net (moment.Happened (happening.Called e)) past again = absurd again
-heard_only net (moment.Happened (happening.Ended j)) past again = absurd again
-heard_only net (moment.Happened (happening.Asked j)) past again = absurd again
-heard_only net (moment.Happened (happening.Ends at)) past again = absurd again
-heard_only net (moment.Gave x) past again = absurd again
-
-tries_again : (net : Network) (t : Tried) (now : ℕ) (more past : Past) → AreHeardAgain net now more past → Tries t past → Tries t (more ++ past)
-tries_again net t now [] past again tries = tries
-tries_again net t now (x ∷ more) past again tries =
-    same_tries t x.0 x.1 (more ++ past) (heard_only net x.1 (more ++ past) again.1) (tries_again net t now more past again.2 tries)
-
-placed_again : (net : Network) (now : ℕ) (more past : Past) → AreHeardAgain net now more past → placed_in (more ++ past) ≡ placed_in past
-placed_again net now [] past again = refl
-placed_again net now (x ∷ more) past again =
-    no_entry x.1 (placed_in (more ++ past)) (heard_only net x.1 (more ++ past) again.1) ∙ placed_again net now more past again.2
-
-counts_again : (net : Network) (now : ℕ) (more past : Past) → AreHeardAgain net now more past → counts_in net (more ++ past) ≡ counts_in net past
-counts_again net now [] past again = refl
-counts_again net now (x ∷ more) past again =
-    no_count net x.1 (counts_in net (more ++ past)) (heard_only net x.1 (more ++ past) again.1) ∙ counts_again net now more past again.2
-
 -- ---- steps that were given
-
--- steps that were given stand in front of the past
-abbrev gave : ℕ → List Step → Past → Past
-gave now [] more = more
-gave now (x ∷ steps) more = gave now steps ((now, moment.Gave x) ∷ more)
-
-gave_is : (now : ℕ) (steps : List Step) (more past : Past) → given now steps (more ++ past) ≡ gave now steps more ++ past
-gave_is now [] more past = refl
-gave_is now (x ∷ steps) more past = gave_is now steps ((now, moment.Gave x) ∷ more) past
 
 -- one step more
 pub given_more : (now : ℕ) (steps : List Step) (x : Step) (past : Past) → given now (steps ++ x ∷ []) past ≡ (now, moment.Gave x) ∷ given now steps past
@@ -150,83 +131,197 @@ follows_given old new net s past now steps waiting f w tries = record {
   tells = tells_same old.waiting new.waiting f.arrived (placed_in past) (placed_in (given now steps past)) f.said (counts_in net past) (counts_in net (given now steps past)) waiting (placed_given now steps past) (counts_given net now steps past) f.tells;
 }
 
--- ---- from one to the next
+-- ---- one thing after the other
 
-pub still : (net : Network) (old : Progress Entry) (now : Network) (new : Progress Entry) → now ≡ net → ((s : Settings) (past : Past) → Follows old net s past → Follows new net s past) → GoesOn net old now new
-still net old now new same follows = record {
-  network = same;
-  goes_on = λ s past f. record { more = []; follows = follows s past f };
-}
+-- no call was made
+no_calls : (old new : SeatView) → new ≡ old → calls_made new ≡ calls_made old ++ []
+no_calls old new same = ap calls_made same ∙ sym (append-nil (calls_made old))
 
--- what goes on from what went on
-pub on_from : (p : Progress Entry) (net : Network) (s : Settings) (past more : Past) → HasGoneOn p net s (more ++ past) → HasGoneOn p net s past
-on_from p net s past more h = record {
-  more = h.more ++ more;
-  follows = subst (λ (q : Past). Follows p net s q) (sym (append_assoc h.more more past)) h.follows;
-}
+past_more : (net : Network) (s : Settings) (ys xs : List Cause) (past : Past) → past_behind net s (ys ++ xs) past ≡ past_behind net s ys (past_behind net s xs past)
+past_more net s [] xs past = refl
+past_more net s (y ∷ ys) xs past = ap (λ (q : Past). past_by net s y q) (past_more net s ys xs past)
 
-pub on_and_on : (a : Network) (u : Progress Entry) (b : Network) (v : Progress Entry) (c : Network) (w : Progress Entry) → GoesOn a u b v → GoesOn b v c w → GoesOn a u c w
-on_and_on a u b v c w one two = record {
-  network = two.network ∙ one.network;
-  goes_on = λ s past h.
-      let o = one.goes_on s past h in
-      on_from w a s past o.more
-      (subst (λ (n : Network). HasGoneOn w n s (o.more ++ past)) one.network
-      (two.goes_on s (o.more ++ past) (subst (λ (n : Network). Follows v n s (o.more ++ past)) (sym one.network) o.follows)));
-}
+calls_more : (net : Network) (s : Settings) (ys xs : List Cause) (past : Past) → calls_behind net s (ys ++ xs) past ≡ calls_behind net s xs past ++ calls_behind net s ys (past_behind net s xs past)
+calls_more net s [] xs past = sym (append-nil (calls_behind net s xs past))
+calls_more net s (y ∷ ys) xs past =
+    let q : Past = past_behind net s xs past in
+    ap (λ (l : List Call). l ++ calls_by net s y (past_behind net s (ys ++ xs) past)) (calls_more net s ys xs past)
+    ∙ (ap (λ (p : Past). (calls_behind net s xs past ++ calls_behind net s ys q) ++ calls_by net s y p) (past_more net s ys xs past)
+    ∙ append_assoc (calls_behind net s xs past) (calls_behind net s ys q) (calls_by net s y (past_behind net s ys q)))
 
-typed_on : (typed : Option (List ℕ)) (p : Progress Entry) (net : Network) (s : Settings) (past : Past) (now : ℕ) (old new : SeatView)
-    → ((new ≡ old) × Follows p net s past) ⊎ HasObeyedLine typed p net s past now old new → HasGoneOn p net s past
-typed_on typed p net s past now old new (inl none) = record { more = []; follows = none.1 }
-typed_on typed p net s past now old new (inr line) = record { more = _; follows = line.follows }
+-- what is said of what happened stays so whatever happened before
+abbrev pub Keeps : Course → Type 0
+Keeps C = (net : Network) (s : Settings) (ys xs : List Cause) (past : Past) → C net s ys (past_behind net s xs past) → C net s (ys ++ xs) past
 
--- what was taken goes on
-pub taken_on : (h : Notification) (seconds : Option ℕ) (typed : Option (List ℕ)) (p : Progress Entry) (net : Network) (s : Settings) (past : Past) (now : ℕ) (old new : SeatView)
-    → HasTaken h seconds typed p net s past now old new → HasGoneOn p net s past
-taken_on (live.ErrorControl i byte) seconds typed p net s past now old new t = record { more = heard_at net past now i byte; follows = t.1 }
-taken_on (live.Ended i fault) seconds typed p net s past now old new t = record { more = (now, _) ∷ []; follows = t.1 }
-taken_on (live.Entered position e) seconds typed p net s past now old new t = record { more = called_at now t.1.entries; follows = t.1.follows }
-taken_on live.Typed seconds typed p net s past now old new t = typed_on typed p net s past now old new t
-taken_on live.NoMoreTyped seconds typed p net s past now old new t = record { more = ends_behind seconds now; follows = t.1 }
-taken_on _ seconds typed p net s past now old new t = record { more = []; follows = t.1 }
+pub keeps_any : Keeps Any
+keeps_any net s ys xs past h = tt
 
-pub given_on : (p : Progress Entry) (net : Network) (s : Settings) (past : Past) (now : ℕ) (steps : List Step) → Follows p net s (given now steps past) → HasGoneOn p net s past
-given_on p net s past now steps h = record {
-  more = gave now steps [];
-  follows = subst (λ (q : Past). Follows p net s q) (gave_is now steps [] past) h;
-}
+pub keeps_sent : (at : ℕ) → Keeps (HasSent at)
+keeps_sent at net s (Sent now ∷ ys) xs past h = h
+keeps_sent at net s _ xs past h = absurd h
 
--- steps were given
-pub steps_on : (steps : Settings → Past → List Step) (net : Network) (old : Progress Entry) (now : Network) (new : Progress Entry) (at : ℕ) → now ≡ net
-    → ((s : Settings) (past : Past) → Follows old net s past → Follows new net s (given at (steps s past) past)) → GoesOn net old now new
-steps_on steps net old now new at same turned = record {
-  network = same;
-  goes_on = λ s past f. given_on new net s past at (steps s past) (turned s past f);
-}
+keeps_end : Keeps EndsAsAsked
+keeps_end net s (Obeyed now place line ∷ ys) xs past h = h
+keeps_end net s (Made now ∷ ys) xs past h = subst (λ (q : Past). is_ended_by (steps_at net s q now) ≡ true) (sym (past_more net s ys xs past)) h
+keeps_end net s _ xs past h = absurd h
 
--- what has happened was taken
-pub happened_on : (h : Notification) (seconds : Option ℕ) (typed : Option (List ℕ)) (net : Network) (old : Progress Entry) (now : Network) (new : Progress Entry) (at : ℕ) (was is : SeatView) → now ≡ net
-    → ((s : Settings) (past : Past) → Follows old net s past → HasTaken h seconds typed new net s past at was is) → GoesOn net old now new
-happened_on h seconds typed net old now new at was is same told = record {
-  network = same;
-  goes_on = λ s past f. taken_on h seconds typed new net s past at was is (told s past f);
-}
+module _ (format : Format) (received typed : Option (List ℕ)) where
+  -- a cause holds behind a later place too
+  later_cause : (x : Cause) (from mid upto : ℕ) → mid ≤ upto → IsCause format received typed x from mid → IsCause format received typed x from upto
+  later_cause (Heard now place i b) from mid upto le c = (c.0, omega (arith, le, c.1), c.2)
+  later_cause (Obeyed now place line) from mid upto le c = (omega (arith, le, c.0), c.1)
+  later_cause (Entered now entries) from mid upto le c = omega (arith, le, c)
+  later_cause (Ended now i) from mid upto le c = omega (arith, le, c)
+  later_cause (NoMoreTyped now seconds) from mid upto le c = omega (arith, le, c)
+  later_cause (Sent now) from mid upto le c = omega (arith, le, c)
+  later_cause (Made now) from mid upto le c = omega (arith, le, c)
 
--- states that were heard again were told
-pub heard_on : (net : Network) (old new : Progress Entry) (at : ℕ) → new.tried ≡ old.tried → new.waiting ≡ old.waiting
-    → ((s : Settings) (past : Past) → Watches old.watch net s past → HasHeardAgain new.watch net s past at) → GoesOn net old net new
-heard_on net old new at tried waiting told = record {
-  network = refl;
-  goes_on = λ s past f.
-      let t = told s past f.watches in
+  later_causes : (xs : List Cause) (from mid upto : ℕ) → mid ≤ upto → AreCauses format received typed xs from mid → AreCauses format received typed xs from upto
+  later_causes [] from mid upto le c = omega (arith, le, c)
+  later_causes (x ∷ xs) from mid upto le c = (c.0, c.1, later_cause x c.0 mid upto le c.2)
+
+  causes_more : (ys xs : List Cause) (from mid upto : ℕ) → AreCauses format received typed xs from mid → AreCauses format received typed ys mid upto → AreCauses format received typed (ys ++ xs) from upto
+  causes_more [] xs from mid upto a b = later_causes xs from mid upto b a
+  causes_more (y ∷ ys) xs from mid upto a b = (b.0, causes_more ys xs from mid b.0 a b.1, b.2)
+
+  -- one cause alone, by which nothing is heard
+  pub alone : (x : Cause) (from upto : ℕ) → upto ≡ from → IsCause format received typed x from upto → AreCauses format received typed (x ∷ []) from upto
+  alone x from upto same c = (from, (let z : from ≤ from = omega arith in z), c)
+
+  -- what goes on from what went on
+  on_from : (C D : Course) → Keeps C → (s : Settings) (past : Past) (a b c : Stand) → b.net ≡ a.net → (o : HasGoneOn D format received typed s past a b)
+      → HasGoneOn C format received typed s (past_behind a.net s o.causes past) b c → HasGoneOn C format received typed s past a c
+  on_from C D keeps s past a b c net o h =
+      let q : Past = past_behind a.net s o.causes past in
       record {
-        more = t.more;
-        follows = record {
-          watches = t.watches;
-          tries = subst (λ (u : Tried). Tries u (t.more ++ past)) (sym tried) (tries_again net old.tried at t.more past t.again f.tries);
-          arrived = f.arrived;
-          said = f.said;
-          tells = tells_same old.waiting new.waiting f.arrived (placed_in past) (placed_in (t.more ++ past)) f.said (counts_in net past) (counts_in net (t.more ++ past)) waiting (placed_again net at t.more past t.again) (counts_again net at t.more past t.again) f.tells;
-        };
-      };
-}
+        causes = h.causes ++ o.causes;
+        each = causes_more h.causes o.causes a.heard b.heard c.heard o.each h.each;
+        follows = subst (λ (p : Past). Follows c.progress a.net s p) (sym (past_more a.net s h.causes o.causes past))
+            (subst (λ (n : Network). Follows c.progress n s (past_behind n s h.causes q)) net h.follows);
+        made =
+            subst (λ (n : Network). calls_made c.seat ≡ calls_made b.seat ++ calls_behind n s h.causes q) net h.made
+            ∙ (ap (λ (l : List Call). l ++ calls_behind a.net s h.causes q) o.made
+            ∙ (append_assoc (calls_made a.seat) (calls_behind a.net s o.causes past) (calls_behind a.net s h.causes q)
+            ∙ ap (λ (l : List Call). calls_made a.seat ++ l) (sym (calls_more a.net s h.causes o.causes past))));
+        course = keeps a.net s h.causes o.causes past (subst (λ (n : Network). C n s h.causes q) net h.course);
+      }
+
+  pub on_as : (C D : Course) → Keeps C → (a b c : Stand) → GoesOnAs D format received typed a b → GoesOnAs C format received typed b c → GoesOnAs C format received typed a c
+  on_as C D keeps a b c one two = record {
+    network = two.network ∙ one.network;
+    goes_on = λ s past f.
+        let o = one.goes_on s past f in
+        let q : Past = past_behind a.net s o.causes past in
+        on_from C D keeps s past a b c one.network o (two.goes_on s q (subst (λ (n : Network). Follows b.progress n s q) (sym one.network) o.follows));
+  }
+
+  pub on_and_on : (a b c : Stand) → GoesOn format received typed a b → GoesOn format received typed b c → GoesOn format received typed a c
+  on_and_on a b c one two = on_as Any Any keeps_any a b c one two
+
+  -- whatever is said of it
+  pub on_any : (C : Course) (a b : Stand) → GoesOnAs C format received typed a b → GoesOn format received typed a b
+  on_any C a b g = record {
+    network = g.network;
+    goes_on = λ s past f. let h = g.goes_on s past f in record { causes = h.causes; each = h.each; follows = h.follows; made = h.made; course = tt };
+  }
+
+  -- the run ends as it was asked to behind what went on
+  pub asked_on : (a b c : Stand) → GoesOn format received typed a b → IsAskedToEnd format received typed b c → IsAskedToEnd format received typed a c
+  asked_on a b c one asked = λ s past f.
+      let o = one.goes_on s past f in
+      let q : Past = past_behind a.net s o.causes past in
+      on_from EndsAsAsked Any keeps_end s past a b c one.network o (asked s q (subst (λ (n : Network). Follows b.progress n s q) (sym one.network) o.follows))
+
+  -- ---- one thing
+
+  -- nothing happened
+  pub still : (a b : Stand) → b.net ≡ a.net → b.seat ≡ a.seat → b.heard ≡ a.heard → ((s : Settings) (past : Past) → Follows a.progress a.net s past → Follows b.progress a.net s past)
+      → GoesOn format received typed a b
+  still a b net seat heard follows = record {
+    network = net;
+    goes_on = λ s past f. record { causes = []; each = omega (arith, heard); follows = follows s past f; made = no_calls a.seat b.seat seat; course = tt };
+  }
+
+  typed_on : (a b : Stand) (s : Settings) (past : Past) (now : ℕ) → b.heard ≡ a.heard
+      → ((b.seat ≡ a.seat) × Follows b.progress a.net s past) ⊎ HasObeyedLine typed b.progress a.net s past now a.seat b.seat → HasGoneOn Any format received typed s past a b
+  typed_on a b s past now heard (inl none) = record { causes = []; each = omega (arith, heard); follows = none.1; made = no_calls a.seat b.seat none.0; course = tt }
+  typed_on a b s past now heard (inr line) =
+      record {
+        causes = Obeyed now line.place line.line ∷ [];
+        each = alone (Obeyed now line.place line.line) a.heard b.heard heard (omega (arith, heard), line.stands);
+        follows = line.follows;
+        made = line.made;
+        course = tt;
+      }
+
+  -- what was taken
+  taken_on : (h : Notification) (seconds : Option ℕ) (a b : Stand) (s : Settings) (past : Past) (now : ℕ) → b.heard ≡ a.heard
+      → HasTaken h seconds typed b.progress a.net s past now a.seat b.seat → HasGoneOn Any format received typed s past a b
+  taken_on (live.Ended i fault) seconds a b s past now heard t =
+      record { causes = Ended now i ∷ []; each = alone (Ended now i) a.heard b.heard heard (omega (arith, heard)); follows = t.1; made = no_calls a.seat b.seat t.0; course = tt }
+  taken_on (live.Entered position e) seconds a b s past now heard t =
+      record {
+        causes = Entered now t.1.entries ∷ [];
+        each = alone (Entered now t.1.entries) a.heard b.heard heard (omega (arith, heard));
+        follows = t.1.follows;
+        made = no_calls a.seat b.seat t.0;
+        course = tt;
+      }
+  taken_on live.Typed seconds a b s past now heard t = typed_on a b s past now heard t
+  taken_on live.NoMoreTyped seconds a b s past now heard t =
+      record {
+        causes = NoMoreTyped now seconds ∷ [];
+        each = alone (NoMoreTyped now seconds) a.heard b.heard heard (omega (arith, heard));
+        follows = t.1;
+        made = no_calls a.seat b.seat t.0;
+        course = tt;
+      }
+  taken_on _ seconds a b s past now heard t = record { causes = []; each = omega (arith, heard); follows = t.1; made = no_calls a.seat b.seat t.0; course = tt }
+
+  pub happened_on : (h : Notification) (seconds : Option ℕ) (a b : Stand) (now : ℕ) → b.net ≡ a.net → b.heard ≡ a.heard
+      → ((s : Settings) (past : Past) → Follows a.progress a.net s past → HasTaken h seconds typed b.progress a.net s past now a.seat b.seat) → GoesOn format received typed a b
+  happened_on h seconds a b now net heard told = record {
+    network = net;
+    goes_on = λ s past f. taken_on h seconds a b s past now heard (told s past f);
+  }
+
+  -- an error control message came
+  pub heard_on : (a b : Stand) (now place i byte : ℕ) → b.net ≡ a.net → b.seat ≡ a.seat → a.heard < place → b.heard ≡ place → IsControlAt format received place i byte
+      → ((s : Settings) (past : Past) → Follows a.progress a.net s past → Follows b.progress a.net s (heard_at a.net past now i byte ++ past)) → GoesOn format received typed a b
+  heard_on a b now place i byte net seat behind upto stands told = record {
+    network = net;
+    goes_on = λ s past f. record {
+      causes = Heard now place i byte ∷ [];
+      each = (a.heard, (let z : a.heard ≤ a.heard = omega arith in z), (behind, omega (arith, upto), stands));
+      follows = told s past f;
+      made = no_calls a.seat b.seat seat;
+      course = tt;
+    };
+  }
+
+  -- the end of the run was asked for by a line
+  pub quit_on : (a b : Stand) (now place : ℕ) (line : List ℕ) → b.heard ≡ a.heard → LineStandsIn typed place line
+      → HasQuit (asked_by line) now a.net a.progress a.seat b.progress b.seat → IsAskedToEnd format received typed a b
+  quit_on a b now place line heard stands q = λ s past f.
+      record {
+        causes = Obeyed now place line ∷ [];
+        each = alone (Obeyed now place line) a.heard b.heard heard (omega (arith, heard), stands);
+        follows = q.told s past f;
+        made = q.made ∙ (sym (append-nil (calls_made a.seat)) ∙ ap (λ (o : Option Command). calls_made a.seat ++ calls_asked o a.net past) (sym q.quit));
+        course = q.quit;
+      }
+
+  -- what the watch gives for error control was sent
+  pub sent_on : (a b : Stand) (at : ℕ) → b.net ≡ a.net → b.seat ≡ a.seat → b.heard ≡ a.heard
+      → ((s : Settings) (past : Past) → Follows a.progress a.net s past → Follows b.progress a.net s (given at (error_control_at a.net s past at) past))
+      → GoesOnAs (HasSent at) format received typed a b
+  sent_on a b at net seat heard sent = record {
+    network = net;
+    goes_on = λ s past f. record {
+      causes = Sent at ∷ [];
+      each = alone (Sent at) a.heard b.heard heard (omega (arith, heard));
+      follows = sent s past f;
+      made = no_calls a.seat b.seat seat;
+      course = refl;
+    };
+  }

@@ -1,4 +1,5 @@
 pub mod CallsOfSteps
+pub mod Driven
 pub mod Ends
 pub mod Going
 pub mod Sendings

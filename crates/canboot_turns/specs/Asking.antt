@@ -1,6 +1,8 @@
--- What comes of an operator's wish to boot a slave, to start the network, or to end the run (own).
-use Rattle.std.specs.Prelude.{ℕ, Bool, ◌&&◌, not, if◌then◌else◌, [], ◌∷◌, is_some, Option, Some, None}
+-- What comes of what an operator types: what the watch is told, and which call is made (own).
+use Rattle.std.specs.Prelude.{ℕ, Bool, ◌&&◌, not, if◌then◌else◌, List, [], ◌∷◌, is_some, Option, Some, None}
 use Rattle.cm_history.specs.Phases.{is_halted}
+use Rattle.cm_history.specs.declared.call.Call.{Call}
+use Rattle.cm_history.specs.declared.call.Call.TheVariants as call
 use Rattle.cm_operator.specs.declared.console.Command.{Command}
 use Rattle.cm_operator.specs.declared.console.Command.TheVariants as command
 use Rattle.cm_netlist.specs.Network.{Network, is_listed}
@@ -35,3 +37,11 @@ abbrev pub asked_of : Option Command → Network → Past → ℕ → Past
 asked_of (Some (command.Boot i)) net past now = asked_unless (no_boot_of net past i) i now
 asked_of (Some command.Quit) net past now = (now, moment.Happened (happening.Ends now)) ∷ []
 asked_of _ net past now = []
+
+-- the calls that are made of what a line asks for: that of the line, its request, or the start of the network, or, where all nodes are
+-- stopped, of all nodes; of what else is asked for, or of a line that asks for nothing, none is made
+abbrev pub calls_asked : Option Command → Network → Past → List Call
+calls_asked (Some (command.Make c)) net past = c ∷ []
+calls_asked (Some (command.Request t v)) net past = call.Request t v ∷ []
+calls_asked (Some command.Start) net past = (if is_start_of_all net past then call.Request 128 5 else call.StartNetwork) ∷ []
+calls_asked _ net past = []

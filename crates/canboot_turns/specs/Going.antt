@@ -1,14 +1,16 @@
 -- How what is kept of a live run goes on with what happens (own).
 use Rattle.std.specs.Prelude.{◌≡◌, ◌⊎◌, ◌+◌, ◌*◌, ◌++◌, ◌∷◌, [], ℕ, List, length, map, Option, Some, None}
+use Rattle.cm_crew.specs.CallsMade.{calls_made}
 use Rattle.cm_history.specs.OrderFrames.{frames_of}
 use Rattle.cm_history.specs.declared.call.Entry.{Entry}
 use Rattle.cm_operator.specs.Console.{asked_by}
+use Rattle.cm_operator.specs.declared.console.Command.{Command}
+use Rattle.cm_operator.specs.declared.console.Command.TheVariants.{Quit}
 use Rattle.cm_receiving.specs.Places.{LineStandsIn}
 use Rattle.cm_receiving.specs.declared.notification.Notification.{Notification}
 use Rattle.cm_receiving.specs.declared.notification.Notification.TheVariants as live
 use Rattle.cm_netlist.specs.Network.{Network, listing}
 use Rattle.cm_register.specs.SeatViews.{SeatView}
-use Rattle.cm_watched.specs.Guarding.{heard_at}
 use Rattle.cm_watched.specs.Pasts.{Past}
 use Rattle.cm_telling.specs.Tried.{Tries}
 use Rattle.cm_telling.specs.Waiting.{Gives, Tells, placed_at}
@@ -19,8 +21,7 @@ use Rattle.cm_watched.specs.declared.happening.Moment.TheVariants as moment
 use Rattle.cm_telling.specs.declared.in_order.Placed.{Placed}
 use Rattle.cm_watched.specs.declared.settings.Settings.{Settings}
 use Rattle.cm_telling.specs.declared.waiting.Untold.{Untold}
-use Rattle.canboot_turns.specs.Asking.{asked_of}
-use Rattle.canboot_turns.specs.Steps.{HasObeyedIf}
+use Rattle.canboot_turns.specs.Asking.{asked_of, calls_asked}
 use Rattle.canboot_turns.specs.declared.progress.Progress.{Progress}
 
 -- ---- what is kept of a live run
@@ -62,16 +63,6 @@ pub record ComesNext (p : Progress Entry) (net : Network) (s : Settings) (past :
   pub said : List (Untold Entry)
   pub gives : Gives p.waiting arrived (placed_in past) said (counts_in net past) e
 
--- it goes by a past that goes on from this one: nothing of it is lost
-pub record HasGoneOn (p : Progress Entry) (net : Network) (s : Settings) (past : Past) : Type 0 where
-  pub more : Past
-  pub follows : Follows p net s (more ++ past)
-
--- from what was kept of a network to what is of the same, the past goes on
-pub record GoesOn (net : Network) (old : Progress Entry) (now : Network) (new : Progress Entry) : Type 0 where
-  pub network : now ≡ net
-  pub goes_on : (s : Settings) (past : Past) → Follows old net s past → HasGoneOn new net s past
-
 -- ---- what is taken
 
 -- these entries, the newest first, as they are told at a time
@@ -83,14 +74,14 @@ pub record HasToldEntries (p : Progress Entry) (net : Network) (s : Settings) (p
   pub entries : List Entry
   pub follows : Follows p net s (called_at now entries ++ past)
 
--- a line that was typed: the watch was told what it asks of it, and the operator's seat has made just the call that it asks for
+-- a line that was typed: the watch was told what it asks of it, and the operator's seat has made just the calls that it asks for
 pub record HasObeyedLine (typed : Option (List ℕ)) (p : Progress Entry) (net : Network) (s : Settings) (past : Past) (now : ℕ)
     (old new : SeatView) : Type 0 where
   pub place : ℕ
   pub line : List ℕ
   pub stands : LineStandsIn typed place line
   pub follows : Follows p net s (asked_of (asked_by line) net past now ++ past)
-  pub made : HasObeyedIf (asked_by line) old new
+  pub made : calls_made new ≡ calls_made old ++ calls_asked (asked_by line) net past
 
 -- the run is to end so many seconds behind the time at which nothing is typed any more, where it was said how many
 abbrev pub ends_behind : Option ℕ → ℕ → Past
@@ -98,11 +89,9 @@ ends_behind None now = []
 ends_behind (Some seconds) now = (now, moment.Happened (happening.Ends (now + seconds * 1000))) ∷ []
 
 -- what comes, at its time, of what has happened in a live run that goes on so many seconds once nothing is typed any more: the watch is
--- told of an error control message, where it counts, the end of a worker's attempts, the entries that come next in the history, when the
+-- told of the end of a worker's attempts, the entries that come next in the history, when the
 -- run is to end; a line that was typed is obeyed, if there is one; of what else comes it is told nothing, and no call is made
 abbrev pub HasTaken : Notification → Option ℕ → Option (List ℕ) → Progress Entry → Network → Settings → Past → ℕ → SeatView → SeatView → Type 0
-HasTaken (live.ErrorControl i byte) seconds typed p net s past now old new =
-    (new ≡ old) × Follows p net s (heard_at net past now i byte ++ past)
 HasTaken (live.Ended i fault) seconds typed p net s past now old new =
     (new ≡ old) × Follows p net s ((now, moment.Happened (happening.Ended i)) ∷ past)
 HasTaken (live.Entered position e) seconds typed p net s past now old new = (new ≡ old) × HasToldEntries p net s past now
@@ -111,3 +100,10 @@ HasTaken live.Typed seconds typed p net s past now old new =
 HasTaken live.NoMoreTyped seconds typed p net s past now old new =
     (new ≡ old) × Follows p net s (ends_behind seconds now ++ past)
 HasTaken _ seconds typed p net s past now old new = (new ≡ old) × Follows p net s past
+
+-- the end of the run was asked for: the watch was told of it, and no call was made
+pub record HasQuit (asked : Option Command) (now : ℕ) (net : Network) (old : Progress Entry) (was : SeatView) (new : Progress Entry)
+    (is : SeatView) : Type 0 where
+  pub quit : asked ≡ Some Quit
+  pub told : (s : Settings) (past : Past) → Follows old net s past → Follows new net s (asked_of asked net past now ++ past)
+  pub made : calls_made is ≡ calls_made was

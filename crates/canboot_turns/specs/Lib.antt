@@ -1,5 +1,6 @@
-pub mod Again
 pub mod Asking
+pub mod Causes
+pub mod Driven
 pub mod Ending
 pub mod Going
 pub mod Running

@@ -1,26 +1,25 @@
 //! What a live run does for its operator.
 
-ghost use Rattle.std.specs.Prelude.{◌≡◌, ◌<◌, ◌^◌, ◌++◌, Err, IfOk, Some};
-ghost use Rattle.cm_history.specs.declared.call.Call.TheVariants.{Request as RequestCall};
-ghost use Rattle.cm_operator.specs.Console.{AsksPlainly, asked_by};
+ghost use Rattle.std.specs.Prelude.{◌≡◌, ◌<◌, ◌^◌, ◌++◌, ◌∷◌, [], Err, IfOk, Some};
+ghost use Rattle.cm_operator.specs.Console.{asked_by};
 ghost use Rattle.cm_receiving.specs.Places.{LineStandsIn};
 ghost use Rattle.cm_netlist.specs.Network.{Network as NetworkList};
 ghost use Rattle.cm_watched.specs.Pasts.{Past};
 ghost use Rattle.cm_watch.specs.Watches.{Watches};
 ghost use Rattle.cm_watched.specs.declared.settings.Settings.{Settings as WatchSettings};
 ghost use Rattle.cm_receiving.specs.declared.notification.Notification.TheVariants.{Typed};
-ghost use Rattle.cm_crew.specs.CallsMade.{HasMadeOrNot};
-ghost use Rattle.canboot_turns.specs.Steps.{HasObeyed, HasObeyedIf};
-ghost use Rattle.canboot_turns.specs.Going.{Follows, HasTaken};
-ghost use Rattle.canboot_turns.specs.Asking.{asked_of, asked_unless, is_start_of_all, no_boot_of};
-ghost use Rattle.canboot_turns.specs.Ending.{Quits};
-ghost use Rattle.cm_operator.specs.declared.console.Command.TheVariants.{Quit, Start};
+ghost use Rattle.cm_crew.specs.CallsMade.{calls_made};
+ghost use Rattle.canboot_turns.specs.Causes.{IsAskedToEnd, stand_of};
+ghost use Rattle.canboot_turns.specs.Going.{Follows, HasQuit, HasTaken};
+ghost use Rattle.canboot_turns.specs.Asking.{asked_of, asked_unless, calls_asked, is_start_of_all, no_boot_of};
+ghost use Rattle.cm_operator.specs.declared.console.Command.TheVariants.{Start};
 
 use crate::ending::Ending;
 use crate::progress::LiveCourse;
 use crate::register::LiveRegister;
 use crate::versions::report_seen;
 use crate::watching::Watcher;
+use cm_crew::TypedFault;
 use cm_history::Call;
 use cm_netlist::Network;
 use cm_nmt::NodeId;
@@ -151,29 +150,34 @@ impl<'w, 'a, 'n, R: Wait + Clock + Drop, K: RunName, B: BusName, M: LiveRegister
     B,
     M,
 > {
-    /// Makes the request that this line of the operator spells.
-    fn request(&mut self, line: &TypedLine<B>, target: u8, value: u8) -> Result<(), Ending>
-        ensures made { IfOk result
-            (λ _. HasMadeOrNot (RequestCall target value) self.old.operator self.new.operator) }
+    /// Makes the call that this line of the operator asks for.
+    fn make_typed(&mut self, line: &TypedLine<B>, call: Call) -> Result<(), Ending>
+        ensures made { IfOk result (λ _. calls_made self.new.operator ≡ calls_made self.old.operator ++ call ∷ []) }
         ensures course { self.new.course ≡ self.old.course }
+        ensures heard { self.new.heard_upto ≡ self.old.heard_upto }
         ensures other { result ≡ Err Ending.Asked → ⊥ }
     {
         let rt = self.course.setting.rt;
-        self.operator
-            .request(rt, self.register, line, target, value)?;
-        Ok(())
+        match self.operator.make(rt, self.register, line, call) {
+            Ok(_) => Ok(()),
+            Err(TypedFault::NotNext) => Err(Ending::OutOfOrder),
+            Err(TypedFault::NotCalled(fault)) => Err(Ending::NotCalled(fault)),
+        }
     }
 
     /// Starts the network: where all nodes are stopped, by a request to all.
     fn start(&mut self, line: &TypedLine<B>) -> Result<(), Ending>
-        ensures made { IfOk result (λ _. HasObeyed Start self.old.operator self.new.operator) }
+        ensures made { (s : WatchSettings) (past : Past) → Follows self.old.course.progress self.old.course.network.now s past
+            → IfOk result (λ _. calls_made self.new.operator
+            ≡ calls_made self.old.operator ++ calls_asked (Some Start) self.old.course.network.now past) }
         ensures course { self.new.course ≡ self.old.course }
+        ensures heard { self.new.heard_upto ≡ self.old.heard_upto }
         ensures other { result ≡ Err Ending.Asked → ⊥ }
     {
         if is_start_of_all(&self.course.progress.watch) {
-            self.request(line, 128, 5)
+            self.make_typed(line, Call::Request(128, 5))
         } else {
-            self.call(Call::StartNetwork)
+            self.make_typed(line, Call::StartNetwork)
         }
     }
 
@@ -185,9 +189,10 @@ impl<'w, 'a, 'n, R: Wait + Clock + Drop, K: RunName, B: BusName, M: LiveRegister
             → IfOk result (λ _. HasTaken Typed self.old.course.options.seconds B.typed
             self.new.course.progress self.old.course.network.now s past now self.old.operator self.new.operator) }
         ensures network { IfOk result (λ _. self.new.course.network ≡ self.old.course.network) }
-        ensures quits { result ≡ Err Ending.Asked → Quits B.typed }
+        ensures heard { self.new.heard_upto ≡ self.old.heard_upto }
+        ensures quits { result ≡ Err Ending.Asked → IsAskedToEnd B.format B.text B.typed (stand_of self.old) (stand_of self.new) }
     {
-        match self.typed.recv(self.course.setting.rt) {
+        match self.inputs.typed.recv(self.course.setting.rt) {
             Ok(line) => self.obey(err, &line, now),
             Err(_) => Ok(()),
         }
@@ -202,19 +207,25 @@ impl<'w, 'a, 'n, R: Wait + Clock + Drop, K: RunName, B: BusName, M: LiveRegister
         command: &Command,
         now: u64,
     ) -> Result<(), Ending>
-        requires time { now < 2 ^ 63 }
-        requires plain { AsksPlainly command.now }
-        ensures made { IfOk result (λ _. HasObeyed command.now self.old.operator self.new.operator) }
+        requires { now < 2 ^ 63 }
+        ensures made { (s : WatchSettings) (past : Past) → Follows self.old.course.progress self.old.course.network.now s past
+            → IfOk result (λ _. calls_made self.new.operator
+            ≡ calls_made self.old.operator ++ calls_asked (Some command.now) self.old.course.network.now past) }
         ensures told { (s : WatchSettings) (past : Past) → Follows self.old.course.progress self.old.course.network.now s past
             → IfOk result (λ _. Follows self.new.course.progress self.old.course.network.now s
             (asked_of (Some command.now) self.old.course.network.now past now ++ past)) }
         ensures network { IfOk result (λ _. self.new.course.network ≡ self.old.course.network) }
-        ensures quits { result ≡ Err Ending.Asked → command.now ≡ Quit }
+        ensures heard { self.new.heard_upto ≡ self.old.heard_upto }
+        ensures quits { result ≡ Err Ending.Asked → HasQuit (Some command.now) now self.old.course.network.now
+            self.old.course.progress self.old.operator self.new.course.progress self.new.operator }
     {
         self.course.ask(err, command, now);
         match command {
-            Command::Make(call) => self.call(*call),
-            Command::Request(target, value) => self.request(line, *target, *value),
+            Command::Make(call) => self.make_typed(line, *call),
+            Command::Request(target, value) => self.make_typed(
+                line,
+                Call::Request(*target, *value),
+            ),
             Command::Start => self.start(line),
             Command::Status => {
                 self.is_report_due = true;
@@ -229,12 +240,16 @@ impl<'w, 'a, 'n, R: Wait + Clock + Drop, K: RunName, B: BusName, M: LiveRegister
     fn obey<E: Write>(&mut self, err: &mut E, line: &TypedLine<B>, now: u64) -> Result<(), Ending>
         requires { now < 2 ^ 63 }
         ensures stands { LineStandsIn B.typed line.now.place line.now.line }
-        ensures made { IfOk result (λ _. HasObeyedIf (asked_by line.now.line) self.old.operator self.new.operator) }
+        ensures made { (s : WatchSettings) (past : Past) → Follows self.old.course.progress self.old.course.network.now s past
+            → IfOk result (λ _. calls_made self.new.operator
+            ≡ calls_made self.old.operator ++ calls_asked (asked_by line.now.line) self.old.course.network.now past) }
         ensures told { (s : WatchSettings) (past : Past) → Follows self.old.course.progress self.old.course.network.now s past
             → IfOk result (λ _. Follows self.new.course.progress self.old.course.network.now s
             (asked_of (asked_by line.now.line) self.old.course.network.now past now ++ past)) }
         ensures network { IfOk result (λ _. self.new.course.network ≡ self.old.course.network) }
-        ensures quits { result ≡ Err Ending.Asked → asked_by line.now.line ≡ Some Quit }
+        ensures heard { self.new.heard_upto ≡ self.old.heard_upto }
+        ensures quits { result ≡ Err Ending.Asked → HasQuit (asked_by line.now.line) now self.old.course.network.now
+            self.old.course.progress self.old.operator self.new.course.progress self.new.operator }
     {
         match read_command(line.line()) {
             Ok(command) => self.carry_out(err, line, &command, now),

@@ -1,4 +1,4 @@
-ghost use Rattle.std.specs.Prelude.{◌≡◌};
+ghost use Rattle.std.specs.Prelude.{◌≡◌, IfNone, IfSome};
 ghost use Rattle.canboot_turns.specs.Ending.{going_on, is_end_step, is_ended_by};
 
 use cm_history::CallFault;
@@ -16,8 +16,30 @@ pub enum Ending {
     NotWritten,
     /// Memory was refused.
     OutOfMemory,
+    /// A line that was typed, or an error control message, came behind a later one; this never comes.
+    OutOfOrder,
     /// A call couldn't be made.
     NotCalled(CallFault),
+}
+
+impl Ending {
+    /// What is told of a run that ended so; nothing of one that ended as its operator asked.
+    pub fn fault(self) -> Option<&'static str>
+        ensures asked { IfNone result (self ≡ Ending.Asked) }
+        ensures otherwise { IfSome result (λ _. self ≡ Ending.Asked → ⊥) }
+    {
+        match self {
+            Ending::Asked => None,
+            Ending::NotHeard => Some("read failed"),
+            Ending::NotWritten => Some("write failed"),
+            Ending::OutOfOrder => Some("input out of order"),
+            Ending::OutOfMemory | Ending::NotCalled(CallFault::OutOfMemory) => Some(
+                "out of memory",
+            ),
+            Ending::NotCalled(CallFault::JournalFull) => Some("the journal is full"),
+            Ending::NotCalled(_) => Some("no worker"),
+        }
+    }
 }
 
 impl From<AllocError> for Ending {

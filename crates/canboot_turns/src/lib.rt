@@ -26,4 +26,4 @@ pub use ending::Ending;
 pub use publishing::open_versions;
 pub use register::LiveRegister;
 pub use setting::LiveSetting;
-pub use watching::Watcher;
+pub use watching::{Inputs, Watcher};

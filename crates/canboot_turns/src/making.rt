@@ -64,6 +64,8 @@ impl<'w, 'a, 'n, R: Wait + Clock + Drop, K: RunName, B: BusName, M: LiveRegister
             → Tries self.new.course.progress.tried ((now, Gave step.now) ∷ past) }
         ensures waiting { self.new.course.progress.waiting ≡ self.old.course.progress.waiting }
         ensures watch { self.new.course.progress.watch ≡ self.old.course.progress.watch }
+        ensures pace { self.new.pace ≡ self.old.pace }
+        ensures heard { self.new.heard_upto ≡ self.old.heard_upto }
         ensures network { self.new.course.network ≡ self.old.course.network }
         ensures other { result ≡ Err Ending.Asked → ⊥ }
     {
@@ -85,6 +87,8 @@ impl<'w, 'a, 'n, R: Wait + Clock + Drop, K: RunName, B: BusName, M: LiveRegister
             (given now (steps_at self.old.course.network.now s past now) past)) }
         ensures ended { (s : WatchSettings) (past : Past) → Follows self.old.course.progress self.old.course.network.now s past
             → IfOk result (λ ended. ended ≡ is_ended_by (steps_at self.old.course.network.now s past now)) }
+        ensures pace { self.new.pace ≡ self.old.pace }
+        ensures heard { self.new.heard_upto ≡ self.old.heard_upto }
         ensures network { self.new.course.network ≡ self.old.course.network }
         ensures other { result ≡ Err Ending.Asked → ⊥ }
     {

@@ -1,15 +1,13 @@
 //! How far a live run has come.
 
-ghost use Rattle.std.specs.Prelude.{◌≡◌, ◌<◌, ◌^◌, [], ◌∷◌, ◌++◌, ℕ, List, Option, false, Err, IfNone, IfOk, IfSome, OnOk, Some};
+ghost use Rattle.std.specs.Prelude.{◌≡◌, ◌<◌, ◌^◌, [], ◌∷◌, ◌++◌, ℕ, List, Option, false, Err, IfNone, IfOk, IfSome, OnOk};
 ghost use Rattle.cm_register.specs.SeatViews.{SeatView};
 ghost use Rattle.cm_netlist.specs.Network.{Network as NetworkList};
-ghost use Rattle.cm_watched.specs.Guarding.{guard_of, heard_at};
+ghost use Rattle.cm_watched.specs.Guarding.{heard_at};
 ghost use Rattle.cm_watched.specs.Pasts.{Past};
-ghost use Rattle.cm_watched.specs.Signals.{state_heard};
 ghost use Rattle.cm_telling.specs.Tried.{may_change_boots};
-ghost use Rattle.cm_watch.specs.Watches.{Watches};
-ghost use Rattle.canboot_turns.specs.Again.{HasHeardAgain, state_again};
-ghost use Rattle.canboot_turns.specs.Going.{ComesNext, Follows, GoesOn, HasTaken, HasToldEntries, ends_behind};
+ghost use Rattle.canboot_turns.specs.Causes.{GoesOnAs, HasSent, course_stand};
+ghost use Rattle.canboot_turns.specs.Going.{ComesNext, Follows, HasTaken, HasToldEntries, ends_behind};
 ghost use Rattle.cm_watched.specs.declared.happening.Happening.TheVariants.{Called, Ended};
 ghost use Rattle.cm_watched.specs.declared.happening.Moment.TheVariants.{Happened};
 ghost use Rattle.cm_watched.specs.declared.settings.Settings.{Settings as WatchSettings};
@@ -23,13 +21,13 @@ use cm_can::ControlFrame;
 use cm_history::{CallFault, Entry};
 use cm_netlist::Network;
 use cm_nmt::NodeId;
-use cm_receiving::{BusName, Heartbeats, Notification};
+use cm_receiving::{BusName, Notification};
 use cm_register::{RunName, Seat};
 use cm_sequential::frames;
 use cm_telling::{Tried, Waiting};
 use cm_versions::VersionReader;
 use cm_watch::Watch;
-use cm_watched::{Happening, Settings, guard_of};
+use cm_watched::{Happening, Settings};
 use cm_words::given_up;
 use crossbeam_channel::Receiver;
 use std::alloc::{AllocError, Global};
@@ -259,7 +257,6 @@ impl<'w, 'a, 'n, R: Wait + Clock> LiveCourse<'w, 'a, 'n, R> {
                 self.progress.enter(rt, self.network, position, entry, now)?;
             }
             Notification::Ended(id, fault) => self.end(id, fault, now)?,
-            Notification::ErrorControl(id, byte) => self.progress.hear(self.network, id, byte, now),
             Notification::Said(remark) => {
                 let _ = self.teller.tell_remark(err, rt, self.network, &remark, now);
             }
@@ -290,8 +287,7 @@ impl<'w, 'a, 'n, R: Wait + Clock> LiveCourse<'w, 'a, 'n, R> {
         }
     }
 
-    /// Notes which slaves were heard again, tells what is to be told by now, and sends what is to be sent for error control. Where
-    /// a frame or an entry was lost, the run ends.
+    /// Tells what is to be told by now, and sends what is to be sent for error control. Where a frame or an entry was lost, the run ends.
     pub(crate) fn keep_up<K: RunName, B: BusName, E: Write, W: Write + Drop>(
         &mut self,
         err: &mut E,
@@ -301,70 +297,14 @@ impl<'w, 'a, 'n, R: Wait + Clock> LiveCourse<'w, 'a, 'n, R> {
         now: u64,
     ) -> Result<(), Ending>
         requires { now < 2 ^ 63 }
-        ensures goes_on { IfOk result
-            (λ _. GoesOn self.old.network.now self.old.progress self.new.network.now self.new.progress) }
+        ensures goes_on { IfOk result (λ _. (seat : SeatView) (heard : ℕ) → GoesOnAs (HasSent now) B.format B.text B.typed
+            (course_stand self.old seat heard) (course_stand self.new seat heard)) }
         ensures other { result ≡ Err Ending.Asked → ⊥ }
     {
-        let heartbeats = &self.setting.heartbeats;
-        note_heartbeats(&mut self.progress.watch, self.network, heartbeats, now);
         self.tell(err, versions, seat, false);
         let rt = self.setting.rt;
         let _ = self.teller.tell_left_out(err, rt, self.network, now);
         self.send_error_control(outlet, now)?;
         can_go_on(is_set(&self.setting.broken), is_set(&self.setting.untold))
-    }
-}
-
-/// The state in the error control message of a node that came last, where it came after the watch noted one and has the state
-/// that it noted last: another state, and a boot-up message, comes as a happening of its own, and so does each answer of a node
-/// that is guarded.
-fn state_again(
-    guard_ms: u16,
-    last: Option<(u64, u8)>,
-    noted: Option<u64>,
-    state_noted: Option<u8>,
-) -> Option<u8>
-    ensures again { result ≡ state_again guard_ms last noted state_noted }
-    ensures state { IfSome result (λ state. (guard_ms ≡ 0) × (state_noted ≡ Some state)) }
-{
-    let (at, byte) = last?;
-    let noted = noted?;
-    let state = byte % 128;
-    if guard_ms == 0 && state != 0 && state_noted == Some(state) && noted < at {
-        Some(state)
-    } else {
-        None
-    }
-}
-
-/// The state of a node that was heard again.
-fn heard_again(watch: &Watch, network: &Network, heartbeats: &Heartbeats, id: NodeId) -> Option<u8>
-    ensures { (s : WatchSettings) (past : Past) → Watches watch.now network.now s past
-        → IfSome result (λ state. (guard_of network.now id ≡ 0) × (state_heard past id ≡ Some state)) }
-{
-    let last = heartbeats.last(id);
-    state_again(
-        guard_of(network, id),
-        last,
-        watch.heard(id),
-        watch.state_heard(id),
-    )
-}
-
-/// The slaves that were heard again are noted.
-pub(crate) fn note_heartbeats(
-    watch: &mut Watch,
-    network: &Network,
-    heartbeats: &Heartbeats,
-    now: u64,
-)
-    requires { now < 2 ^ 63 }
-    ensures told { (s : WatchSettings) (past : Past) → Watches watch.old network.now s past
-        → HasHeardAgain watch.new network.now s past now }
-{
-    for id in network.listed_ids().as_slice() {
-        if let Some(state) = heard_again(watch, network, heartbeats, *id) {
-            let _told = watch.take(network, now, &Happening::Heard(*id, state));
-        }
     }
 }

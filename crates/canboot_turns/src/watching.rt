@@ -1,11 +1,13 @@
 //! How a live run goes on: what happens is told to the watch, and the steps that it gives are made.
 
-ghost use Rattle.std.specs.Prelude.{◌≡◌, ◌<◌, ◌^◌, ◌++◌, ◌∷◌, [], Err, IfOk};
+ghost use Rattle.std.specs.Prelude.{◌≡◌, ◌<◌, ◌^◌, ◌++◌, ◌∷◌, ℕ, [], Err, IfOk, is_some};
 ghost use Rattle.cm_netlist.specs.Network.{Network as NetworkList};
+ghost use Rattle.cm_watch.specs.Paces.{behind_at, pace_after};
+ghost use Rattle.cm_watch.specs.declared.pace.Pace.{Pace as PaceKept};
 ghost use Rattle.cm_watched.specs.Pasts.{Past};
 ghost use Rattle.cm_watched.specs.declared.settings.Settings.{Settings as WatchSettings};
-ghost use Rattle.canboot_turns.specs.Ending.{IsAskedToEnd, Quits};
-ghost use Rattle.canboot_turns.specs.Going.{Follows, GoesOn, HasTaken};
+ghost use Rattle.canboot_turns.specs.Causes.{GoesOn, GoesOnAs, HasTurned, IsAskedToEnd, stand_of};
+ghost use Rattle.canboot_turns.specs.Going.{Follows, HasTaken};
 ghost use Rattle.cm_crew.specs.CallsMade.{calls_made};
 ghost use Rattle.cm_crew.specs.Typing.{IsUntyped};
 
@@ -24,7 +26,7 @@ use cm_crew::OperatorSeat;
 use cm_history::Call;
 use cm_nmt::NodeId;
 use cm_operator::TypedLine;
-use cm_receiving::{BusName, Notification};
+use cm_receiving::{BusName, ControlMessage, Notification};
 use cm_register::RunName;
 use cm_versions::{Publisher, VersionReader};
 use cm_watch::Pace;
@@ -46,6 +48,15 @@ const MOST_OBEYED: u32 = 256;
 /// For how long typed lines are obeyed before the time is looked at, in ms: less than a look at the input may be late.
 const MOST_OBEYED_MS: u64 = 10;
 
+/// What comes from outside in a live run, and is taken one by one.
+#[derive(Drop)]
+pub struct Inputs<B: BusName> {
+    /// The error control messages of listed nodes.
+    pub heard: Receiver<ControlMessage<B>>,
+    /// The lines that the operator types.
+    pub typed: Receiver<TypedLine<B>>,
+}
+
 /// What a live run is watched with.
 #[derive(Drop)]
 pub struct Watcher<
@@ -60,8 +71,9 @@ pub struct Watcher<
     pub(crate) course: LiveCourse<'w, 'a, 'n, R>,
     pub(crate) register: &'w M,
     pub(crate) operator: OperatorSeat<K, B>,
-    /// The lines that the operator types.
-    pub(crate) typed: Receiver<TypedLine<B>>,
+    pub(crate) inputs: Inputs<B>,
+    /// The place of the error control message that was heard last.
+    pub(crate) heard_upto: u64,
     /// What of these is put off until all else was taken.
     typing: Typing,
     /// The slaves that each worker is to boot.
@@ -71,7 +83,7 @@ pub struct Watcher<
     batches: Batches,
     /// The operator has asked for the report.
     pub(crate) is_report_due: bool,
-    pace: Pace,
+    pub(crate) pace: Pace,
 }
 
 /// Whether this was set by another thread.
@@ -93,12 +105,13 @@ impl<'w, 'a, 'n, R: Wait + Clock + Drop, K: RunName, B: BusName, M: LiveRegister
         setting: &'w LiveSetting<'a, 'n, R>,
         register: &'w M,
         operator: OperatorSeat<K, B>,
-        typed: Receiver<TypedLine<B>>,
+        inputs: Inputs<B>,
         jobs: Vec<Sender<NodeId>>,
         events: Events,
         versions: VersionReader<K>,
     ) -> Watcher<'w, 'a, 'n, R, K, B, M>
         ensures operator { result.operator ≡ operator }
+        ensures heard { result.heard_upto ≡ 0 }
         ensures network { result.course.network ≡ setting.now.bus.network }
         ensures follows { (net : NetworkList) → Follows result.course.progress net
             (record { settle_ms = setting.now.options.settle_ms; heartbeat_ms = setting.now.options.heartbeat_ms }) [] }
@@ -107,7 +120,8 @@ impl<'w, 'a, 'n, R: Wait + Clock + Drop, K: RunName, B: BusName, M: LiveRegister
             course: LiveCourse::new(setting, events),
             register,
             operator,
-            typed,
+            inputs,
+            heard_upto: 0,
             typing: Typing::new(),
             jobs,
             versions,
@@ -118,7 +132,9 @@ impl<'w, 'a, 'n, R: Wait + Clock + Drop, K: RunName, B: BusName, M: LiveRegister
     }
 
     /// No slave is handed to a worker any more, by which each ends once it has done what it has.
-    pub fn release_workers(&mut self) {
+    pub fn release_workers(&mut self)
+        ensures calls { self.new.operator ≡ self.old.operator }
+    {
         self.jobs.clear();
     }
 
@@ -130,11 +146,13 @@ impl<'w, 'a, 'n, R: Wait + Clock + Drop, K: RunName, B: BusName, M: LiveRegister
         operator
     }
 
-    /// Makes a call that is neither a report nor a request, but for one that wakes a slave.
+    /// Makes a call that no line asks for.
     pub(crate) fn call(&mut self, call: Call) -> Result<(), Ending>
         requires { IsUntyped call }
         ensures made { IfOk result (λ _. calls_made self.new.operator ≡ calls_made self.old.operator ++ call ∷ []) }
         ensures course { self.new.course ≡ self.old.course }
+        ensures pace { self.new.pace ≡ self.old.pace }
+        ensures heard { self.new.heard_upto ≡ self.old.heard_upto }
         ensures other { result ≡ Err Ending.Asked → ⊥ }
     {
         let rt = self.course.setting.rt;
@@ -154,7 +172,8 @@ impl<'w, 'a, 'n, R: Wait + Clock + Drop, K: RunName, B: BusName, M: LiveRegister
             → IfOk result (λ _. HasTaken notification self.old.course.options.seconds B.typed
             self.new.course.progress self.old.course.network.now s past now self.old.operator self.new.operator) }
         ensures network { IfOk result (λ _. self.new.course.network ≡ self.old.course.network) }
-        ensures quits { result ≡ Err Ending.Asked → Quits B.typed }
+        ensures heard { self.new.heard_upto ≡ self.old.heard_upto }
+        ensures quits { result ≡ Err Ending.Asked → IsAskedToEnd B.format B.text B.typed (stand_of self.old) (stand_of self.new) }
     {
         match notification {
             Notification::Typed => self.obey_next(err, now),
@@ -164,9 +183,8 @@ impl<'w, 'a, 'n, R: Wait + Clock + Drop, K: RunName, B: BusName, M: LiveRegister
 
     /// Takes one thing that has happened; one of typing is put off.
     fn hear<E: Write>(&mut self, err: &mut E, notification: Notification) -> Result<(), Ending>
-        ensures goes_on { IfOk result (λ _. GoesOn self.old.course.network.now self.old.course.progress
-            self.new.course.network.now self.new.course.progress) }
-        ensures quits { result ≡ Err Ending.Asked → Quits B.typed }
+        ensures goes_on { IfOk result (λ _. GoesOn B.format B.text B.typed (stand_of self.old) (stand_of self.new)) }
+        ensures quits { result ≡ Err Ending.Asked → IsAskedToEnd B.format B.text B.typed (stand_of self.old) (stand_of self.new) }
     {
         let now = self.course.setting.now();
         let Some(notification) = self.typing.put_off(notification) else {
@@ -176,23 +194,18 @@ impl<'w, 'a, 'n, R: Wait + Clock + Drop, K: RunName, B: BusName, M: LiveRegister
         Ok(())
     }
 
-    /// Takes what has happened, if something has within a turn's time, and then all else that has. What is received is taken before
-    /// another is received, so that none is lost where the turn ends. What is typed is put off.
+    /// Takes what has happened, if something has within so many ms, and then all else that has. What is typed is put off.
     fn hear_all<E: Write>(
         &mut self,
         err: &mut E,
         notifications: &Receiver<Notification>,
+        wait_ms: u64,
     ) -> Result<(), Ending>
-        ensures goes_on { IfOk result (λ _. GoesOn self.old.course.network.now self.old.course.progress
-            self.new.course.network.now self.new.course.progress) }
-        ensures quits { result ≡ Err Ending.Asked → Quits B.typed }
+        ensures goes_on { IfOk result (λ _. GoesOn B.format B.text B.typed (stand_of self.old) (stand_of self.new)) }
+        ensures quits { result ≡ Err Ending.Asked → IsAskedToEnd B.format B.text B.typed (stand_of self.old) (stand_of self.new) }
     {
         let setting = self.course.setting;
-        let mut wait = if self.typing.is_empty() {
-            Duration::from_millis(TURN_MS)
-        } else {
-            Duration::ZERO
-        };
+        let mut wait = Duration::from_millis(wait_ms);
         for _ in 0..MOST_TAKEN {
             let Ok(notification) = notifications.recv_timeout(setting.rt, wait) else {
                 return Ok(());
@@ -203,11 +216,43 @@ impl<'w, 'a, 'n, R: Wait + Clock + Drop, K: RunName, B: BusName, M: LiveRegister
         Ok(())
     }
 
+    /// Tells the watch of an error control message. One that doesn't stand behind the last never comes.
+    fn hear_message(&mut self, message: ControlMessage<B>) -> Result<(), Ending>
+        ensures goes_on { IfOk result (λ _. GoesOn B.format B.text B.typed (stand_of self.old) (stand_of self.new)) }
+        ensures other { result ≡ Err Ending.Asked → ⊥ }
+    {
+        let place = message.place();
+        if place <= self.heard_upto {
+            return Err(Ending::OutOfOrder);
+        }
+        let now = self.course.setting.now();
+        let network = self.course.network;
+        self.course
+            .progress
+            .hear(network, message.node(), message.byte(), now);
+        self.heard_upto = place;
+        Ok(())
+    }
+
+    /// Tells the watch of so many error control messages, which wait.
+    fn hear_messages(&mut self, count: usize) -> Result<(), Ending>
+        ensures goes_on { IfOk result (λ _. GoesOn B.format B.text B.typed (stand_of self.old) (stand_of self.new)) }
+        ensures other { result ≡ Err Ending.Asked → ⊥ }
+    {
+        let rt = self.course.setting.rt;
+        for _ in 0..count {
+            let Ok(message) = self.inputs.heard.try_recv(rt) else {
+                return Ok(());
+            };
+            self.hear_message(message)?;
+        }
+        Ok(())
+    }
+
     /// Takes what was typed, so long and so much that a turn doesn't last.
     fn obey_some<E: Write>(&mut self, err: &mut E) -> Result<(), Ending>
-        ensures goes_on { IfOk result (λ _. GoesOn self.old.course.network.now self.old.course.progress
-            self.new.course.network.now self.new.course.progress) }
-        ensures quits { result ≡ Err Ending.Asked → Quits B.typed }
+        ensures goes_on { IfOk result (λ _. GoesOn B.format B.text B.typed (stand_of self.old) (stand_of self.new)) }
+        ensures quits { result ≡ Err Ending.Asked → IsAskedToEnd B.format B.text B.typed (stand_of self.old) (stand_of self.new) }
     {
         let began = self.course.setting.now();
         for _ in 0..MOST_OBEYED {
@@ -223,17 +268,21 @@ impl<'w, 'a, 'n, R: Wait + Clock + Drop, K: RunName, B: BusName, M: LiveRegister
         Ok(())
     }
 
-    /// Takes what has happened: what is typed behind all else, and not so much that the network isn't watched meanwhile.
+    /// Takes what has happened, then each error control message that waits by then, behind all entries that were recorded before it, and
+    /// then what is typed, not so much that the network isn't watched meanwhile.
     fn take_all<E: Write>(
         &mut self,
         err: &mut E,
         notifications: &Receiver<Notification>,
     ) -> Result<(), Ending>
-        ensures goes_on { IfOk result (λ _. GoesOn self.old.course.network.now self.old.course.progress
-            self.new.course.network.now self.new.course.progress) }
-        ensures quits { result ≡ Err Ending.Asked → Quits B.typed }
+        ensures goes_on { IfOk result (λ _. GoesOn B.format B.text B.typed (stand_of self.old) (stand_of self.new)) }
+        ensures quits { result ≡ Err Ending.Asked → IsAskedToEnd B.format B.text B.typed (stand_of self.old) (stand_of self.new) }
     {
-        self.hear_all(err, notifications)?;
+        let wait_ms = if self.typing.is_empty() { TURN_MS } else { 0 };
+        self.hear_all(err, notifications, wait_ms)?;
+        let waiting = self.inputs.heard.len();
+        self.hear_all(err, notifications, 0)?;
+        self.hear_messages(waiting)?;
         self.obey_some(err)?;
         Ok(())
     }
@@ -243,6 +292,7 @@ impl<'w, 'a, 'n, R: Wait + Clock + Drop, K: RunName, B: BusName, M: LiveRegister
     fn show<E: Write>(&mut self, err: &mut E, publisher: &mut Publisher<K, R>)
         ensures course { self.new.course ≡ self.old.course }
         ensures calls { self.new.operator ≡ self.old.operator }
+        ensures heard { self.new.heard_upto ≡ self.old.heard_upto }
     {
         let setting = self.course.setting;
         let _ = self.batches.show(setting.rt, self.register, publisher);
@@ -263,10 +313,10 @@ impl<'w, 'a, 'n, R: Wait + Clock + Drop, K: RunName, B: BusName, M: LiveRegister
         outlet: &mut CausedOutlet<W, B, ControlFrame>,
         publisher: &mut Publisher<K, R>,
     ) -> Result<(), Ending>
-        ensures goes_on { IfOk result (λ _. GoesOn self.old.course.network.now self.old.course.progress
-            self.new.course.network.now self.new.course.progress) }
-        ensures asked { result ≡ Err Ending.Asked
-            → IsAskedToEnd B.typed self.old.course.network.now self.old.course.progress self.new.course.progress }
+        ensures goes_on { IfOk result (λ _. (pace : PaceKept) × (now received : ℕ) × (self.new.pace ≡ pace_after pace now received)
+            × GoesOnAs (HasTurned (is_some (behind_at pace now received)) now) B.format B.text B.typed
+            (stand_of self.old) (stand_of self.new)) }
+        ensures asked { result ≡ Err Ending.Asked → IsAskedToEnd B.format B.text B.typed (stand_of self.old) (stand_of self.new) }
     {
         self.take_all(err, notifications)?;
         self.show(err, publisher);
@@ -311,8 +361,7 @@ impl<'w, 'a, 'n, R: Wait + Clock + Drop, K: RunName, B: BusName, M: LiveRegister
         outlet: &mut CausedOutlet<W, B, ControlFrame>,
         publisher: &mut Publisher<K, R>,
     ) -> Ending
-        ensures { result ≡ Ending.Asked
-            → IsAskedToEnd B.typed self.old.course.network.now self.old.course.progress self.new.course.progress }
+        ensures { result ≡ Ending.Asked → IsAskedToEnd B.format B.text B.typed (stand_of self.old) (stand_of self.new) }
     {
         for _ in self.course.setting.rt.forever() {
             match self.turn(err, notifications, outlet, publisher) {

@@ -4,7 +4,7 @@ ghost use Rattle.std.specs.Prelude.{◌≡◌, ◌<◌, ◌^◌, IfOk};
 
 use crate::options::BusOptions;
 use cm_netlist::Network;
-use cm_receiving::{Heartbeats, Listening, Notification};
+use cm_receiving::{Listening, Notification};
 use crossbeam_channel::{Receiver, Sender};
 use std::alloc::{AllocError, Global};
 use std::sync::Arc;
@@ -20,7 +20,6 @@ pub struct Setting<'a, 'n, R> {
     pub options: BusOptions,
     pub start: Instant,
     pub listening: Arc<Listening>,
-    pub heartbeats: Arc<Heartbeats>,
     /// Set once a frame couldn't be written.
     pub broken: Arc<AtomicBool>,
     /// Set once the run is over: no boot is reported any more, and no answer waited for.
@@ -57,7 +56,6 @@ pub fn set_up<'a, 'n, R: Clock>(
         options,
         start,
         listening: Arc::new(alloc, Listening::new(alloc, options.workers)?)?,
-        heartbeats: Arc::new(alloc, Heartbeats::new(alloc)?)?,
         broken: Arc::new(alloc, AtomicBool::new(false))?,
         over: Arc::new(alloc, AtomicBool::new(false))?,
         unrecorded: Arc::new(alloc, AtomicBool::new(false))?,

@@ -17,7 +17,7 @@ use std::sync::Wait;
 use std::sync::atomic::AtomicBool;
 
 /// A worker's seat with its bus. Each report of the seat has its answers among the frames that the bus has heard, in
-/// their order, and is on a slave of this worker; it makes no request. Contracts see the seat.
+/// their order, and is on a slave of this worker; it makes the calls of boots alone. Contracts see the seat.
 #[derive(Drop)]
 pub struct Booth<'n, K: RunName, B: BusName, P: Port<B>> {
     seat: Seat<K>,
@@ -30,7 +30,7 @@ impl<'n, K: RunName, B: BusName, P: Port<B>> Model for Booth<'n, K, B, P> {
     ghost use Rattle.std.specs.Prelude.{◌≡◌, ◌+◌, ◌≤◌};
     ghost use Rattle.cm_register.specs.SeatViews.{SeatView};
     ghost use Rattle.cm_crew.specs.ReceivedCalls.{AreReceived};
-    ghost use Rattle.cm_crew.specs.Typing.{NoRequests};
+    ghost use Rattle.cm_crew.specs.Typing.{BootsAlone};
     ghost use Rattle.cm_crew.specs.Workers.{AreOfItsSeat};
 
     ghost Value = { SeatView };
@@ -38,7 +38,7 @@ impl<'n, K: RunName, B: BusName, P: Port<B>> Model for Booth<'n, K, B, P> {
     ghost view = { λ w. w.seat };
 
     ghost invariant = { λ w. AreReceived B.format B.text K.net w.seat.list 0 w.bus.heard
-        × NoRequests w.seat.list × AreOfItsSeat K.net K.seats w.seat.number w.seat.list
+        × BootsAlone w.seat.list × AreOfItsSeat K.net K.seats w.seat.number w.seat.list
         × (1 ≤ w.workers) × (w.workers + 1 ≡ K.seats) };
 }
 

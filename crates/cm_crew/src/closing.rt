@@ -1,4 +1,4 @@
-//! How a register is closed whose seats' reports were received, and whose operator's requests were typed.
+//! How a register is closed whose seats' reports were received, and whose operator's calls were typed or are of the watch.
 ghost use Rattle.std.specs.Prelude.{◌≡◌, All, IfOk, reverse};
 ghost use Rattle.cm_netlist.specs.Network.{listing};
 ghost use Rattle.cm_history.specs.Legal.{IsHistory};
@@ -6,8 +6,9 @@ ghost use Rattle.cm_history.specs.OrderFrames.{frames_in};
 ghost use Rattle.cm_sequential.specs.Standing.{Stands};
 ghost use Rattle.cm_crew.specs.ReceivedCalls.{IsReceivedList};
 ghost use Rattle.cm_crew.specs.Heard.{IsAllHeard};
-ghost use Rattle.cm_crew.specs.Operated.{EndsWithOperator, IsOperatedLive, RequestsIfOperator};
-ghost use Rattle.cm_crew.specs.Typing.{NoRequests};
+ghost use Rattle.cm_crew.specs.CallsMade.{calls_made};
+ghost use Rattle.cm_crew.specs.Operated.{BootsUnlessOperator, EndsWith, EndsWithOperator, IsOperatedLive, operator_calls};
+ghost use Rattle.cm_crew.specs.Typing.{BootsAlone};
 ghost use Rattle.cm_crew.specs.Workers.{AreOfItsSeat};
 
 use crate::heard_seat::HeardSeat;
@@ -31,7 +32,7 @@ fn plain_seats<K: RunName, B: BusName>(
     seats: Vec<HeardSeat<K, B>>,
 ) -> Result<Vec<Seat<K>>, AllocError>
     ensures received { IfOk result (λ v. All (λ s. IsReceivedList B.format B.text K.net s.list) v.items) }
-    ensures quiet { IfOk result (λ v. All (λ s. NoRequests s.list) v.items) }
+    ensures boots { IfOk result (λ v. All (λ s. BootsAlone s.list) v.items) }
     ensures own { IfOk result (λ v. All (λ s. AreOfItsSeat K.net K.seats s.number s.list) v.items) }
 {
     let mut plain = Vec::new(alloc);
@@ -48,8 +49,9 @@ fn all_seats<K: RunName, B: BusName>(
 ) -> Result<Vec<Seat<K>>, AllocError>
     ensures received { IfOk result (λ v. All (λ s. IsReceivedList B.format B.text K.net s.list) v.items) }
     ensures own { IfOk result (λ v. All (λ s. AreOfItsSeat K.net K.seats s.number s.list) v.items) }
-    ensures others { IfOk result (λ v. All (λ s. RequestsIfOperator s) v.items) }
+    ensures others { IfOk result (λ v. All (λ s. BootsUnlessOperator s) v.items) }
     ensures operator { IfOk result (λ v. EndsWithOperator B.typed v.items) }
+    ensures last { IfOk result (λ v. EndsWith v.items crew.operator) }
 {
     let Crew { operator, workers } = crew;
     let mut plain = plain_seats(alloc, workers)?;
@@ -60,8 +62,8 @@ fn all_seats<K: RunName, B: BusName>(
 
 /// Closes the register, of whose wire just the history's frames were sent, and gives what it leaves, with its recorder,
 /// which has recorded the history. In that history each report whose orders start a slave has the slave's identity among
-/// the frames that were received on the bus that `B` names, the reports on a slave are one worker's, and each request was
-/// typed by its operator. Where it can't be closed it comes back.
+/// the frames that were received on the bus that `B` names, the reports on a slave are one worker's, and the calls of
+/// its operator were typed or are of the watch. Where it can't be closed it comes back.
 pub fn close_heard<'n, W: Wire, K: RunName, B: BusName, J: Recorder>(
     alloc: Global,
     register: Register<'n, W, K, J>,
@@ -76,6 +78,7 @@ pub fn close_heard<'n, W: Wire, K: RunName, B: BusName, J: Recorder>(
     ensures recorded { IfOk result (λ c. J.has_recorded c.1 c.0.history.items) }
     ensures heard { IfOk result (λ c. IsAllHeard B.format B.text K.net K.seats c.0.history.items) }
     ensures operated { IfOk result (λ c. IsOperatedLive B.typed c.0.history.items) }
+    ensures calls { IfOk result (λ c. operator_calls c.0.history.items ≡ calls_made crew.operator) }
 {
     let Ok(plain) = all_seats(alloc, crew) else {
         return Err(register);

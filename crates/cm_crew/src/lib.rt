@@ -19,6 +19,6 @@ mod workers;
 pub use closing::{Crew, close_heard};
 pub use heard_seat::HeardSeat;
 pub use lookout::UntilOver;
-pub use operator_seat::OperatorSeat;
+pub use operator_seat::{OperatorSeat, TypedFault};
 pub use rounds::live_round;
 pub use workers::{Left, Worker, Workers, join_workers, make_workers, start_workers};

@@ -1,14 +1,15 @@
 //! The seat of the operator of a live run.
-ghost use Rattle.std.specs.Prelude.{◌≡◌, ◌++◌, ◌∷◌, [], Err, IfOk, IsTrue, OnErr, false};
+ghost use Rattle.std.specs.Prelude.{◌≡◌, ◌++◌, ◌∷◌, [], Err, IfOk, IsTrue, OnErr, Some, false};
 ghost use Rattle.cm_nmt.specs.Bits.{has_bit};
-ghost use Rattle.cm_crew.specs.ReceivedCalls.{IsReceivedList};
+ghost use Rattle.cm_history.specs.declared.call.Call.TheVariants.{StartNetwork};
+ghost use Rattle.cm_operator.specs.Console.{AsksPlainly};
+ghost use Rattle.cm_crew.specs.ReceivedCalls.{IsNoReport, IsReceivedList};
 ghost use Rattle.cm_crew.specs.Operated.{IsOperators};
-ghost use Rattle.cm_history.specs.declared.call.Call.TheVariants.{Request as RequestCall};
-ghost use Rattle.cm_crew.specs.CallsMade.{HasMadeOrNot, calls_made};
-ghost use Rattle.cm_crew.specs.Typing.{IsUntyped, SpellsRequest};
+ghost use Rattle.cm_crew.specs.CallsMade.{calls_made};
+ghost use Rattle.cm_crew.specs.Typing.{Asks, IsUntyped, SpellsCall};
 ghost use Rattle.cm_crew.specs.Workers.{AreOfItsSeat};
 
-use cm_history::{Call, CallFault};
+use cm_history::{Call, CallFault, is_same_call};
 use cm_operator::{Command, TypedLine, read_command};
 use cm_receiving::BusName;
 use cm_register::{Receipt, RunName, Seat, SharedManager};
@@ -16,23 +17,48 @@ use cm_run::{NoHistory, not_called, started};
 use std::marker::{Model, PhantomData};
 use std::sync::Wait;
 
-/// Whether the line spells the request: by itself, or as the start of all nodes.
-fn spells(line: &[u8], target: u8, value: u8) -> bool
-    ensures { IsTrue result → SpellsRequest line.now target value }
+/// Why the call that a line asks for isn't made.
+#[derive(Clone, Copy)]
+pub enum TypedFault {
+    /// The line doesn't ask for it, or doesn't stand behind that of the last call that was typed: this never comes, though no clause
+    /// says so.
+    NotNext,
+    /// The call couldn't be made.
+    NotCalled(CallFault),
+}
+
+/// Whether the command asks for the call.
+fn asks(command: &Command, call: &Call) -> bool
+    ensures asked { IsTrue result → Asks (Some command.now) call.now }
+    ensures own { IsTrue result → AsksPlainly command.now → IsNoReport call.now }
 {
-    match read_command(line) {
-        Ok(Command::Request(of, to)) => of == target && to == value,
-        Ok(Command::Start) => target == 128 && value == 5,
+    match command {
+        Command::Make(asked) => is_same_call(asked, call),
+        Command::Request(target, value) => is_same_call(&Call::Request(*target, *value), call),
+        Command::Start => {
+            is_same_call(&Call::StartNetwork, call) || is_same_call(&Call::Request(128, 5), call)
+        }
         _ => false,
     }
 }
 
-/// The operator's seat, which has started the network. Its requests are those that were typed, in their order, and those that wake
-/// slaves, and it makes no report. Contracts see the seat.
+/// Whether the line asks for the call.
+fn spells(line: &[u8], call: &Call) -> bool
+    ensures asked { IsTrue result → SpellsCall line.now call.now }
+    ensures own { IsTrue result → IsNoReport call.now }
+{
+    match read_command(line) {
+        Ok(command) => asks(&command, call),
+        Err(_) => false,
+    }
+}
+
+/// The operator's seat, which has started the network. Its calls behind that are those that were typed, in their order, and those of
+/// the watch: losses, signals, the time, and requests that wake slaves. Contracts see the seat.
 #[derive(Drop)]
 pub struct OperatorSeat<K: RunName, B: BusName> {
     seat: Seat<K>,
-    /// The place of the line of its last typed request.
+    /// The place of the line of its last typed call.
     last: u64,
     of: PhantomData<B>,
 }
@@ -60,7 +86,8 @@ impl<K: RunName, B: BusName> OperatorSeat<K, B> {
         seat: Seat<K>,
     ) -> Result<OperatorSeat<K, B>, NoHistory>
         requires { (seat.number ≡ 1) × (seat.list ≡ []) }
-        ensures { result ≡ Err NoHistory.NotMaster → has_bit K.net.startup 0 ≡ false }
+        ensures refused { result ≡ Err NoHistory.NotMaster → has_bit K.net.startup 0 ≡ false }
+        ensures first { IfOk result (λ o. calls_made o ≡ StartNetwork ∷ []) }
     {
         let mut seat = seat;
         let is_master = register.network().startup().is_master();
@@ -80,7 +107,7 @@ impl<K: RunName, B: BusName> OperatorSeat<K, B> {
         }
     }
 
-    /// Makes a call that is neither a report nor a request, but for one that wakes a slave.
+    /// Makes a call that no line asks for.
     pub fn call<R: Wait, M: SharedManager<K, R>>(
         &mut self,
         rt: &R,
@@ -94,26 +121,28 @@ impl<K: RunName, B: BusName> OperatorSeat<K, B> {
         register.call(rt, &mut self.seat, call)
     }
 
-    /// Makes the request that a typed line spells. There is no receipt where it spells another, or where it doesn't stand
-    /// behind the line of the last typed request; this never comes, though no clause says so.
-    pub fn request<R: Wait, M: SharedManager<K, R>>(
+    /// Makes the call that a typed line asks for, which stands behind the lines of all typed calls before.
+    pub fn make<R: Wait, M: SharedManager<K, R>>(
         &mut self,
         rt: &R,
         register: &M,
         line: &TypedLine<B>,
-        target: u8,
-        value: u8,
-    ) -> Result<Option<Receipt>, CallFault>
-        ensures made { IfOk result (λ _. HasMadeOrNot (RequestCall target value) self.old self.new) }
+        call: Call,
+    ) -> Result<Receipt, TypedFault>
+        ensures made { IfOk result (λ _. calls_made self.new ≡ calls_made self.old ++ call ∷ []) }
         ensures same { OnErr result (self.new ≡ self.old) }
     {
         let place = line.place();
-        if place <= self.last || !spells(line.line(), target, value) {
-            return Ok(None);
+        if place <= self.last || !spells(line.line(), &call) {
+            return Err(TypedFault::NotNext);
         }
-        let receipt = register.call(rt, &mut self.seat, Call::Request(target, value))?;
-        self.last = place;
-        Ok(Some(receipt))
+        match register.call(rt, &mut self.seat, call) {
+            Ok(receipt) => {
+                self.last = place;
+                Ok(receipt)
+            }
+            Err(fault) => Err(TypedFault::NotCalled(fault)),
+        }
     }
 
     /// The seat, to look at.
@@ -123,8 +152,9 @@ impl<K: RunName, B: BusName> OperatorSeat<K, B> {
         &self.seat
     }
 
-    /// The seat, and the place of the line of its last typed request.
+    /// The seat, and the place of the line of its last typed call.
     pub(crate) fn into_seat(self) -> (Seat<K>, u64)
+        ensures same { result.0 ≡ self }
         ensures received { IsReceivedList B.format B.text K.net result.0.list }
         ensures operators { IsOperators B.typed result.0 result.1 }
         ensures own { AreOfItsSeat K.net K.seats result.0.number result.0.list }

@@ -1,7 +1,6 @@
 pub mod BootUps
 pub mod Cutting
 pub mod Doubling
-pub mod Heartbeats
 pub mod Identifiers
 pub mod Places
 pub mod Routing

@@ -53,6 +53,16 @@ pub record StandsAt (format : Format) (text : List ℕ) (place : ℕ) (f : CanFr
 abbrev pub StandsIn : Format → Option (List ℕ) → ℕ → CanFrame → Type 0
 StandsIn format text place f = (t : List ℕ) → text ≡ Some t → StandsAt format t place f
 
+-- an error control message of the node with this byte stands in a text that may be unknown, as a line that the byte at this place ends
+abbrev pub IsControlAt : Format → Option (List ℕ) → ℕ → ℕ → ℕ → Type 0
+IsControlAt format text place node byte = (f : CanFrame) × IsErrorControl node byte f × StandsIn format text place f
+
+-- such a message with its place
+pub record PlacedControl : Type 0 where
+  pub place : ℕ
+  pub node : ℕ
+  pub byte : ℕ
+
 -- a boot-up message of the node (CiA 301; bit 7 masked, own) stands in the text, as a line of up to 128 bytes, which the byte at this
 -- place ends; longer lines are passed over
 pub record HasBootUpAt (format : Format) (text : List ℕ) (node place : ℕ) : Type 0 where

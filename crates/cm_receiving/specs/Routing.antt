@@ -6,17 +6,15 @@ use Rattle.cm_can.specs.declared.frame.CanFrame.{CanFrame}
 use Rattle.cm_netlist.specs.Workers.{place_of, worker_of}
 use Rattle.cm_receiving.specs.Doubling.{answering, said_in}
 use Rattle.cm_receiving.specs.Identifiers.{node_in}
-use Rattle.cm_receiving.specs.declared.notification.Notification.{Notification}
-use Rattle.cm_receiving.specs.declared.notification.Notification.TheVariants.{ErrorControl}
+use Rattle.cm_receiving.specs.Places.{PlacedControl}
 
 -- the worker that a frame may be given to: the one that boots the node of which it may answer a question
 abbrev pub worker_for : List ℕ → ℕ → CanFrame → Option ℕ
 worker_for listed workers f = node_in f.kind f.id.number >>= (λ n. worker_of listed workers n)
 
--- what may be told of a frame: of an error control message of a listed node, its byte
-abbrev pub IsNewsIn : List ℕ → CanFrame → Notification → Type 0
-IsNewsIn listed f (ErrorControl node byte) = IsErrorControl node byte f × IsSome (place_of node listed)
-IsNewsIn listed f _ = ⊥
+-- what may be told of a frame of error control: the message that it is, where its node is listed
+abbrev pub IsToldOf : List ℕ → CanFrame → PlacedControl → Type 0
+IsToldOf listed f m = IsErrorControl m.node m.byte f × IsSome (place_of m.node listed)
 
 -- the frame is an answer of the SDO server of a listed node
 abbrev pub IsAnswerOf : List ℕ → CanFrame → ℕ → Type 0

@@ -2,14 +2,15 @@
 //!
 //! A [`Source`] reads lines of frames from an input, of can-utils or of a serial adapter, and gives each frame its place among those
 //! that were received ([`Received`], [`FrameCutter`]). [`Routes`] gives each to whom it is for: the answer to a question of a boot to
-//! who asks ([`Listening`]), what else happens on the bus to the one that watches the network ([`Notification`]). Boot-up messages
-//! and contradicting answers say from which place on another device may stand at a node; where heartbeats come, [`Heartbeats`] says.
+//! who asks ([`Listening`]), each error control message of a listed node ([`ControlMessage`]) and what else happens on the bus
+//! ([`Notification`]) to the one that watches the network. Boot-up messages and contradicting answers say from which place on another
+//! device may stand at a node.
 #![tactic(auto)]
 
 mod boot_ups;
 mod bus_name;
+mod control_message;
 mod doubling;
-mod heartbeats;
 mod line_counter;
 mod line_cutter;
 mod listening;
@@ -20,7 +21,7 @@ mod routes;
 mod strangers;
 
 pub use bus_name::BusName;
-pub use heartbeats::Heartbeats;
+pub use control_message::ControlMessage;
 pub use line_counter::LineCounter;
 pub use line_cutter::LineCutter;
 pub use listening::Listening;

@@ -9,10 +9,7 @@ pub enum Notification {
     Entered(u64, Entry),
     /// A worker's attempts at a slave have ended; where a call couldn't be made, why.
     Ended(NodeId, Option<CallFault>),
-    /// An error control message of a listed node: a boot-up message, or another byte than the last one's, since its
-    /// state is another or its toggle bit is turned. The byte is the message's.
-    ErrorControl(NodeId, u8),
-    /// The bus said this, beside the answers and the states of listed nodes.
+    /// The bus said this, beside the answers and the error control messages of listed nodes.
     Said(Remark),
     /// The operator typed a line, which was sent before this is told.
     Typed,

@@ -5,33 +5,32 @@ ghost use Rattle.cm_nmt.specs.NodeId.{IsNodeId};
 ghost use Rattle.cm_boot.specs.declared.question.Answer.{Answer};
 ghost use Rattle.cm_boot.specs.declared.question.Question.{Question};
 ghost use Rattle.cm_can.specs.Questions.{IsAnswer};
-ghost use Rattle.cm_receiving.specs.Routing.{IsAnswerOf, IsNewsIn, worker_for};
+ghost use Rattle.cm_receiving.specs.Routing.{IsAnswerOf, IsToldOf, worker_for};
 ghost use Rattle.cm_netlist.specs.Workers.{worker_of};
 
 use crate::bus_name::BusName;
+use crate::control_message::ControlMessage;
 use crate::doubling::answering;
-use crate::heartbeats::Heartbeats;
 use crate::listening::{Listening, sender_of};
 use crate::notification::Notification;
 use crate::received::Received;
-use cm_can::{CanError, CanFrame, Remark, error_control, read_remark};
+use cm_can::{CanError, CanFrame, Remark, read_remark};
 use cm_netlist::{place_of, worker_of};
 use cm_nmt::NodeId;
 use crossbeam_channel::Sender;
 use std::sync::{Arc, Wait};
-use std::time::{Clock, Duration, Instant};
+use std::time::{Clock, Duration};
 
 /// Whom each frame is given to that is received.
 #[derive(Drop)]
 pub struct Routes<B: BusName> {
-    /// When the run began.
-    pub start: Instant,
     /// The listed nodes, in rising order; the k-th, counted from 0, is booted by worker k modulo their number.
     pub listed: Vec<NodeId>,
     pub listening: Arc<Listening>,
-    pub heartbeats: Arc<Heartbeats>,
     /// What each worker hears.
     pub workers: Vec<Sender<Received<B>>>,
+    /// Who is told of error control messages.
+    pub heard: Sender<ControlMessage<B>>,
     pub notifications: Sender<Notification>,
 }
 
@@ -65,26 +64,16 @@ impl<B: BusName> Routes<B> {
         }
     }
 
-    /// Notes when a listed node was heard, and where it has booted up, and gives what is news of it.
-    fn news_in<R: Clock>(&self, rt: &R, frame: &CanFrame, place: u64) -> Option<Notification>
-        ensures { IfSome result (IsNewsIn self.now.listed.items frame.now) }
+    /// The error control message of a listed node that a frame is, if it is one. Where a node has booted up is noted.
+    fn message_in(&self, received: &Received<B>) -> Option<ControlMessage<B>>
+        ensures { IfSome result (IsToldOf self.now.listed.items received.now.frame) }
     {
-        let message = error_control(frame)?;
-        let _listed = place_of(self.listed.as_slice(), message.node)?;
-        if message.byte % 128 == 0 {
-            self.listening.note_boot_up(message.node, place);
+        let message = ControlMessage::of(received)?;
+        let _listed = place_of(self.listed.as_slice(), message.node())?;
+        if message.byte() % 128 == 0 {
+            self.listening.note_boot_up(message.node(), message.place());
         }
-        let Ok(time) = self.start.elapsed(rt) else {
-            return None;
-        };
-        if self
-            .heartbeats
-            .hear(message.node, message.byte, ms_in(time))
-        {
-            Some(Notification::ErrorControl(message.node, message.byte))
-        } else {
-            None
-        }
+        Some(message)
     }
 
     /// The listed node of which a frame is an answer that contradicts the one before: it alone of all answers stands at the last
@@ -103,15 +92,15 @@ impl<B: BusName> Routes<B> {
     /// Gives a frame to all that it is for.
     pub(crate) fn take<R: Wait + Clock>(&self, rt: &R, received: Received<B>) {
         let frame = received.frame();
-        let place = received.place();
+        let message = self.message_in(&received);
         let doubled = self.doubled(&received);
         if let Some(worker) = self.worker_that_hears(&frame) {
             if let Some(hears) = self.workers.get(worker) {
                 let _ = hears.send(rt, received);
             }
         }
-        if let Some(news) = self.news_in(rt, &frame, place) {
-            let _ = self.notifications.send(rt, news);
+        if let Some(message) = message {
+            let _ = self.heard.send(rt, message);
         }
         if let Some(remark) = read_remark(&frame) {
             let _ = self.notifications.send(rt, Notification::Said(remark));

@@ -1,5 +1,4 @@
-//! Networks of simulated slaves that workers boot: with a wire that is full, with a history that is full, and again what was
-//! lost.
+//! A network of simulated slaves that workers boot, and again what was lost.
 
 ghost use Rattle.cm_register.specs.Naming.{Names};
 
@@ -33,101 +32,6 @@ fn boot<K: RunName + Send + Sync, R: Wait + Threads + Abort + Send + Sync>(
         sure(rt, usize::from(seat.number()) == place + 1);
     }
     booted
-}
-
-/// How much room there is in a history and on a wire, and what comes of the boot of slaves 2, 3 and 4.
-#[derive(Clone, Copy)]
-struct Story {
-    limit: u32,
-    room: u32,
-    outcomes: [Outcome; 3],
-    entries: usize,
-    frames: &'static [[u8; 2]],
-    phase: Phase,
-    /// Whether each slave keeps a session.
-    is_open: bool,
-}
-
-/// The operator starts the network, and a worker boots it, with these outcomes; all seats come back.
-fn start_and_boot<K: RunName + Send + Sync, R: Wait + Threads + Abort + Send + Sync>(
-    rt: &R,
-    alloc: Global,
-    register: &Register<SimWire, K>,
-    mut seats: Vec<Seat<K>>,
-    outcomes: &[Outcome],
-) -> Vec<Seat<K>> {
-    let operator = start(rt, register, &mut seats);
-    let booted = boot(rt, alloc, register, seats, 3);
-    sure(rt, booted.outcomes.as_slice() == outcomes);
-    with_operator(rt, booted.seats, operator)
-}
-
-/// Asserts that these frames were sent.
-fn were_sent(rt: &impl Abort, sent: &[Frame], frames: &[[u8; 2]]) {
-    sure(rt, sent.len() == frames.len());
-    for (sent, bytes) in sent.iter().zip(frames.iter()) {
-        sure(rt, *sent == frame(rt, *bytes));
-    }
-}
-
-/// The same, and what the register leaves.
-fn ends<K: RunName + Send + Sync, R: Wait + Threads + Abort + Send + Sync>(
-    rt: &R,
-    alloc: Global,
-    opened: Opened<SimWire>,
-    story: &Story,
-)
-    requires { Names K.RunName opened }
-{
-    let (register, seats) = named::<K>(rt, opened);
-    let seats = start_and_boot(rt, alloc, &register, seats, &story.outcomes);
-    let closed = close(rt, register, seats);
-    sure(rt, closed.history.len() == story.entries);
-    were_sent(rt, closed.wire.sent(), story.frames);
-    sure(rt, closed.manager.phase() == story.phase);
-    for number in 2..5 {
-        let session = closed.manager.session(node(rt, number));
-        sure(rt, session.is_some() == story.is_open);
-    }
-}
-
-#[test]
-fn a_full_wire_or_history_ends_each_round(rt: HostRuntime) {
-    let unsent = Last::Fault(CallFault::WireFull);
-    let unkept = Last::Fault(CallFault::JournalFull);
-    // the start needs all the room of the wire; no slave can be started, and each keeps its session
-    let wire = Story {
-        limit: 20,
-        room: 2,
-        outcomes: [
-            outcome(&rt, 2, 1, unsent),
-            outcome(&rt, 3, 1, unsent),
-            outcome(&rt, 4, 1, unsent),
-        ],
-        entries: 4,
-        frames: &[[0x82, 2], [0x82, 4]],
-        phase: Phase::Booting,
-        is_open: true,
-    };
-    // the history has room for the start and the first boot
-    let history = Story {
-        limit: 3,
-        room: 8,
-        outcomes: [
-            outcome(&rt, 2, 1, BOOTED),
-            outcome(&rt, 3, 1, unkept),
-            outcome(&rt, 4, 1, unkept),
-        ],
-        entries: 3,
-        frames: &[[0x82, 2], [0x82, 4], [0x01, 2]],
-        phase: Phase::Ready,
-        is_open: false,
-    };
-    for story in [wire, history].iter() {
-        let net = network(&rt, rt.alloc(), 1, &[(2, 0x05), (3, 0x15), (4, 0x05)]);
-        let opened = open(&rt, rt.alloc(), &net, 2, story.limit, story.room);
-        ends::<Brand, _>(&rt, rt.alloc(), opened, story);
-    }
 }
 
 /// Slave 1 is lost, by call 6.

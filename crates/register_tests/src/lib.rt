@@ -19,21 +19,9 @@ mod first_use;
 #[cfg(test)]
 mod holding;
 #[cfg(test)]
-mod one_book;
-#[cfg(test)]
-mod one_seat;
-#[cfg(test)]
-mod opening;
-#[cfg(test)]
-mod operator;
-#[cfg(test)]
-mod pasts;
-#[cfg(test)]
 mod readers;
 #[cfg(test)]
 mod reading;
-#[cfg(test)]
-mod reads;
 #[cfg(test)]
 mod routed;
 #[cfg(test)]
@@ -45,10 +33,8 @@ mod side_by_side;
 #[cfg(test)]
 mod support;
 #[cfg(test)]
+mod teams;
+#[cfg(test)]
 mod threads;
 #[cfg(test)]
-mod told_once;
-#[cfg(test)]
 mod versions;
-#[cfg(test)]
-mod workers;

@@ -5,7 +5,7 @@ use cm_boot::Question;
 use cm_bus::{CausedOutlet, LivePort, Outlet, Patience, Port};
 use cm_can::{CanFrame, Format, read_frame};
 use cm_nmt::NodeId;
-use cm_receiving::{Heartbeats, Listening, Notification, Received, Routes, Source};
+use cm_receiving::{Listening, Notification, Received, Routes, Source};
 use crossbeam_channel::{Receiver, Sender};
 use std::alloc::Global;
 use std::io::{self, Empty, Read};
@@ -13,7 +13,7 @@ use std::marker::Brand;
 use std::process::Abort;
 use std::sync::atomic::AtomicBool;
 use std::sync::{Arc, Wait};
-use std::time::{Clock, Instant};
+use std::time::Clock;
 
 /// What is received of a bus of which contracts know nothing.
 #[derive(Drop)]
@@ -82,12 +82,6 @@ fn listed(rt: &impl Abort, alloc: Global) -> Vec<NodeId> {
     listed
 }
 
-/// No node was heard yet.
-fn heartbeats(rt: &impl Abort, alloc: Global) -> Arc<Heartbeats> {
-    let heartbeats = Heartbeats::new(alloc).ok().expect(rt, "memory");
-    Arc::new(alloc, heartbeats).ok().expect(rt, "memory")
-}
-
 /// What is received is given to the workers of nodes 2, 3 and 5 in turn.
 fn give<R: Wait + Clock + Abort>(
     rt: &R,
@@ -98,12 +92,14 @@ fn give<R: Wait + Clock + Abort>(
 ) {
     let channel = crossbeam_channel::unbounded::<Notification, _>(alloc);
     let (notifications, _told) = channel.ok().expect(rt, "a channel");
+    let (heard, _heard) = crossbeam_channel::unbounded(alloc)
+        .ok()
+        .expect(rt, "a channel");
     let routes = Routes {
-        start: Instant::now(rt).ok().expect(rt, "a clock"),
         listed: listed(rt, alloc),
         listening,
-        heartbeats: heartbeats(rt, alloc),
         workers,
+        heard,
         notifications,
     };
     let source = Source::<Brand, Lines>::new(Lines { left }, Format::CanUtils);

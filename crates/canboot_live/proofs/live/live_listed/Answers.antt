@@ -9,7 +9,8 @@ use Rattle.cm_bus.specs.Outlets.{SendsMessages}
 use Rattle.cm_can.specs.declared.format.Format.{Format}
 use Rattle.cm_recorder.specs.Recorded.{contents_of}
 use Rattle.cm_crew.specs.Heard.{IsAllHeard}
-use Rattle.cm_crew.specs.Operated.{IsOperatedLive}
+use Rattle.cm_crew.specs.Operated.{IsOperatedLive, operator_calls}
+use Rattle.canboot_turns.specs.Driven.{IsDriven}
 use Rattle.canboot_live.proofs.Begins.{failed_after, names_outlet, same_journal, written_alike}
 use Rattle.canboot_live.proofs.live.live_listed.Goals as goal
 
@@ -34,6 +35,8 @@ returns-in-Ok-clause-done g c = λ e.
       heard = all_heard_of c.args.options.bus.format (g.X.Received.Read.remaining c.args.ends.received) c.args.network.now (c.args.options.bus.workers + 1) (c.from-seats.result + 1) _ _ (sym (ap (λ (n : ℕ). n + 1) c.from-seats.ensures))
           (sym c.as_slice-entries.ensures.value) c.in-Ok.ensures.heard;
       operated = subst (λ (h : List Entry). IsOperatedLive (g.X.Typed.Read.remaining c.args.ends.typed) h) (sym c.as_slice-entries.ensures.value) c.in-Ok.ensures.operated;
+      driven = subst (λ (h : List Entry). IsDriven c.args.options.bus.format (g.X.Received.Read.remaining c.args.ends.received) (g.X.Typed.Read.remaining c.args.ends.typed) c.args.network.now c.args.options (operator_calls h)) (sym c.as_slice-entries.ensures.value)
+          (c.in-Ok.ensures.driven (c.ending_status.ensures.done e).1);
       reported = of_ok c.put_report_in-report.result _ c.put_report_in-report.ensures (s.report (c.ending_status.ensures.done e).0);
       recorded = w.all (sym c.has_failed-has_journal_failed.ensures ∙ s.journal (c.ending_status.ensures.done e).0);
       sent = subst (λ (h : List Entry). SendsMessages g.X.Sent.Write.contents (frames_in (listing c.args.network.now) h) c.args.outputs.now.trace.messages c.live_on.new.trace.messages)

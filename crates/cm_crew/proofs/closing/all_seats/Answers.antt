@@ -1,7 +1,9 @@
+use Rattle.std.proofs.Common.{◌∙◌, ◌++◌, ◌∷◌, [], ap, sym}
+use Rattle.cm_register.specs.SeatViews.{SeatView}
 use Rattle.std.proofs.lemmas.List.Elements.{All-push, All-same, All-weaker}
-use Rattle.cm_crew.specs.Operated.{RequestsIfOperator}
+use Rattle.cm_crew.specs.Operated.{BootsUnlessOperator}
 use Rattle.cm_crew.proofs.Lists.{IsOfReceived}
-use Rattle.cm_crew.proofs.Operated.{IsQuiet}
+use Rattle.cm_crew.proofs.Operated.{OnlyBoots}
 use Rattle.cm_crew.proofs.Working.{IsOfOwn}
 use Rattle.cm_crew.proofs.closing.all_seats.Goals as goal
 
@@ -12,8 +14,8 @@ returns-clause-received g c =
 
 pub returns-clause-others : goal.returns-clause-others
 returns-clause-others g c =
-    All-same RequestsIfOperator c.push.new.self.items _ c.in_ok-push.ensures.items
-    (All-push RequestsIfOperator c.in_ok-plain.plain.items c.into_seat-operator.result.0 (All-weaker IsQuiet RequestsIfOperator (λ s quiet other. quiet) c.in_ok-plain.plain.items c.in_ok-plain.ensures.quiet)
+    All-same BootsUnlessOperator c.push.new.self.items _ c.in_ok-push.ensures.items
+    (All-push BootsUnlessOperator c.in_ok-plain.plain.items c.into_seat-operator.result.0 (All-weaker OnlyBoots BootsUnlessOperator (λ s boots other. boots) c.in_ok-plain.plain.items c.in_ok-plain.ensures.boots)
     (λ other. absurd (other c.into_seat-operator.ensures.operators.number)))
 
 pub returns-clause-operator : goal.returns-clause-operator
@@ -24,3 +26,11 @@ pub returns-clause-own : goal.returns-clause-own
 returns-clause-own g c =
     All-same (IsOfOwn g.K.HistoryName.net g.K.RunName.seats) c.push.new.self.items _ c.in_ok-push.ensures.items
     (All-push (IsOfOwn g.K.HistoryName.net g.K.RunName.seats) c.in_ok-plain.plain.items c.into_seat-operator.result.0 c.in_ok-plain.ensures.own c.into_seat-operator.ensures.own)
+
+pub returns-clause-last : goal.returns-clause-last
+returns-clause-last g c =
+    let same = c.into_seat-operator.ensures.same in (
+      sym (ap (λ (s : SeatView). s.number) same) ∙ c.into_seat-operator.ensures.operators.number,
+      c.in_ok-plain.plain.items,
+      c.in_ok-push.ensures.items ∙ ap (λ (s : SeatView). c.in_ok-plain.plain.items ++ s ∷ []) same,
+    )

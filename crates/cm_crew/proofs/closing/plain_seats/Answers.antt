@@ -1,6 +1,6 @@
 use Rattle.std.proofs.lemmas.List.Elements.{All-push, All-same}
 use Rattle.cm_crew.proofs.Lists.{IsOfReceived}
-use Rattle.cm_crew.proofs.Operated.{IsQuiet}
+use Rattle.cm_crew.proofs.Operated.{OnlyBoots}
 use Rattle.cm_crew.proofs.Working.{IsOfOwn}
 use Rattle.cm_crew.proofs.closing.plain_seats.Goals as goal
 
@@ -12,6 +12,6 @@ loop-seat-preserved g c =
     let seat = c.into_seat.ensures in
     record {
       received = All-same P c.push.new.self.items _ c.in_ok-push.ensures.items (All-push P c.loop-seat.plain.items c.into_seat.result was.received seat.received);
-      quiet = All-same IsQuiet c.push.new.self.items _ c.in_ok-push.ensures.items (All-push IsQuiet c.loop-seat.plain.items c.into_seat.result was.quiet seat.quiet);
+      boots = All-same OnlyBoots c.push.new.self.items _ c.in_ok-push.ensures.items (All-push OnlyBoots c.loop-seat.plain.items c.into_seat.result was.boots seat.boots);
       own = All-same Q c.push.new.self.items _ c.in_ok-push.ensures.items (All-push Q c.loop-seat.plain.items c.into_seat.result was.own seat.own);
     }

@@ -29,6 +29,8 @@ loop-step-preserved g c =
           (c.make.ensures.tries now (given now (take i steps) past) (was.tries past t));
       waiting = c.make.ensures.waiting ∙ was.waiting;
       watch = c.make.ensures.watch ∙ was.watch;
+      pace = c.make.ensures.pace ∙ was.pace;
+      heard = c.make.ensures.heard ∙ was.heard;
       network = c.make.ensures.network ∙ was.network;
     }
 
@@ -57,3 +59,15 @@ returns-in_err-make-clause-network g c = c.make.ensures.network ∙ c.loop-step.
 
 pub returns-clause-network : goal.returns-clause-network
 returns-clause-network g c = c.loop-step.invariant.network
+
+pub returns-in_err-make-clause-pace : goal.returns-in_err-make-clause-pace
+returns-in_err-make-clause-pace g c = c.make.ensures.pace ∙ c.loop-step.invariant.pace
+
+pub returns-clause-pace : goal.returns-clause-pace
+returns-clause-pace g c = c.loop-step.invariant.pace
+
+pub returns-in_err-make-clause-heard : goal.returns-in_err-make-clause-heard
+returns-in_err-make-clause-heard g c = c.make.ensures.heard ∙ c.loop-step.invariant.heard
+
+pub returns-clause-heard : goal.returns-clause-heard
+returns-clause-heard g c = c.loop-step.invariant.heard

@@ -13,5 +13,7 @@ invariant-loop-step g l = record {
       → Tries l.self.course.progress.tried (given l.now (take l.step-index l.step-items) past);
   waiting : l.self.course.progress.waiting ≡ l.initial.self.course.progress.waiting;
   watch : l.self.course.progress.watch ≡ l.initial.self.course.progress.watch;
+  pace : l.self.pace ≡ l.initial.self.pace;
+  heard : l.self.heard_upto ≡ l.initial.self.heard_upto;
   network : l.self.course.network ≡ l.initial.self.course.network;
 }

@@ -1,5 +1,5 @@
-use Rattle.std.proofs.Common.{ℕ, List, ap, ◌∙◌, subst, sym}
-use Rattle.std.specs.Prelude.{Ok}
+use Rattle.std.proofs.Common.{ℕ, List, [], ◌∷◌, ◌++◌, ap, ◌∙◌, subst, sym}
+use Rattle.std.specs.Prelude.{Ok, map}
 use Rattle.cm_register.specs.declared.made.Made.{Made}
 use Rattle.cm_crew.specs.Workers.{AreOfItsSeat}
 use Rattle.cm_crew.proofs.Working.{called_own, none_own}
@@ -20,3 +20,7 @@ invariant_of-result g c =
       called_own g.K.HistoryName.net g.K.RunName.seats (Ok c.in-Ok.receipt) c.args.seat c.call.new.seat call.StartNetwork tt c.in-Ok.ensures.seat tt
           (subst (λ (l : List Made). AreOfItsSeat g.K.HistoryName.net g.K.RunName.seats c.args.seat.number l) (sym c.requires.1) (none_own g.K.HistoryName.net g.K.RunName.seats c.args.seat.number)),
     )
+
+pub returns-else-receipt-ne1-clause-first : goal.returns-else-receipt-ne1-clause-first
+returns-else-receipt-ne1-clause-first g c =
+    ap (λ (l : List Made). map (λ (m : Made). m.call) l) (c.in-Ok.ensures.seat.1 ∙ ap (λ (l : List Made). l ++ made c.in-Ok.receipt.position call.StartNetwork c.in-Ok.receipt.reply ∷ []) c.requires.1)
