@@ -285,6 +285,19 @@ module _ (format : Format) (received typed : Option (List ℕ)) where
     goes_on = λ s past f. taken_on h seconds a b s past now heard (told s past f);
   }
 
+  -- a message was passed over
+  pub passed_over : (a b : Stand) → b.net ≡ a.net → b.seat ≡ a.seat → b.progress ≡ a.progress → a.heard < b.heard → GoesOn format received typed a b
+  passed_over a b net seat progress behind = record {
+    network = net;
+    goes_on = λ s past f. record {
+      causes = [];
+      each = omega (arith, behind);
+      follows = subst (λ (p : Progress Entry). Follows p a.net s past) (sym progress) f;
+      made = no_calls a.seat b.seat seat;
+      course = tt;
+    };
+  }
+
   -- an error control message came
   pub heard_on : (a b : Stand) (now place i byte : ℕ) → b.net ≡ a.net → b.seat ≡ a.seat → a.heard < place → b.heard ≡ place → IsControlAt format received place i byte
       → ((s : Settings) (past : Past) → Follows a.progress a.net s past → Follows b.progress a.net s (heard_at a.net past now i byte ++ past)) → GoesOn format received typed a b

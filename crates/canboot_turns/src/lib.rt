@@ -15,6 +15,7 @@ mod making;
 mod progress;
 mod publishing;
 mod register;
+mod repeats;
 mod saying;
 mod setting;
 mod steps;

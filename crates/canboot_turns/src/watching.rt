@@ -16,6 +16,7 @@ use crate::ending::Ending;
 use crate::progress::LiveCourse;
 use crate::publishing::Batches;
 use crate::register::LiveRegister;
+use crate::repeats::Repeats;
 use crate::saying::running;
 use crate::setting::LiveSetting;
 use crate::typing::Typing;
@@ -72,8 +73,9 @@ pub struct Watcher<
     pub(crate) register: &'w M,
     pub(crate) operator: OperatorSeat<K, B>,
     pub(crate) inputs: Inputs<B>,
-    /// The place of the error control message that was heard last.
+    /// The place of the error control message that was heard last, and which of these repeat what was told.
     pub(crate) heard_upto: u64,
+    repeats: Repeats,
     /// What of these is put off until all else was taken.
     typing: Typing,
     /// The slaves that each worker is to boot.
@@ -122,6 +124,7 @@ impl<'w, 'a, 'n, R: Wait + Clock + Drop, K: RunName, B: BusName, M: LiveRegister
             operator,
             inputs,
             heard_upto: 0,
+            repeats: Repeats::new(),
             typing: Typing::new(),
             jobs,
             versions,
@@ -216,8 +219,10 @@ impl<'w, 'a, 'n, R: Wait + Clock + Drop, K: RunName, B: BusName, M: LiveRegister
         Ok(())
     }
 
-    /// Tells the watch of an error control message. One that doesn't stand behind the last never comes.
-    fn hear_message(&mut self, message: ControlMessage<B>) -> Result<(), Ending>
+    /// Tells the watch of an error control message, unless it repeats what was told just before. One that doesn't stand behind the last
+    /// never comes.
+    fn hear_message(&mut self, message: ControlMessage<B>, now: u64) -> Result<(), Ending>
+        requires { now < 2 ^ 63 }
         ensures goes_on { IfOk result (λ _. GoesOn B.format B.text B.typed (stand_of self.old) (stand_of self.new)) }
         ensures other { result ≡ Err Ending.Asked → ⊥ }
     {
@@ -225,12 +230,17 @@ impl<'w, 'a, 'n, R: Wait + Clock + Drop, K: RunName, B: BusName, M: LiveRegister
         if place <= self.heard_upto {
             return Err(Ending::OutOfOrder);
         }
-        let now = self.course.setting.now();
+        self.heard_upto = place;
+        if self
+            .repeats
+            .is_repeated(message.node(), message.byte(), now)
+        {
+            return Ok(());
+        }
         let network = self.course.network;
         self.course
             .progress
             .hear(network, message.node(), message.byte(), now);
-        self.heard_upto = place;
         Ok(())
     }
 
@@ -240,11 +250,12 @@ impl<'w, 'a, 'n, R: Wait + Clock + Drop, K: RunName, B: BusName, M: LiveRegister
         ensures other { result ≡ Err Ending.Asked → ⊥ }
     {
         let rt = self.course.setting.rt;
+        let now = self.course.setting.now();
         for _ in 0..count {
             let Ok(message) = self.inputs.heard.try_recv(rt) else {
                 return Ok(());
             };
-            self.hear_message(message)?;
+            self.hear_message(message, now)?;
         }
         Ok(())
     }
