@@ -15,6 +15,7 @@ use Rattle.cm_run.specs.declared.workers.Booted.{Booted}
 use Rattle.cm_register.specs.Handing.{HaveTheirCalls}
 use Rattle.cm_register.specs.SeatOpening.{fresh_seat, fresh_seats}
 use Rattle.cm_register.specs.SeatCalls.{calls_of, made}
+use Rattle.cm_register.proofs.Seats.{fresh_length}
 use Rattle.cm_register.specs.SeatViews.{SeatView}
 use Rattle.cm_register.specs.declared.made.Made.{Made}
 use Rattle.cm_run.specs.Buses.{Steps}
@@ -57,10 +58,6 @@ have_booted net seats limit attempts w given buses after slaves was all from bac
 }
 
 -- ---- the seats that a register has at first
-
-fresh_length : (n : ℕ) → length (fresh_seats n) ≡ n
-fresh_length zero = refl
-fresh_length (suc n) = length-append (fresh_seats n) (fresh_seat (n + 1) ∷ []) ∙ omega (arith, fresh_length n)
 
 fresh_or : (n k : ℕ) (d : SeatView) (b : Bool) → (k == n) ≡ b → k < suc n → (k < n → get_or (fresh_seats n) k d ≡ fresh_seat (k + 1)) → get_or (fresh_seats n ++ fresh_seat (n + 1) ∷ []) k d ≡ fresh_seat (k + 1)
 fresh_or n k d true e lt was =

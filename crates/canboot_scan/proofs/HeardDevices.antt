@@ -11,10 +11,10 @@ use Rattle.cm_boot.specs.declared.question.Question.{Question}
 use Rattle.cm_boot.specs.declared.question.Question.TheVariants as ask
 use Rattle.cm_boot.specs.declared.question.Answer.{Answer}
 use Rattle.cm_boot.specs.declared.question.Answer.TheVariants as answer
-use Rattle.cm_bus.specs.Receiving.{BusView, IsGiven, IsHeard, IsHeardAs, IsPut}
+use Rattle.cm_bus.specs.Receiving.{BusView, IsAskedOver, IsGiven, IsHeard, IsHeardAs}
 use Rattle.cm_bus.proofs.Given.{within_given}
-use Rattle.cm_bus.specs.Talk.{IsAsked}
 use Rattle.cm_can.specs.declared.format.Format.{Format}
+use Rattle.cm_can.specs.declared.frame.CanFrame.{CanFrame}
 use Rattle.canboot_scan.specs.Compared.{HasExpected, IsAsListed, IsFoundAsListed}
 use Rattle.canboot_scan.specs.declared.found.Found.{Found}
 use Rattle.canboot_scan.specs.Scanning.{AreHeardAsListed, IsHeardAsListed, IsHeardDevice, found_of}
@@ -42,46 +42,47 @@ module _ (format : Format) (text : Option (List ℕ)) (node : ℕ) where
     | inr h ↦ record { place = h.place; frame = h.frame; behind = h.behind; within = omega (arith, h.within, le); stands = h.stands; answers = h.answers; same = h.same }
   ]
 
-  -- the steps of a live bus
-  abbrev Step : BusView → Question → Answer → BusView → Type 0
-  Step b q x c = IsAsked node q x b.log c.log × IsPut format text node q x b c
+  module _ {P : Type 0} (sends : P → List CanFrame → P → Type 0) where
+    -- the steps of a live bus
+    abbrev Step : BusView P → Question → Answer → BusView P → Type 0
+    Step b q x c = IsAskedOver sends format text node q x b c
 
-  read_as : (begun : ℕ) (b c : BusView) (index sub v : ℕ) → IsTrue b.goes_on → b.begun ≡ begun → Reads Step b index sub v c
-      → IsHeardAs format text node (ask.Read index sub) v begun b.heard c.heard × IsTrue c.goes_on × (c.begun ≡ begun)
-  read_as begun b c index sub v on at r =
-      let p = r.stepped.1 in
-      let same : c.begun ≡ begun = p.goes_on on ∙ at in (
-        heard_as (ask.Read index sub) v begun b.heard c.heard r.x r.is (within_given format text node (ask.Read index sub) r.x c.begun begun b.heard p.from c.heard (omega (arith, same)) p.on p.given),
-        p.still,
-        same,
-      )
+    read_as : (begun : ℕ) (b c : BusView P) (index sub v : ℕ) → IsTrue b.goes_on → b.begun ≡ begun → Reads Step b index sub v c
+        → IsHeardAs format text node (ask.Read index sub) v begun b.heard c.heard × IsTrue c.goes_on × (c.begun ≡ begun)
+    read_as begun b c index sub v on at r =
+        let p = r.stepped.put in
+        let same : c.begun ≡ begun = p.goes_on on ∙ at in (
+          heard_as (ask.Read index sub) v begun b.heard c.heard r.x r.is (within_given format text node (ask.Read index sub) r.x c.begun begun b.heard p.from c.heard (omega (arith, same)) p.on p.given),
+          p.still,
+          same,
+        )
 
-  -- a device that said what it is was heard, over a bus over which no boot went on
-  pub heard_device : (b c : BusView) (i : Identity) → IsFalse b.goes_on → Identifies Step b i c → IsHeardDevice format text (found_of node i)
-  heard_device b c i off said =
-      let p = said.device_type.1 in
-      let same : said.one.begun ≡ p.from = p.begins off in
-      let first = within_given format text node (ask.Read 4096 0) (answer.Value i.device_type) said.one.begun p.from p.from p.from said.one.heard (omega (arith, same)) (omega arith) p.given in
-      let vendor = read_as p.from said.one said.two 4120 1 i.vendor p.still same said.vendor in
-      let product = read_as p.from said.two said.three 4120 2 i.product vendor.1 vendor.2 said.product in
-      let revision = read_as p.from said.three said.four 4120 3 i.revision product.1 product.2 said.revision in
-      let serial = read_as p.from said.four c 4120 4 i.serial revision.1 revision.2 said.serial in
-      record {
-        begun = p.from;
-        upto = c.heard;
-        there = answered i.device_type p.from said.one.heard c.heard (omega (arith, vendor.0.on, product.0.on, revision.0.on, serial.0.on)) first;
-        values = record {
-          first = said.one.heard;
-          second = said.two.heard;
-          third = said.three.heard;
-          fourth = said.four.heard;
-          device_type = heard_as (ask.Read 4096 0) i.device_type p.from p.from said.one.heard (answer.Value i.device_type) refl first;
-          vendor = vendor.0;
-          product = product.0;
-          revision = revision.0;
-          serial = serial.0;
-        };
-      }
+    -- a device that said what it is was heard, over a bus over which no boot went on
+    pub heard_device : (b c : BusView P) (i : Identity) → IsFalse b.goes_on → Identifies Step b i c → IsHeardDevice format text (found_of node i)
+    heard_device b c i off said =
+        let p = said.device_type.put in
+        let same : said.one.begun ≡ p.from = p.begins off in
+        let first = within_given format text node (ask.Read 4096 0) (answer.Value i.device_type) said.one.begun p.from p.from p.from said.one.heard (omega (arith, same)) (omega arith) p.given in
+        let vendor = read_as p.from said.one said.two 4120 1 i.vendor p.still same said.vendor in
+        let product = read_as p.from said.two said.three 4120 2 i.product vendor.1 vendor.2 said.product in
+        let revision = read_as p.from said.three said.four 4120 3 i.revision product.1 product.2 said.revision in
+        let serial = read_as p.from said.four c 4120 4 i.serial revision.1 revision.2 said.serial in
+        record {
+          begun = p.from;
+          upto = c.heard;
+          there = answered i.device_type p.from said.one.heard c.heard (omega (arith, vendor.0.on, product.0.on, revision.0.on, serial.0.on)) first;
+          values = record {
+            first = said.one.heard;
+            second = said.two.heard;
+            third = said.three.heard;
+            fourth = said.four.heard;
+            device_type = heard_as (ask.Read 4096 0) i.device_type p.from p.from said.one.heard (answer.Value i.device_type) refl first;
+            vendor = vendor.0;
+            product = product.0;
+            revision = revision.0;
+            serial = serial.0;
+          };
+        }
 
   -- ---- what that says of a network list
 

@@ -8,7 +8,7 @@ use crate::scanned::NoScan;
 use cm_bus::{LiveBus, LivePort, Port, Setting, make_bus, start_receiving};
 use cm_netlist::worker_at;
 use cm_nmt::NodeId;
-use cm_receiving::{BusName, Received, Routes, Source};
+use cm_receiving::{BusName, HeardRemark, Received, Routes, Source};
 use crossbeam_channel::Sender;
 use std::alloc::{AllocError, Global};
 use std::io::{Read, Write};
@@ -91,11 +91,12 @@ fn make_askers<'a, 'n, R: Wait + Clock + Clone + Drop, B: BusName, W: Write + Dr
     Ok((askers, senders))
 }
 
-/// Whom each frame is given to that is received. Nobody is told of error control messages.
+/// Whom each frame is given to that is received: `said` to whom remarks are. Nobody is told of error control messages.
 fn make_routes<'a, 'n, R, B: BusName>(
     setting: &Setting<'a, 'n, R>,
     nodes: &[NodeId],
     workers: Vec<Sender<Received<B>>>,
+    said: Sender<HeardRemark<B>>,
 ) -> Result<Routes<B>, AllocError> {
     let (heard, _unheard) = crossbeam_channel::bounded(setting.alloc, 1)?;
     Ok(Routes {
@@ -103,6 +104,7 @@ fn make_routes<'a, 'n, R, B: BusName>(
         listening: Arc::try_clone(&setting.listening)?,
         workers,
         heard,
+        said,
         notifications: setting.notifications.clone()?,
     })
 }
@@ -148,7 +150,8 @@ fn join_askers<R: Threads, B: BusName>(
     Ok(devices)
 }
 
-/// Asks all these nodes, by workers side by side, each with a writer; the devices that answered, in no order.
+/// Asks all these nodes, by workers side by side, each with a writer; the devices that answered, in no order. What else is said on the
+/// bus is sent by `said`.
 pub(crate) fn ask_nodes<
     'a,
     'n,
@@ -161,6 +164,7 @@ pub(crate) fn ask_nodes<
     nodes: &[NodeId],
     received: I,
     written: Vec<W>,
+    said: Sender<HeardRemark<B>>,
 ) -> Result<Devices<B>, NoScan>
     requires format { setting.now.options.format ≡ B.format }
     requires text { I.remaining received ≡ B.text }
@@ -168,7 +172,7 @@ pub(crate) fn ask_nodes<
 {
     let frames = Source::<B, I>::new(received, setting.options.format);
     let (askers, hears) = make_askers(setting, nodes, written)?;
-    let routes = make_routes(setting, nodes, hears)?;
+    let routes = make_routes(setting, nodes, hears, said)?;
     start_receiving(setting.rt, routes, frames)?;
     let rt = setting.rt;
     let alloc = setting.alloc;

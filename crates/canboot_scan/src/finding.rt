@@ -10,7 +10,7 @@ use crate::scanned::{BusSaid, NoScan, Scanned, in_order};
 use cm_bus::set_up;
 use cm_can::{BusState, CanError, Remark};
 use cm_netlist::Network;
-use cm_receiving::{BusName, Notification};
+use cm_receiving::{BusName, HeardRemark, Notification};
 use cm_text::ENDLESS;
 use crossbeam_channel::Receiver;
 use std::alloc::Global;
@@ -31,6 +31,22 @@ fn take_error(said: &mut BusSaid, error: &CanError) {
     }
 }
 
+/// What the interface said of the bus so far.
+fn take_errors<R: Wait, B: BusName>(
+    rt: &R,
+    remarks: &Receiver<HeardRemark<B>>,
+    said: &mut BusSaid,
+) {
+    for _said in 0..ENDLESS {
+        let Ok(heard) = remarks.try_recv(rt) else {
+            return;
+        };
+        if let Remark::Error(error) = heard.remark() {
+            take_error(said, &error);
+        }
+    }
+}
+
 /// What was told of the bus so far, while its nodes were asked.
 fn told_of<R: Wait>(rt: &R, notifications: &Receiver<Notification>) -> BusSaid {
     let mut said = BusSaid {
@@ -43,7 +59,6 @@ fn told_of<R: Wait>(rt: &R, notifications: &Receiver<Notification>) -> BusSaid {
         match notifications.try_recv(rt) {
             Ok(Notification::NoMoreHeard) => said.is_over = true,
             Ok(Notification::NoFrames) => said.are_strange = true,
-            Ok(Notification::Said(Remark::Error(error))) => take_error(&mut said, &error),
             Ok(_) => {}
             Err(_) => break,
         }
@@ -70,11 +85,13 @@ fn find_on<
     } = scan;
     let (setting, notifications) = set_up(rt, alloc, network, options)?;
     let ScanEnds { received, written } = ends;
-    let devices = ask_nodes::<_, B, _, _>(&setting, nodes, received, written)?;
+    let (tells_said, remarks) = crossbeam_channel::unbounded(alloc)?;
+    let devices = ask_nodes::<_, B, _, _>(&setting, nodes, received, written, tells_said)?;
     if setting.broken.load(Ordering::SeqCst) {
         return Err(NoScan::NotWritten);
     }
-    let said = told_of(rt, &notifications);
+    let mut said = told_of(rt, &notifications);
+    take_errors(rt, &remarks, &mut said);
     if said.is_over {
         return Err(NoScan::NotHeard);
     }

@@ -1,5 +1,5 @@
 -- What is kept of a live run goes on from step to step.
-use Rattle.std.proofs.Common.{◌≡◌, ◌<◌, ◌≤◌, arith, ℕ, List, [], ◌∷◌, ◌++◌, Option, Some, None, Result, Ok, Err, Bool, true, false, inl, inr, ◌⊎◌, refl, sym, subst, ◌∙◌, append_assoc, ap}
+use Rattle.std.proofs.Common.{◌≡◌, ◌<◌, ◌≤◌, arith, ℕ, List, [], ◌∷◌, ◌++◌, Option, Some, None, Result, Ok, Err, Bool, true, false, refl, sym, subst, ◌∙◌, append_assoc, ap}
 use Rattle.std.specs.Prelude.{IfNone, IfOk}
 use Rattle.std.specs.Result.{IsErrAnd}
 use Rattle.std.proofs.lemmas.List.{append-nil}
@@ -243,9 +243,8 @@ module _ (format : Format) (received typed : Option (List ℕ)) where
   }
 
   typed_on : (a b : Stand) (s : Settings) (past : Past) (now : ℕ) → b.heard ≡ a.heard
-      → ((b.seat ≡ a.seat) × Follows b.progress a.net s past) ⊎ HasObeyedLine typed b.progress a.net s past now a.seat b.seat → HasGoneOn Any format received typed s past a b
-  typed_on a b s past now heard (inl none) = record { causes = []; each = omega (arith, heard); follows = none.1; made = no_calls a.seat b.seat none.0; course = tt }
-  typed_on a b s past now heard (inr line) =
+      → HasObeyedLine typed b.progress a.net s past now a.seat b.seat → HasGoneOn Any format received typed s past a b
+  typed_on a b s past now heard line =
       record {
         causes = Obeyed now line.place line.line ∷ [];
         each = alone (Obeyed now line.place line.line) a.heard b.heard heard (omega (arith, heard), line.stands);

@@ -1,5 +1,5 @@
 -- How what is kept of a live run goes on with what happens (own).
-use Rattle.std.specs.Prelude.{◌≡◌, ◌⊎◌, ◌+◌, ◌*◌, ◌++◌, ◌∷◌, [], ℕ, List, length, map, Option, Some, None}
+use Rattle.std.specs.Prelude.{◌≡◌, ◌+◌, ◌*◌, ◌++◌, ◌∷◌, [], ℕ, List, length, map, Option, Some, None}
 use Rattle.cm_crew.specs.CallsMade.{calls_made}
 use Rattle.cm_history.specs.OrderFrames.{frames_of}
 use Rattle.cm_history.specs.declared.call.Entry.{Entry}
@@ -90,13 +90,12 @@ ends_behind (Some seconds) now = (now, moment.Happened (happening.Ends (now + se
 
 -- what comes, at its time, of what has happened in a live run that goes on so many seconds once nothing is typed any more: the watch is
 -- told of the end of a worker's attempts, the entries that come next in the history, when the
--- run is to end; a line that was typed is obeyed, if there is one; of what else comes it is told nothing, and no call is made
+-- run is to end; a line that was typed is obeyed; of what else comes it is told nothing, and no call is made
 abbrev pub HasTaken : Notification → Option ℕ → Option (List ℕ) → Progress Entry → Network → Settings → Past → ℕ → SeatView → SeatView → Type 0
 HasTaken (live.Ended i fault) seconds typed p net s past now old new =
     (new ≡ old) × Follows p net s ((now, moment.Happened (happening.Ended i)) ∷ past)
 HasTaken (live.Entered position e) seconds typed p net s past now old new = (new ≡ old) × HasToldEntries p net s past now
-HasTaken live.Typed seconds typed p net s past now old new =
-    ((new ≡ old) × Follows p net s past) ⊎ HasObeyedLine typed p net s past now old new
+HasTaken live.Typed seconds typed p net s past now old new = HasObeyedLine typed p net s past now old new
 HasTaken live.NoMoreTyped seconds typed p net s past now old new =
     (new ≡ old) × Follows p net s (ends_behind seconds now ++ past)
 HasTaken _ seconds typed p net s past now old new = (new ≡ old) × Follows p net s past

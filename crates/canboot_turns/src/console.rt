@@ -182,7 +182,7 @@ impl<'w, 'a, 'n, R: Wait + Clock + Drop, K: RunName, B: BusName, M: LiveRegister
     }
 
     /// Does what the operator has typed next. Its line was sent before it was told that there is one, so it is waited for: a look that
-    /// doesn't wait may miss it while the next one is sent.
+    /// doesn't wait may miss it while the next one is sent. That none comes never comes.
     pub(crate) fn obey_next<E: Write>(&mut self, err: &mut E, now: u64) -> Result<(), Ending>
         requires { now < 2 ^ 63 }
         ensures obeyed { (s : WatchSettings) (past : Past) → Follows self.old.course.progress self.old.course.network.now s past
@@ -194,7 +194,7 @@ impl<'w, 'a, 'n, R: Wait + Clock + Drop, K: RunName, B: BusName, M: LiveRegister
     {
         match self.inputs.typed.recv(self.course.setting.rt) {
             Ok(line) => self.obey(err, &line, now),
-            Err(_) => Ok(()),
+            Err(_) => Err(Ending::OutOfOrder),
         }
     }
 

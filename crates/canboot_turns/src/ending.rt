@@ -16,7 +16,7 @@ pub enum Ending {
     NotWritten,
     /// Memory was refused.
     OutOfMemory,
-    /// A line that was typed, or an error control message, came behind a later one; this never comes.
+    /// A line that was typed, or an error control message, came behind a later one, or not where it was told; this never comes.
     OutOfOrder,
     /// A call couldn't be made.
     NotCalled(CallFault),

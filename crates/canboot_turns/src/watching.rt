@@ -27,7 +27,7 @@ use cm_crew::OperatorSeat;
 use cm_history::Call;
 use cm_nmt::NodeId;
 use cm_operator::TypedLine;
-use cm_receiving::{BusName, ControlMessage, Notification};
+use cm_receiving::{BusName, ControlMessage, HeardRemark, Notification};
 use cm_register::RunName;
 use cm_versions::{Publisher, VersionReader};
 use cm_watch::Pace;
@@ -54,6 +54,8 @@ const MOST_OBEYED_MS: u64 = 10;
 pub struct Inputs<B: BusName> {
     /// The error control messages of listed nodes.
     pub heard: Receiver<ControlMessage<B>>,
+    /// What else is said on the bus.
+    pub said: Receiver<HeardRemark<B>>,
     /// The lines that the operator types.
     pub typed: Receiver<TypedLine<B>>,
 }
@@ -334,9 +336,15 @@ impl<'w, 'a, 'n, R: Wait + Clock + Drop, K: RunName, B: BusName, M: LiveRegister
         let setting = self.course.setting;
         let now = setting.now();
         let seat = self.operator.as_seat();
-        self.course
-            .keep_up(err, outlet, &mut self.versions, seat, now)?;
-        if !self.pace.look(now, setting.listening.received()) {
+        self.course.keep_up(
+            err,
+            outlet,
+            &mut self.versions,
+            &self.inputs.said,
+            seat,
+            now,
+        )?;
+        if !self.pace.look(now, setting.listening.received().bytes()) {
             return Ok(());
         }
         if self.make_steps(err, now)? {

@@ -45,9 +45,9 @@ module _ (format : Format) (text : Option (List ℕ)) (node : ℕ) (q : Question
   given_silent begun from mid upto on same = record { on = omega (arith, on, same); given = inl refl }
 
   -- a question is put: its answer is behind what had been read, and behind the frame that was heard last
-  pub put : (x : Answer) (b c : BusView) (read from : ℕ) → from ≡ behind b.heard read → c.begun ≡ (if b.goes_on then b.begun else from) → IsTrue c.goes_on → IsGiven format text node q x c.begun from c.heard
+  pub put : {P : Type 0} (x : Answer) (b c : BusView P) (read from : ℕ) → from ≡ behind b.heard read → c.begun ≡ (if b.goes_on then b.begun else from) → IsTrue c.goes_on → IsGiven format text node q x c.begun from c.heard
       → IsPut format text node q x b c
-  put x b c read from is begun still given = record {
+  put {P} x b c read from is begun still given = record {
     from = from;
     on = omega (arith, is, le-max_left b.heard (read - 1));
     begins = kept b.goes_on b.begun from c.begun begun;

@@ -1,5 +1,5 @@
 -- What is heard while an answer is waited for, and what a question leaves in the log.
-use Rattle.std.proofs.Common.{◌≡◌, ◌<◌, ◌≤◌, ◌+◌, ℕ, List, [], ◌∷◌, ◌++◌, length, refl, sym, ap, ◌∙◌, inl, inr, append_assoc, arith, length-append}
+use Rattle.std.proofs.Common.{◌≡◌, ◌<◌, ◌≤◌, ◌+◌, ℕ, List, [], ◌∷◌, ◌++◌, length, refl, sym, ap, ◌∙◌, inl, inr, append_assoc, arith, length-append, subst}
 use Rattle.std.specs.Prelude.{Option, Some, None}
 use Rattle.std.proofs.lemmas.List.{append-nil, length-map, map-append}
 use Rattle.std.proofs.lemmas.List.Elements.{All-nil, All-cons, All-append}
@@ -7,9 +7,10 @@ use Rattle.cm_boot.specs.declared.question.Question.{Question}
 use Rattle.cm_boot.specs.declared.question.Answer.{Answer}
 use Rattle.cm_can.specs.declared.frame.CanFrame.{CanFrame}
 use Rattle.cm_can.specs.Questions.{IsAnswer}
-use Rattle.cm_bus.specs.Talk.{HasAsked, HasPut, HasWaited, IsAsked, IsAsking, IsClosing, NoneAnswers, answer_in, ending_of, frame_in, heard}
+use Rattle.cm_bus.specs.Sent.{sent_in}
+use Rattle.cm_bus.specs.Talk.{HasPut, HasWaited, IsAsking, IsClosing, IsTalk, NoneAnswers, answer_in, ending_of, frame_in, heard}
 use Rattle.cm_bus.specs.declared.event.PortEvent.{PortEvent}
-use Rattle.cm_bus.specs.declared.event.PortEvent.TheVariants.{Heard, Expired}
+use Rattle.cm_bus.specs.declared.event.PortEvent.TheVariants.{Sent, Heard, Expired}
 use Rattle.cm_bus.specs.declared.bus.Reply.{Reply}
 
 abbrev pub AnswersNot : ℕ → Question → CanFrame → Type 0
@@ -84,38 +85,63 @@ waited_long node q r old new w =
 pub asking_short : (node : ℕ) (q : Question) (old new : List PortEvent) → HasPut (IsAsking node q) old new → length new ≤ length old + 1
 asking_short node q old new p = omega (arith, ap length p.grown, length-append old p.events, one_asking node q p.events p.is)
 
--- a question is asked: the request, what was waited for, and what closes the transfer
-pub asked_whole : (node : ℕ) (q : Question) (x : Answer) (r : Option Reply) (old first second new : List PortEvent) → HasPut (IsAsking node q) old first → HasWaited node q r first second
-    → HasPut (IsClosing node q (frame_in r)) second new → x ≡ answer_in r → HasAsked node q x old new
-asked_whole node q x r old first second new a w c e =
+-- ---- the frames that were sent, of what stands in a log
+
+sent_append : (es fs : List PortEvent) → sent_in (es ++ fs) ≡ sent_in es ++ sent_in fs
+sent_append [] fs = refl
+sent_append (Sent f ∷ es) fs = ap (λ (l : List CanFrame). f ∷ l) (sent_append es fs)
+sent_append (Heard f ∷ es) fs = sent_append es fs
+sent_append (Expired ∷ es) fs = sent_append es fs
+
+sent_heard : (fs : List CanFrame) → sent_in (heard fs) ≡ []
+sent_heard [] = refl
+sent_heard (f ∷ fs) = sent_heard fs
+
+sent_ending : (last : Option CanFrame) → sent_in (ending_of last) ≡ []
+sent_ending None = refl
+sent_ending (Some f) = refl
+
+-- of a talk they are those of its request and of its abort
+sent_talk : (a : List PortEvent) (others : List CanFrame) (last : Option CanFrame) (c : List PortEvent)
+    → sent_in (a ++ (heard others ++ (ending_of last ++ c))) ≡ sent_in a ++ sent_in c
+sent_talk a others last c =
+    let rest : List PortEvent = ending_of last ++ c in
+    sent_append a (heard others ++ rest) ∙ ap (λ (l : List CanFrame). sent_in a ++ l) (
+    sent_append (heard others) rest ∙ (ap (λ (l : List CanFrame). l ++ sent_in rest) (sent_heard others)
+    ∙ (sent_append (ending_of last) c ∙ ap (λ (l : List CanFrame). l ++ sent_in c) (sent_ending last))))
+
+-- a question is asked: the request, what was waited for, and what closes the transfer, with what the port sent
+pub asked_whole : {P : Type 0} (sends : P → List CanFrame → P → Type 0)
+    → ((a b c : P) (fs gs : List CanFrame) → sends a fs b → sends b gs c → sends a (fs ++ gs) c)
+    → (node : ℕ) (q : Question) (x : Answer) (r : Option Reply) (p0 p1 p2 p3 : P) (old first second new : List PortEvent)
+    → HasPut (λ (es : List PortEvent). IsAsking node q es × sends p0 (sent_in es) p1) old first
+    → HasWaited node q r first second → sends p1 [] p2
+    → HasPut (λ (es : List PortEvent). IsClosing node q (frame_in r) es × sends p2 (sent_in es) p3) second new
+    → x ≡ answer_in r
+    → HasPut (λ (talk : List PortEvent). IsTalk node q x talk × sends p0 (sent_in talk) p3) old new
+asked_whole {P} sends more node q x r p0 p1 p2 p3 old first second new a w s c e =
     let wait : List PortEvent = heard w.others ++ ending_of (frame_in r) in
     record {
-      talk = a.events ++ (heard w.others ++ (ending_of (frame_in r) ++ c.events));
-      is = record {
-        asking = a.events;
-        others = w.others;
-        last = frame_in r;
-        closing = c.events;
-        asks = a.is;
-        passed = w.passed;
-        few = w.few;
-        ends = rw e w.ends;
-        closes = c.is;
-        whole = refl;
-      };
+      events = a.events ++ (heard w.others ++ (ending_of (frame_in r) ++ c.events));
+      is = (
+        record {
+          asking = a.events;
+          others = w.others;
+          last = frame_in r;
+          closing = c.events;
+          asks = a.is.0;
+          passed = w.passed;
+          few = w.few;
+          ends = rw e w.ends;
+          closes = c.is.0;
+          whole = refl;
+        },
+        subst (λ (fs : List CanFrame). sends p0 fs p3) (sym (sent_talk a.events w.others (frame_in r) c.events))
+            (more p0 p1 p3 (sent_in a.events) (sent_in c.events) a.is.1 (more p1 p2 p3 [] (sent_in c.events) s c.is.1)),
+      );
       grown = c.grown
           ∙ (ap (λ (l : List PortEvent). l ++ c.events) (w.grown ∙ ap (λ (l : List PortEvent). l ++ wait) a.grown)
           ∙ (append_assoc (old ++ a.events) wait c.events
           ∙ (append_assoc old a.events (wait ++ c.events)
           ∙ ap (λ (l : List PortEvent). old ++ (a.events ++ l)) (append_assoc (heard w.others) (ending_of (frame_in r)) c.events))));
     }
-
--- where the log was emptied if it had no room
-pub asked_anew : (node : ℕ) (q : Question) (x : Answer) (old mid new : List PortEvent) → (length old + 67 ≤ 27470 → mid ≡ old) → (27470 < length old + 67 → mid ≡ []) → HasAsked node q x mid new
-    → IsAsked node q x old new
-asked_anew node q x old mid new kept emptied a = record {
-  talk = a.talk;
-  is = a.is;
-  grown = λ h. a.grown ∙ ap (λ (l : List PortEvent). l ++ a.talk) (kept h);
-  anew = λ h. a.grown ∙ ap (λ (l : List PortEvent). l ++ a.talk) (emptied h);
-}

@@ -3,6 +3,7 @@ pub mod Opening
 pub mod Outlets
 pub mod Patience
 pub mod Receiving
+pub mod SendLaws
 pub mod Sent
 pub mod Talk
 pub mod Waits

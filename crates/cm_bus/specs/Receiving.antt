@@ -14,17 +14,20 @@ use Rattle.cm_history.specs.Orders.{is_start_of}
 use Rattle.cm_history.specs.declared.call.Call.{Call}
 use Rattle.cm_history.specs.declared.call.Call.TheVariants as call
 use Rattle.cm_history.specs.declared.call.Entry.{Entry}
+use Rattle.cm_bus.specs.Sent.{sent_in}
+use Rattle.cm_bus.specs.Talk.{IsAsked}
 use Rattle.cm_bus.specs.declared.event.PortEvent.{PortEvent}
 use Rattle.cm_can.specs.declared.format.Format.{Format}
 use Rattle.cm_receiving.specs.Places.{NoBootUp, StandsIn}
 
 -- what a contract sees of a worker's bus: its log, the place behind which the next frame is heard, the one behind which the answers of
--- the last boot are, and whether that boot goes on: its first question was asked, and its end didn't come yet
-pub record BusView : Type 0 where
+-- the last boot are, whether that boot goes on: its first question was asked, and its end didn't come yet; and its port
+pub record BusView (P : Type 0) : Type 0 where
   pub log : List PortEvent
   pub heard : ℕ
   pub begun : ℕ
   pub goes_on : Bool
+  pub port : P
 
 -- a frame that stands in the text, behind the place `from` and at `upto` at the latest, answers the question to the node, with
 -- this answer; between `begun` and the frame no boot-up message of the node stands
@@ -44,7 +47,7 @@ pub record IsGiven (format : Format) (text : Option (List ℕ)) (node : ℕ) (q 
 
 -- a worker's bus put a question to the node, and this is the answer: the boot goes on with it, or begins with it, at the place behind
 -- which its answer is heard
-pub record IsPut (format : Format) (text : Option (List ℕ)) (node : ℕ) (q : Question) (x : Answer) (b c : BusView) : Type 0 where
+pub record IsPut {P : Type 0} (format : Format) (text : Option (List ℕ)) (node : ℕ) (q : Question) (x : Answer) (b c : BusView P) : Type 0 where
   pub from : ℕ
   pub on : b.heard ≤ from
   pub begins : IsFalse b.goes_on → c.begun ≡ from
@@ -53,10 +56,19 @@ pub record IsPut (format : Format) (text : Option (List ℕ)) (node : ℕ) (q : 
   pub given : IsGiven format text node q x c.begun from c.heard
 
 -- a worker's bus whose boot has ended, and which is else as it was
-pub record EndsBoot (b c : BusView) : Type 0 where
+pub record EndsBoot {P : Type 0} (b c : BusView P) : Type 0 where
   pub log : c.log ≡ b.log
   pub heard : c.heard ≡ b.heard
   pub ended : IsFalse c.goes_on
+  pub port : c.port ≡ b.port
+
+-- a question to the node was asked over a worker's bus, and this is the answer: the log has its talk, and the port sent the frames of
+-- this talk, each once, and no other; and how the answer was heard
+pub record IsAskedOver {P : Type 0} (sends : P → List CanFrame → P → Type 0) (format : Format) (text : Option (List ℕ)) (node : ℕ) (q : Question)
+    (x : Answer) (b c : BusView P) : Type 0 where
+  pub asked : IsAsked node q x b.log c.log
+  pub sent : sends b.port (sent_in asked.talk) c.port
+  pub put : IsPut format text node q x b c
 
 -- the answers to these questions were given so, each behind the one before
 abbrev pub AreGiven : Format → Option (List ℕ) → ℕ → ℕ → List (Question × Answer) → ℕ → ℕ → Type 0

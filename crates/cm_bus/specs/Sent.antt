@@ -1,11 +1,13 @@
 -- What was written by who sends frames of one kind alone (own).
-use Rattle.std.specs.Prelude.{◌≡◌, ◌+◌, ℕ, false, List, [], ◌∷◌, ◌++◌, Option, Some, None, get_or, map}
+use Rattle.std.specs.Prelude.{◌≡◌, ◌+◌, ℕ, true, false, List, [], ◌∷◌, ◌++◌, Option, Some, None, get_or, map}
 use Rattle.std.specs.List.{AllByRecursion}
 use Rattle.std.specs.Io.KnownBytes.{Appends}
 use Rattle.cm_can.specs.declared.format.Format.{Format}
 use Rattle.cm_can.specs.declared.frame.CanFrame.{CanFrame}
 use Rattle.cm_text.specs.Fronts.{AppendsFront}
 use Rattle.cm_bus.specs.Outlets.{IsLine}
+use Rattle.cm_bus.specs.declared.event.PortEvent.{PortEvent}
+use Rattle.cm_bus.specs.declared.event.PortEvent.TheVariants as event
 use Rattle.cm_bus.specs.declared.outlet.Outlet.{Outlet}
 
 -- a text of lines, one for each frame
@@ -32,6 +34,23 @@ abbrev pub AreWrittenFrom : {W : Type 0} → (CanFrame → Type 0) → (W → Op
 AreWrittenFrom Is contents format had k [] = Unit {0}
 AreWrittenFrom Is contents format had k (o ∷ outlets) =
     HasWritten Is contents format (had (Some k)) o × AreWrittenFrom Is contents format had (k + 1) outlets
+
+-- just the lines of these frames were written, in their order
+abbrev pub WritesFrames : Format → List CanFrame → Option (List ℕ) → Option (List ℕ) → Type 0
+WritesFrames format frames old new = (text : List ℕ) × AreFrameLines format frames text × Appends old new text
+
+-- from the one moment to the other these frames were handed to the outlet: where no write of it has failed, just their lines were
+-- written; where one had failed before, nothing was
+pub record Sends {W : Type 0} (contents : W → Option (List ℕ)) (old : Outlet W) (frames : List CanFrame) (new : Outlet W) : Type 0 where
+  pub format : new.format ≡ old.format
+  pub stopped : old.failed ≡ true → new ≡ old
+  pub written : new.failed ≡ false → WritesFrames old.format frames (contents old.writer) (contents new.writer)
+
+-- the frames that were sent, of what went over a port
+abbrev pub sent_in : List PortEvent → List CanFrame
+sent_in [] = []
+sent_in (event.Sent f ∷ events) = f ∷ sent_in events
+sent_in (_ ∷ events) = sent_in events
 
 -- what contracts see of an outlet for frames of one kind: the outlet, and the worker whose it is
 pub record CausedOutletView (O : Type 0) : Type 0 where

@@ -77,12 +77,6 @@ pub record HasPut (P : List PortEvent → Type 0) (old new : List PortEvent) : T
   pub is : P events
   pub grown : new ≡ old ++ events
 
--- the log grew by the talk of the question
-pub record HasAsked (node : ℕ) (q : Question) (x : Answer) (old new : List PortEvent) : Type 0 where
-  pub talk : List PortEvent
-  pub is : IsTalk node q x talk
-  pub grown : new ≡ old ++ talk
-
 -- the question was asked: the log grew by its talk, or, where it had no room for that, is this talk alone
 pub record IsAsked (node : ℕ) (q : Question) (x : Answer) (old new : List PortEvent) : Type 0 where
   pub talk : List PortEvent

@@ -1,7 +1,8 @@
 //! The bus of one worker.
 ghost use Rattle.std.specs.Prelude.{◌≡◌, ◌+◌, ◌<◌, ◌≤◌, ◌++◌, ◌∷◌, [], ℕ, if◌then◌else◌, IfNone, IfOk, IfSome, None, false, vec_capacity, vec_len};
 ghost use Rattle.cm_netlist.specs.Network.{entry};
-ghost use Rattle.cm_bus.specs.Talk.{HasAsked, HasPut, HasWaited, IsAbort, IsAbortCode, IsAsking, IsClosing, answer_in, frame_in};
+ghost use Rattle.cm_bus.specs.Sent.{sent_in};
+ghost use Rattle.cm_bus.specs.Talk.{HasPut, HasWaited, IsAbort, IsAbortCode, IsAsking, IsClosing, IsTalk, answer_in, frame_in};
 ghost use Rattle.cm_bus.specs.Receiving.{EndsBoot, IsGiven};
 ghost use Rattle.cm_bus.specs.Waits.{beat_ms, behind, wait_ms};
 
@@ -14,7 +15,7 @@ use cm_can::{
 };
 use cm_netlist::Network;
 use cm_nmt::NodeId;
-use cm_receiving::BusName;
+use cm_receiving::{BusName, ReadMark};
 use std::alloc::{AllocError, Global};
 use std::marker::{Model, PhantomData};
 
@@ -32,9 +33,9 @@ const MOST_EVENTS: usize = 27_470;
 /// the log was emptied; a log that is full is emptied for the next question, and no round of a worker fills one. A boot
 /// begins with its first question, and goes on until its end is told: of a slave that has booted up since it began, or whose
 /// answers to one question contradicted each other, nothing more is heard in it, since what comes then may be another device's.
-/// Contracts see the log, the places behind which frames are heard, and whether a boot goes on.
+/// Contracts see the log, the places behind which frames are heard, whether a boot goes on, and the port.
 #[derive(Drop)]
-pub struct LiveBus<'n, B: BusName, P: Port<B>> {
+pub struct LiveBus<'n, B: BusName, P: Drop> {
     network: &'n Network,
     answer_ms: u32,
     port: P,
@@ -51,13 +52,13 @@ pub struct LiveBus<'n, B: BusName, P: Port<B>> {
     of: PhantomData<B>,
 }
 
-impl<'n, B: BusName, P: Port<B>> Model for LiveBus<'n, B, P> {
+impl<'n, B: BusName, P: Drop> Model for LiveBus<'n, B, P> {
     ghost use Rattle.std.specs.Prelude.{◌≤◌, vec_capacity};
     ghost use Rattle.cm_bus.specs.Receiving.{BusView};
 
-    ghost Value = { BusView };
+    ghost Value = { BusView P };
 
-    ghost view = { λ b. record { log = b.log.items; heard = b.last; begun = b.begun; goes_on = b.goes_on } };
+    ghost view = { λ b. record { log = b.log.items; heard = b.last; begun = b.begun; goes_on = b.goes_on; port = b.port } };
 
     ghost invariant = { λ b. 27470 ≤ vec_capacity b.log };
 }
@@ -119,6 +120,7 @@ fn wait_for<B: BusName, P: Port<B>>(
 ) -> Option<Reply>
     requires room { vec_len log.old + 65 ≤ vec_capacity log.old }
     ensures waited { HasWaited id question.now result log.old.items log.new.items }
+    ensures sent { P.sends port.old [] port.new }
     ensures given { IsGiven B.format B.text id question.now (answer_in result) begun last.old last.new }
     ensures capacity { vec_capacity log.new ≡ vec_capacity log.old }
 {
@@ -144,6 +146,7 @@ fn wait_for<B: BusName, P: Port<B>>(
 fn send<B: BusName, P: Port<B>>(port: &mut P, log: &mut Vec<PortEvent>, request: Request)
     requires room { vec_len log.old < vec_capacity log.old }
     ensures log { log.new.items ≡ log.old.items ++ PortEvent.Sent request.frame ∷ [] }
+    ensures sent { P.sends port.old (request.frame ∷ []) port.new }
     ensures capacity { vec_capacity log.new ≡ vec_capacity log.old }
 {
     port.send(&request);
@@ -158,7 +161,8 @@ fn send_request<B: BusName, P: Port<B>>(
     question: &Question,
 )
     requires room { vec_len log.old < vec_capacity log.old }
-    ensures asking { HasPut (IsAsking id question.now) log.old.items log.new.items }
+    ensures asking { HasPut (λ events. IsAsking id question.now events × P.sends port.old (sent_in events) port.new)
+        log.old.items log.new.items }
     ensures capacity { vec_capacity log.new ≡ vec_capacity log.old }
 {
     match request_of(id, question) {
@@ -186,7 +190,8 @@ fn close_transfer<B: BusName, P: Port<B>>(
     reply: &Option<Reply>,
 )
     requires room { vec_len log.old < vec_capacity log.old }
-    ensures closing { HasPut (IsClosing id question.now (frame_in reply.now)) log.old.items log.new.items }
+    ensures closing { HasPut (λ events. IsClosing id question.now (frame_in reply.now) events
+        × P.sends port.old (sent_in events) port.new) log.old.items log.new.items }
     ensures capacity { vec_capacity log.new ≡ vec_capacity log.old }
 {
     match abort_of(id, question, frame_in(reply)) {
@@ -206,10 +211,10 @@ fn answer_in(reply: Option<Reply>) -> Answer
 }
 
 /// Raises the place behind which frames are heard, where so many bytes were read by now.
-fn raise(last: &mut u64, read: u64)
-    ensures { last.new ≡ behind last.old read }
+fn raise(last: &mut u64, read: &ReadMark)
+    ensures { last.new ≡ behind last.old read.now.bytes }
 {
-    let before = read.saturating_sub(1);
+    let before = read.bytes().saturating_sub(1);
     if *last < before {
         *last = before;
     }
@@ -233,7 +238,8 @@ fn ask_by<B: BusName, P: Port<B>>(
     question: &Question,
 ) -> Answer
     requires room { vec_len log.old + 67 ≤ vec_capacity log.old }
-    ensures asked { HasAsked id question.now result log.old.items log.new.items }
+    ensures asked { HasPut (λ talk. IsTalk id question.now result talk × P.sends port.old (sent_in talk) port.new)
+        log.old.items log.new.items }
     ensures given { IsGiven B.format B.text id question.now result begun last.old last.new }
     ensures capacity { vec_capacity log.new ≡ vec_capacity log.old }
 {
@@ -265,7 +271,7 @@ impl<'n, B: BusName, P: Port<B>> LiveBus<'n, B, P> {
         answer_ms: u32,
         port: P,
     ) -> Result<LiveBus<'n, B, P>, AllocError>
-        ensures { IfOk result (λ b. (b.log ≡ []) × (b.heard ≡ 0) × (b.goes_on ≡ false)) }
+        ensures { IfOk result (λ b. (b.log ≡ []) × (b.heard ≡ 0) × (b.goes_on ≡ false) × (b.port ≡ port)) }
     {
         let log = Vec::with_capacity(alloc, MOST_EVENTS)?;
         Ok(LiveBus {
@@ -286,6 +292,7 @@ impl<'n, B: BusName, P: Port<B>> LiveBus<'n, B, P> {
         ensures heard { self.new.heard ≡ self.old.heard }
         ensures begun { self.new.begun ≡ self.old.begun }
         ensures ended { self.new.goes_on ≡ false }
+        ensures port { self.new.port ≡ self.old.port }
     {
         self.log.clear();
         self.goes_on = false;
@@ -304,9 +311,10 @@ impl<'n, B: BusName, P: Port<B>> LiveBus<'n, B, P> {
         self.goes_on && self.port.last_boot_up(id) > self.begun
     }
 
-    /// Talks with a device beside the questions, where an answer is waited for as long as theirs. Nothing of it stands in the log.
+    /// Talks with a device beside the questions, where an answer is waited for as long as theirs. Nothing of it stands in the log; the
+    /// port sends the requests of the talk.
     pub fn talk<T: Talk<B>>(&mut self, talk: &mut T)
-        ensures { self.new ≡ self.old }
+        ensures { self.new ≡ record self.old { port = self.new.port } }
     {
         talk.over(&mut self.port, self.answer_ms);
     }
@@ -319,7 +327,9 @@ impl<'n, B: BusName, P: Port<B>> LiveBus<'n, B, P> {
     }
 
     /// The port.
-    pub fn into_port(self) -> P {
+    pub fn into_port(self) -> P
+        ensures { result ≡ self.entry.port }
+    {
         self.port
     }
 }
@@ -351,17 +361,16 @@ fn wait_of(network: &Network, answer_ms: u32, id: NodeId, question: &Question) -
 }
 
 impl<'n, B: BusName, P: Port<B>> Bus for LiveBus<'n, B, P> {
-    ghost use Rattle.cm_bus.specs.Talk.{IsAsked};
-    ghost use Rattle.cm_bus.specs.Receiving.{IsPut};
+    ghost use Rattle.cm_bus.specs.Receiving.{IsAskedOver};
 
-    ghost step = { λ b id q x c. IsAsked id q x b.log c.log × IsPut B.format B.text id q x b c };
+    ghost step = { λ b id q x c. IsAskedOver P.sends B.format B.text id q x b c };
 
     fn ask(&mut self, id: NodeId, question: Question) -> Answer {
         make_room(&mut self.log);
         let wait = wait_of(self.network, self.answer_ms, id, &question);
         self.port.listen(id, &question, wait);
         let read = self.port.received();
-        raise(&mut self.last, read);
+        raise(&mut self.last, &read);
         self.begun = begun_at(self.goes_on, self.begun, self.last);
         self.goes_on = true;
         ask_by(

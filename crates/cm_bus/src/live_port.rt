@@ -1,5 +1,4 @@
-ghost use Rattle.std.specs.Prelude.{◌≡◌, IfNone, IsFalse, IsTrue, None};
-ghost use Rattle.cm_bus.specs.Outlets.{Writes};
+ghost use Rattle.std.specs.Prelude.{◌≡◌, ◌∷◌, [], IfNone, None};
 ghost use Rattle.cm_bus.specs.Patience.{next_part};
 
 use crate::caused_outlet::CausedOutlet;
@@ -8,7 +7,7 @@ use crate::port::Port;
 use cm_boot::Question;
 use cm_can::Request;
 use cm_nmt::NodeId;
-use cm_receiving::{BusName, Listening, Received, ms_in};
+use cm_receiving::{BusName, Listening, ReadMark, Received, ms_in};
 use cm_text::ENDLESS;
 use crossbeam_channel::Receiver;
 use std::io::Write;
@@ -54,6 +53,15 @@ impl<R: Wait + Clock + Drop, B: BusName, W: Write + Drop> LivePort<R, B, W> {
 }
 
 impl<R: Wait + Clock + Drop, B: BusName, W: Write + Drop> Port<B> for LivePort<R, B, W> {
+    ghost use Rattle.cm_bus.specs.Sent.{Sends};
+    ghost use Rattle.cm_bus.specs.SendLaws.{sends_more, sends_none};
+
+    ghost sends = { λ p frames q. Sends W.contents p.outlet.outlet frames q.outlet.outlet };
+
+    ghost sends_none = { λ a. sends_none W.contents a.outlet.outlet };
+
+    ghost sends_more = { λ a b c fs gs x y. sends_more W.contents a.outlet.outlet b.outlet.outlet c.outlet.outlet fs gs x y };
+
     fn listen(&mut self, node: NodeId, question: &Question, wait_ms: u32)
         ensures { self.new.outlet ≡ self.old.outlet }
     {
@@ -66,7 +74,7 @@ impl<R: Wait + Clock + Drop, B: BusName, W: Write + Drop> Port<B> for LivePort<R
         self.patience = Patience::new(wait_ms);
     }
 
-    fn received(&self) -> u64 {
+    fn received(&self) -> ReadMark {
         self.listening.received()
     }
 
@@ -75,9 +83,7 @@ impl<R: Wait + Clock + Drop, B: BusName, W: Write + Drop> Port<B> for LivePort<R
     }
 
     fn send(&mut self, request: &Request)
-        ensures written { IsFalse self.new.outlet.outlet.failed → Writes self.old.outlet.outlet.format request.now.frame
-            (W.contents self.old.outlet.outlet.writer) (W.contents self.new.outlet.outlet.writer) }
-        ensures stopped { IsTrue self.old.outlet.outlet.failed → self.new.outlet.outlet ≡ self.old.outlet.outlet }
+        ensures sent { Sends W.contents self.old.outlet.outlet (request.now.frame ∷ []) self.new.outlet.outlet }
         ensures worker { self.new.outlet.worker ≡ self.old.outlet.worker }
     {
         self.outlet.send(request);

@@ -9,7 +9,7 @@ use crate::live_port::LivePort;
 use crate::outlet::Outlet;
 use crate::patience::Patience;
 use crate::setting::Setting;
-use cm_receiving::{BusName, ControlMessage, Received, Routes, Source};
+use cm_receiving::{BusName, ControlMessage, HeardRemark, Received, Routes, Source};
 use crossbeam_channel::Sender;
 use std::alloc::AllocError;
 use std::io::{Read, Write};
@@ -44,11 +44,12 @@ pub fn make_bus<'a, 'n, R: Wait + Clock + Clone + Drop, B: BusName, W: Write + D
     Ok((bus, hears))
 }
 
-/// Whom each frame is given to that is received: `heard` to whom error control messages are.
+/// Whom each frame is given to that is received: `heard` to whom error control messages are, `said` to whom remarks are.
 pub fn make_routes<'a, 'n, R, B: BusName>(
     setting: &Setting<'a, 'n, R>,
     workers: Vec<Sender<Received<B>>>,
     heard: Sender<ControlMessage<B>>,
+    said: Sender<HeardRemark<B>>,
 ) -> Result<Routes<B>, AllocError>
     ensures listed { IfOk result (λ r. r.listed.items ≡ listed_ids setting.now.network.now) }
     ensures workers { IfOk result (λ r. r.workers ≡ workers) }
@@ -62,6 +63,7 @@ pub fn make_routes<'a, 'n, R, B: BusName>(
         listening: Arc::try_clone(&setting.listening)?,
         workers,
         heard,
+        said,
         notifications: setting.notifications.clone()?,
     })
 }

@@ -18,7 +18,8 @@ use Rattle.cm_run.specs.declared.outcome.Outcome.{Outcome}
 use Rattle.cm_run.specs.Rounds.{Boots, Fail, Gives, HasRound, calls_in}
 use Rattle.std.specs.Prelude.{Option}
 use Rattle.cm_boot.specs.Talk.{Talks}
-use Rattle.cm_bus.specs.Receiving.{BusView, EndsBoot, IsPut}
+use Rattle.cm_bus.specs.Receiving.{BusView, EndsBoot, IsAskedOver}
+use Rattle.cm_can.specs.declared.frame.CanFrame.{CanFrame}
 use Rattle.cm_can.specs.declared.format.Format.{Format}
 use Rattle.cm_bus.specs.Talk.{IsAsked}
 use Rattle.cm_crew.specs.Hearing.{AreHeard, HasHeardCalls, IsHeardCall}
@@ -140,28 +141,37 @@ module _ (net : Network) (i : ℕ) where
         heard = subst (λ (l : List Made). AllHeard l log) (sym r.round.calls) (All-append (Heard log) r.round.before (calls_in i r.round.final) (subst (λ (l : List PortEvent). AllHeard r.round.before l) (sym g.grown) (all_before r.round.before r.round.between g.more f.heard)) g.heard);
       }
 
-  module _ (format : Format) (text : Option (List ℕ)) where
+  module _ {P : Type 0} (sends : P → List CanFrame → P → Type 0) (format : Format) (text : Option (List ℕ)) where
     -- the steps of the bus of a worker
-    abbrev Asks : BusView → ℕ → Question → Answer → BusView → Type 0
-    Asks b n q x c = IsAsked n q x b.log c.log × IsPut format text n q x b c
+    abbrev Asks : BusView P → ℕ → Question → Answer → BusView P → Type 0
+    Asks b n q x c = IsAskedOver sends format text n q x b c
 
-    abbrev Ends : BusView → ℕ → Bool → BusView → Type 0
+    abbrev Ends : BusView P → ℕ → Bool → BusView P → Type 0
     Ends b n x c = EndsBoot b c
 
-    -- of which the log is a part
-    pub log_heard : (m : ℕ) (o : Outcome) (old new : List Made) (at begun : ℕ) (c : BusView) → m ≤ 10
-        → HasRound Asks Ends net i m o old new (record { log = []; heard = at; begun = begun; goes_on = false }) c → HasHeardCalls net i old new c.log
-    log_heard m o old new at begun c few r =
-        round_heard m o old new c.log few
-        (seen_round (λ (b : BusView). b.log) Asks Step (λ b n q x d h. h.0) Ends Stays (λ b n x d e. sym e.log) net i m o old new (record { log = []; heard = at; begun = begun; goes_on = false }) c r)
+    abbrev bus : List PortEvent → ℕ → ℕ → Bool → P → BusView P
+    bus log heard begun goes_on port = record { log = log; heard = heard; begun = begun; goes_on = goes_on; port = port }
 
-    -- a bus whose log was emptied, and over which no boot goes on
-    pub from_forgotten : (m : ℕ) (o : Outcome) (old new : List Made) (b : BusView) (at begun : ℕ) (c : BusView)
-        → HasRound Asks Ends net i m o old new b c → b.log ≡ [] → b.heard ≡ at → b.begun ≡ begun → b.goes_on ≡ false
-        → HasRound Asks Ends net i m o old new (record { log = []; heard = at; begun = begun; goes_on = false }) c
-    from_forgotten m o old new b at begun c r log heard began off =
-        let P : List PortEvent → Type 0 = λ (l : List PortEvent). HasRound Asks Ends net i m o old new (record { log = l; heard = b.heard; begun = b.begun; goes_on = b.goes_on }) c in
-        let Q : ℕ → Type 0 = λ (n : ℕ). HasRound Asks Ends net i m o old new (record { log = []; heard = n; begun = b.begun; goes_on = b.goes_on }) c in
-        let S : ℕ → Type 0 = λ (n : ℕ). HasRound Asks Ends net i m o old new (record { log = []; heard = at; begun = n; goes_on = b.goes_on }) c in
-        let T : Bool → Type 0 = λ (x : Bool). HasRound Asks Ends net i m o old new (record { log = []; heard = at; begun = begun; goes_on = x }) c in
-        subst T off (subst S began (subst Q heard (subst P log r)))
+    -- a bus whose log was emptied, and over which no boot goes on, which is else as it was
+    abbrev forgotten : BusView P → BusView P
+    forgotten b = bus [] b.heard b.begun false b.port
+
+    -- of which the log is a part
+    pub log_heard : (m : ℕ) (o : Outcome) (old new : List Made) (b c : BusView P) → m ≤ 10 → HasRound Asks Ends net i m o old new (forgotten b) c → HasHeardCalls net i old new c.log
+    log_heard m o old new b c few r =
+        round_heard m o old new c.log few
+        (seen_round (λ (v : BusView P). v.log) Asks Step (λ v n q x d h. h.asked) Ends Stays (λ v n x d e. sym e.log) net i m o old new (forgotten b) c r)
+
+    -- it is this bus
+    same_bus : (d b : BusView P) → d.log ≡ [] → d.heard ≡ b.heard → d.begun ≡ b.begun → d.goes_on ≡ false → d.port ≡ b.port → d ≡ forgotten b
+    same_bus d b log heard begun off port =
+        ap (λ (l : List PortEvent). bus l d.heard d.begun d.goes_on d.port) log
+        ∙ (ap (λ (n : ℕ). bus [] n d.begun d.goes_on d.port) heard
+        ∙ (ap (λ (n : ℕ). bus [] b.heard n d.goes_on d.port) begun
+        ∙ (ap (λ (x : Bool). bus [] b.heard b.begun x d.port) off ∙ ap (λ (p : P). bus [] b.heard b.begun false p) port)))
+
+    pub from_forgotten : (m : ℕ) (o : Outcome) (old new : List Made) (d b c : BusView P)
+        → HasRound Asks Ends net i m o old new d c → d.log ≡ [] → d.heard ≡ b.heard → d.begun ≡ b.begun → d.goes_on ≡ false → d.port ≡ b.port
+        → HasRound Asks Ends net i m o old new (forgotten b) c
+    from_forgotten m o old new d b c r log heard begun off port =
+        subst (λ (v : BusView P). HasRound Asks Ends net i m o old new v c) (same_bus d b log heard begun off port) r

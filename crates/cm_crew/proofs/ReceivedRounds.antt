@@ -18,9 +18,9 @@ use Rattle.cm_run.specs.declared.outcome.Attempt.{Attempt}
 use Rattle.cm_run.specs.declared.outcome.Attempt.TheVariants as attempt
 use Rattle.cm_run.specs.declared.outcome.Outcome.{Outcome}
 use Rattle.cm_run.specs.Rounds.{Fail, Gives, HasRound, calls_in}
-use Rattle.cm_bus.specs.Talk.{IsAsked}
 use Rattle.cm_can.specs.declared.format.Format.{Format}
-use Rattle.cm_bus.specs.Receiving.{AreGiven, BusView, EndsBoot, IsGiven, IsHeard, IsPut}
+use Rattle.cm_can.specs.declared.frame.CanFrame.{CanFrame}
+use Rattle.cm_bus.specs.Receiving.{AreGiven, BusView, EndsBoot, IsAskedOver, IsGiven, IsHeard, IsPut}
 use Rattle.cm_bus.proofs.Given.{within_given}
 use Rattle.cm_crew.specs.ReceivedCalls.{AreReceived, IsNoReport, IsReceivedCall, IsReceivedList}
 use Rattle.cm_nmt.specs.declared.answers.Answers.{Answers}
@@ -84,76 +84,77 @@ module _ (format : Format) (text : Option (List ℕ)) where
 
     -- ---- a round
 
-    abbrev Step : BusView → ℕ → Question → Answer → BusView → Type 0
-    Step b i q x c = IsAsked i q x b.log c.log × IsPut format text i q x b c
+    module _ {P : Type 0} (sends : P → List CanFrame → P → Type 0) where
+      abbrev Step : BusView P → ℕ → Question → Answer → BusView P → Type 0
+      Step b i q x c = IsAskedOver sends format text i q x b c
 
-    abbrev Ends : BusView → ℕ → Bool → BusView → Type 0
-    Ends b i x c = EndsBoot b c
+      abbrev Ends : BusView P → ℕ → Bool → BusView P → Type 0
+      Ends b i x c = EndsBoot b c
 
-    -- the questions of a boot that goes on
-    talks_on : (i begun : ℕ) (list : List (Question × Answer)) (b c : BusView) → IsTrue b.goes_on → b.begun ≡ begun → Talks (λ b q x c. Step b i q x c) b list c
-        → AreGiven format text i begun list b.heard c.heard
-    talks_on i begun [] b c on at t = omega (arith, ap (λ (v : BusView). v.heard) t)
-    talks_on i begun (qx ∷ rest) b c on at t =
-        let p : IsPut format text i qx.0 t.1 b t.0 = t.2.1 in
-        let same : t.0.begun ≡ begun = p.goes_on on ∙ at in
-        let g = within_given format text i qx.0 t.1 t.0.begun begun b.heard p.from t.0.heard (omega (arith, same)) p.on p.given in
-        (t.0.heard, counted_given i qx.0 begun b.heard t.0.heard qx.1 t.1 t.3 g, talks_on i begun rest t.0 c p.still same t.4)
+      -- the questions of a boot that goes on
+      talks_on : (i begun : ℕ) (list : List (Question × Answer)) (b c : BusView P) → IsTrue b.goes_on → b.begun ≡ begun → Talks (λ b q x c. Step b i q x c) b list c
+          → AreGiven format text i begun list b.heard c.heard
+      talks_on i begun [] b c on at t = omega (arith, ap (λ (v : BusView P). v.heard) t)
+      talks_on i begun (qx ∷ rest) b c on at t =
+          let p : IsPut format text i qx.0 t.1 b t.0 = t.2.put in
+          let same : t.0.begun ≡ begun = p.goes_on on ∙ at in
+          let g = within_given format text i qx.0 t.1 t.0.begun begun b.heard p.from t.0.heard (omega (arith, same)) p.on p.given in
+          (t.0.heard, counted_given i qx.0 begun b.heard t.0.heard qx.1 t.1 t.3 g, talks_on i begun rest t.0 c p.still same t.4)
 
-    -- those of a boot that begins with the first of them
-    talks_given : (i : ℕ) (list : List (Question × Answer)) (b c : BusView) → IsFalse b.goes_on → Talks (λ b q x c. Step b i q x c) b list c
-        → (begun : ℕ) × (b.heard ≤ begun) × AreGiven format text i begun list begun c.heard
-    talks_given i [] b c off t = (c.heard, omega (arith, ap (λ (v : BusView). v.heard) t), omega arith)
-    talks_given i (qx ∷ rest) b c off t =
-        let p : IsPut format text i qx.0 t.1 b t.0 = t.2.1 in
-        let same : t.0.begun ≡ p.from = p.begins off in
-        let g = within_given format text i qx.0 t.1 t.0.begun p.from p.from p.from t.0.heard (omega (arith, same)) (omega arith) p.given in
-        (p.from, p.on, (t.0.heard, counted_given i qx.0 p.from p.from t.0.heard qx.1 t.1 t.3 g, talks_on i p.from rest t.0 c p.still same t.4))
+      -- those of a boot that begins with the first of them
+      talks_given : (i : ℕ) (list : List (Question × Answer)) (b c : BusView P) → IsFalse b.goes_on → Talks (λ b q x c. Step b i q x c) b list c
+          → (begun : ℕ) × (b.heard ≤ begun) × AreGiven format text i begun list begun c.heard
+      talks_given i [] b c off t = (c.heard, omega (arith, ap (λ (v : BusView P). v.heard) t), omega arith)
+      talks_given i (qx ∷ rest) b c off t =
+          let p : IsPut format text i qx.0 t.1 b t.0 = t.2.put in
+          let same : t.0.begun ≡ p.from = p.begins off in
+          let g = within_given format text i qx.0 t.1 t.0.begun p.from p.from p.from t.0.heard (omega (arith, same)) (omega arith) p.given in
+          (p.from, p.on, (t.0.heard, counted_given i qx.0 p.from p.from t.0.heard qx.1 t.1 t.3 g, talks_on i p.from rest t.0 c p.still same t.4))
 
-    -- the answers of a boot, behind whose end the bus is where it was
-    abbrev IsBootGiven : ℕ → Answers → BusView → BusView → Type 0
-    IsBootGiven i a b c = (begun : ℕ) × (b.heard ≤ begun) × AreGiven format text i begun (asked (entry net i) a) begun c.heard
+      -- the answers of a boot, behind whose end the bus is where it was
+      abbrev IsBootGiven : ℕ → Answers → BusView P → BusView P → Type 0
+      IsBootGiven i a b c = (begun : ℕ) × (b.heard ≤ begun) × AreGiven format text i begun (asked (entry net i) a) begun c.heard
 
-    boot_given : (i : ℕ) (a : Answers) (b d c : BusView) → IsFalse b.goes_on → Talks (λ b q x c. Step b i q x c) b (asked (entry net i) a) d → EndsBoot d c → IsBootGiven i a b c
-    boot_given i a b d c off t e =
-        let h = talks_given i (asked (entry net i) a) b d off t in
-        (h.0, h.1, subst (λ (n : ℕ). AreGiven format text i h.0 (asked (entry net i) a) h.0 n) (sym e.heard) h.2)
+      boot_given : (i : ℕ) (a : Answers) (b d c : BusView P) → IsFalse b.goes_on → Talks (λ b q x c. Step b i q x c) b (asked (entry net i) a) d → EndsBoot d c → IsBootGiven i a b c
+      boot_given i a b d c off t e =
+          let h = talks_given i (asked (entry net i) a) b d off t in
+          (h.0, h.1, subst (λ (n : ℕ). AreGiven format text i h.0 (asked (entry net i) a) h.0 n) (sym e.heard) h.2)
 
-    boot_on : (i : ℕ) (a : Answers) (b c : BusView) → IsBootGiven i a b c → b.heard ≤ c.heard
-    boot_on i a b c h = omega (arith, h.1, given_on i h.0 (asked (entry net i) a) h.0 c.heard h.2)
+      boot_on : (i : ℕ) (a : Answers) (b c : BusView P) → IsBootGiven i a b c → b.heard ≤ c.heard
+      boot_on i a b c h = omega (arith, h.1, given_on i h.0 (asked (entry net i) a) h.0 c.heard h.2)
 
-    -- of a bus over which no boot goes on, before and behind it
-    attempt_received : (i : ℕ) (b : BusView) (t : Attempt) (c : BusView) → IsFalse b.goes_on → Gives Step Ends net i b t c
-        → AreReceived format text net (calls_in i t) b.heard c.heard × IsFalse c.goes_on
-    attempt_received i b (attempt.NotBegun f) c off g = (omega (arith, ap (λ (v : BusView). v.heard) g), subst (λ (v : BusView). IsFalse v.goes_on) g off)
-    attempt_received i b (attempt.Refused r n) c off g =
-        ((b.heard, omega arith, omega (arith, ap (λ (v : BusView). v.heard) g.1)), subst (λ (v : BusView). IsFalse v.goes_on) g.1 off)
-    attempt_received i b (attempt.Left r n a) c off g =
-        ((b.heard, omega arith, boot_on i a b c (boot_given i a b g.1 c off g.2.talk g.3)), g.3.ended)
-    attempt_received i b (attempt.NotReported r n a f) c off g =
-        ((b.heard, omega arith, boot_on i a b c (boot_given i a b g.1 c off g.2.talk g.3)), g.3.ended)
-    attempt_received i b (attempt.Ended r n a s l) c off g =
-        ((b.heard, omega arith, (c.heard, boot_given i a b g.1 c off g.2.talk g.3, omega arith)), g.3.ended)
+      -- of a bus over which no boot goes on, before and behind it
+      attempt_received : (i : ℕ) (b : BusView P) (t : Attempt) (c : BusView P) → IsFalse b.goes_on → Gives Step Ends net i b t c
+          → AreReceived format text net (calls_in i t) b.heard c.heard × IsFalse c.goes_on
+      attempt_received i b (attempt.NotBegun f) c off g = (omega (arith, ap (λ (v : BusView P). v.heard) g), subst (λ (v : BusView P). IsFalse v.goes_on) g off)
+      attempt_received i b (attempt.Refused r n) c off g =
+          ((b.heard, omega arith, omega (arith, ap (λ (v : BusView P). v.heard) g.1)), subst (λ (v : BusView P). IsFalse v.goes_on) g.1 off)
+      attempt_received i b (attempt.Left r n a) c off g =
+          ((b.heard, omega arith, boot_on i a b c (boot_given i a b g.1 c off g.2.talk g.3)), g.3.ended)
+      attempt_received i b (attempt.NotReported r n a f) c off g =
+          ((b.heard, omega arith, boot_on i a b c (boot_given i a b g.1 c off g.2.talk g.3)), g.3.ended)
+      attempt_received i b (attempt.Ended r n a s l) c off g =
+          ((b.heard, omega arith, (c.heard, boot_given i a b g.1 c off g.2.talk g.3, omega arith)), g.3.ended)
 
-    attempts_received : (i : ℕ) (b : BusView) (ts : List Attempt) (list : List Made) (c : BusView) → IsFalse b.goes_on → Fail Step Ends net i b ts list c
-        → AreReceived format text net list b.heard c.heard × IsFalse c.goes_on
-    attempts_received i b [] list c off f = (
-      subst (λ (l : List Made). AreReceived format text net l b.heard c.heard) (sym f.0) (let z : b.heard ≤ c.heard = omega (arith, ap (λ (v : BusView). v.heard) f.1) in z),
-      subst (λ (v : BusView). IsFalse v.goes_on) f.1 off,
-    )
-    attempts_received i b (t ∷ ts) list c off f =
-        let first = attempt_received i b t f.1 off f.2 in
-        let others = attempts_received i f.1 ts f.0 c first.1 f.4 in
-        (subst (λ (l : List Made). AreReceived format text net l b.heard c.heard) (sym f.5) (append_received (calls_in i t) f.0 b.heard f.1.heard c.heard first.0 others.0), others.1)
+      attempts_received : (i : ℕ) (b : BusView P) (ts : List Attempt) (list : List Made) (c : BusView P) → IsFalse b.goes_on → Fail Step Ends net i b ts list c
+          → AreReceived format text net list b.heard c.heard × IsFalse c.goes_on
+      attempts_received i b [] list c off f = (
+        subst (λ (l : List Made). AreReceived format text net l b.heard c.heard) (sym f.0) (let z : b.heard ≤ c.heard = omega (arith, ap (λ (v : BusView P). v.heard) f.1) in z),
+        subst (λ (v : BusView P). IsFalse v.goes_on) f.1 off,
+      )
+      attempts_received i b (t ∷ ts) list c off f =
+          let first = attempt_received i b t f.1 off f.2 in
+          let others = attempts_received i f.1 ts f.0 c first.1 f.4 in
+          (subst (λ (l : List Made). AreReceived format text net l b.heard c.heard) (sym f.5) (append_received (calls_in i t) f.0 b.heard f.1.heard c.heard first.0 others.0), others.1)
 
-    pub round_received : (i m : ℕ) (o : Outcome) (old new : List Made) (b c : BusView) → IsFalse b.goes_on → HasRound Step Ends net i m o old new b c
-        → AreReceived format text net old 0 b.heard → AreReceived format text net new 0 c.heard
-    round_received i m o old new b c off r h =
-        let f = attempts_received i b r.round.failed r.round.before r.round.between off r.round.fails in
-        let g = attempt_received i r.round.between r.round.final c f.1 r.round.gives in
-        let added = append_received r.round.before (calls_in i r.round.final) b.heard r.round.between.heard c.heard f.0 g.0 in
-        subst (λ (l : List Made). AreReceived format text net l 0 c.heard) (sym r.grown)
-        (append_received old r.added 0 b.heard c.heard h (subst (λ (l : List Made). AreReceived format text net l b.heard c.heard) (sym r.round.calls) added))
+      pub round_received : (i m : ℕ) (o : Outcome) (old new : List Made) (b c : BusView P) → IsFalse b.goes_on → HasRound Step Ends net i m o old new b c
+          → AreReceived format text net old 0 b.heard → AreReceived format text net new 0 c.heard
+      round_received i m o old new b c off r h =
+          let f = attempts_received i b r.round.failed r.round.before r.round.between off r.round.fails in
+          let g = attempt_received i r.round.between r.round.final c f.1 r.round.gives in
+          let added = append_received r.round.before (calls_in i r.round.final) b.heard r.round.between.heard c.heard f.0 g.0 in
+          subst (λ (l : List Made). AreReceived format text net l 0 c.heard) (sym r.grown)
+          (append_received old r.added 0 b.heard c.heard h (subst (λ (l : List Made). AreReceived format text net l b.heard c.heard) (sym r.round.calls) added))
 
     -- ---- a call that is no report
 

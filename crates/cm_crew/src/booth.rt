@@ -19,14 +19,14 @@ use std::sync::atomic::AtomicBool;
 /// A worker's seat with its bus. Each report of the seat has its answers among the frames that the bus has heard, in
 /// their order, and is on a slave of this worker; it makes the calls of boots alone. Contracts see the seat.
 #[derive(Drop)]
-pub struct Booth<'n, K: RunName, B: BusName, P: Port<B>> {
+pub struct Booth<'n, K: RunName, B: BusName, P: Drop> {
     seat: Seat<K>,
     bus: LiveBus<'n, B, P>,
     /// How many workers there are.
     workers: u16,
 }
 
-impl<'n, K: RunName, B: BusName, P: Port<B>> Model for Booth<'n, K, B, P> {
+impl<'n, K: RunName, B: BusName, P: Drop> Model for Booth<'n, K, B, P> {
     ghost use Rattle.std.specs.Prelude.{◌≡◌, ◌+◌, ◌≤◌};
     ghost use Rattle.cm_register.specs.SeatViews.{SeatView};
     ghost use Rattle.cm_crew.specs.ReceivedCalls.{AreReceived};

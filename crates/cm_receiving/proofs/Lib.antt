@@ -3,3 +3,4 @@ pub mod Lines
 mod OneLine
 mod Untold
 pub mod Nodes
+mod Remarks

@@ -3,5 +3,6 @@ pub mod Cutting
 pub mod Doubling
 pub mod Identifiers
 pub mod Places
+pub mod Remarks
 pub mod Routing
 pub mod Strangers

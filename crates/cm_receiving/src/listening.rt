@@ -30,6 +30,21 @@ pub struct Listening {
     boot_ups: Vec<AtomicU64>,
 }
 
+/// How far what is received was read. Only the count that the reader of the bus keeps gives one.
+#[derive(Drop)]
+pub struct ReadMark {
+    bytes: u64,
+}
+
+impl ReadMark {
+    /// How many bytes were read by then.
+    pub fn bytes(&self) -> u64
+        ensures { result ≡ self.now.bytes }
+    {
+        self.bytes
+    }
+}
+
 /// The identifier of the frames that may answer a question: each that answers it has this one.
 fn id_of_answer(node: NodeId, question: &Question) -> u16
     ensures value { result ≡ id_of_answer node question.now }
@@ -111,9 +126,11 @@ impl Listening {
         self.received.store(bytes, Ordering::SeqCst);
     }
 
-    /// How many bytes were read by now.
-    pub fn received(&self) -> u64 {
-        self.received.load(Ordering::SeqCst)
+    /// How far what is received was read by now.
+    pub fn received(&self) -> ReadMark {
+        ReadMark {
+            bytes: self.received.load(Ordering::SeqCst),
+        }
     }
 
     /// The node has booted up, by the message at this place.

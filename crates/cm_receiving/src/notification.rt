@@ -1,4 +1,3 @@
-use cm_can::Remark;
 use cm_history::{CallFault, Entry};
 use cm_nmt::NodeId;
 
@@ -9,8 +8,6 @@ pub enum Notification {
     Entered(u64, Entry),
     /// A worker's attempts at a slave have ended; where a call couldn't be made, why.
     Ended(NodeId, Option<CallFault>),
-    /// The bus said this, beside the answers and the error control messages of listed nodes.
-    Said(Remark),
     /// The operator typed a line, which was sent before this is told.
     Typed,
     /// The operator types no more.

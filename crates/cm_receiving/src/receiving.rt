@@ -9,6 +9,7 @@ ghost use Rattle.cm_receiving.specs.Cutting.{ComeNext, IsLeft};
 
 use crate::boot_ups::BootUps;
 use crate::bus_name::BusName;
+use crate::heard_remark::HeardRemark;
 use crate::line_counter::LineCounter;
 use crate::notification::Notification;
 use crate::received::Received;
@@ -51,7 +52,7 @@ pub enum ReceivedLine<B: BusName> {
     /// A frame, with its place.
     Frame(Received<B>),
     /// What the interface says of the bus.
-    Error(CanError),
+    Error(HeardRemark<B>),
 }
 
 /// Cuts what is received into frames, each with its place and the last from which on another device may be its node. Contracts
@@ -104,7 +105,7 @@ impl<B: BusName> FrameCutter<B> {
         let Some(frame) = read_line(self.format, self.lines.line()) else {
             self.boot_ups.pass();
             let error = read_error(self.format, self.lines.line())?;
-            return Some(ReceivedLine::Error(error));
+            return Some(ReceivedLine::Error(HeardRemark::error(place, error)));
         };
         self.boot_ups.hear(&frame);
         let since = self.boot_ups.since(&frame);
@@ -116,7 +117,7 @@ impl<B: BusName> FrameCutter<B> {
 fn give<B: BusName, R: Wait + Clock>(rt: &R, heard: ReceivedLine<B>, routes: &Routes<B>) {
     match heard {
         ReceivedLine::Frame(received) => routes.take(rt, received),
-        ReceivedLine::Error(error) => routes.take_error(rt, error),
+        ReceivedLine::Error(error) => routes.say(rt, Some(error)),
     }
 }
 

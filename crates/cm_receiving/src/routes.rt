@@ -5,16 +5,16 @@ ghost use Rattle.cm_nmt.specs.NodeId.{IsNodeId};
 ghost use Rattle.cm_boot.specs.declared.question.Answer.{Answer};
 ghost use Rattle.cm_boot.specs.declared.question.Question.{Question};
 ghost use Rattle.cm_can.specs.Questions.{IsAnswer};
-ghost use Rattle.cm_receiving.specs.Routing.{IsAnswerOf, IsToldOf, worker_for};
+ghost use Rattle.cm_receiving.specs.Routing.{IsToldOf, worker_for};
 ghost use Rattle.cm_netlist.specs.Workers.{worker_of};
 
 use crate::bus_name::BusName;
 use crate::control_message::ControlMessage;
-use crate::doubling::answering;
+use crate::heard_remark::HeardRemark;
 use crate::listening::{Listening, sender_of};
 use crate::notification::Notification;
 use crate::received::Received;
-use cm_can::{CanError, CanFrame, Remark, read_remark};
+use cm_can::CanFrame;
 use cm_netlist::{place_of, worker_of};
 use cm_nmt::NodeId;
 use crossbeam_channel::Sender;
@@ -31,6 +31,9 @@ pub struct Routes<B: BusName> {
     pub workers: Vec<Sender<Received<B>>>,
     /// Who is told of error control messages.
     pub heard: Sender<ControlMessage<B>>,
+    /// Who is told of what else is said on the bus.
+    pub said: Sender<HeardRemark<B>>,
+    /// Who is told that nothing is received any more, or no frame.
     pub notifications: Sender<Notification>,
 }
 
@@ -76,25 +79,19 @@ impl<B: BusName> Routes<B> {
         Some(message)
     }
 
-    /// The listed node of which a frame is an answer that contradicts the one before: it alone of all answers stands at the last
-    /// place from which on another device may be its node.
-    fn doubled(&self, received: &Received<B>) -> Option<NodeId>
-        ensures { IfSome result (IsAnswerOf self.now.listed.items received.now.frame) }
-    {
-        if received.since() != received.place() {
-            return None;
+    /// Tells what is said on the bus, if something is.
+    pub(crate) fn say<R: Wait + Clock>(&self, rt: &R, remark: Option<HeardRemark<B>>) {
+        if let Some(remark) = remark {
+            let _ = self.said.send(rt, remark);
         }
-        let node = answering(&received.frame())?;
-        let _listed = place_of(self.listed.as_slice(), node)?;
-        Some(node)
     }
 
     /// Gives a frame to all that it is for.
     pub(crate) fn take<R: Wait + Clock>(&self, rt: &R, received: Received<B>) {
-        let frame = received.frame();
         let message = self.message_in(&received);
-        let doubled = self.doubled(&received);
-        if let Some(worker) = self.worker_that_hears(&frame) {
+        let remark = HeardRemark::of(&received);
+        let doubled = HeardRemark::doubled(&received, self.listed.as_slice());
+        if let Some(worker) = self.worker_that_hears(&received.frame()) {
             if let Some(hears) = self.workers.get(worker) {
                 let _ = hears.send(rt, received);
             }
@@ -102,19 +99,7 @@ impl<B: BusName> Routes<B> {
         if let Some(message) = message {
             let _ = self.heard.send(rt, message);
         }
-        if let Some(remark) = read_remark(&frame) {
-            let _ = self.notifications.send(rt, Notification::Said(remark));
-        }
-        if let Some(node) = doubled {
-            let remark = Remark::Doubled(node);
-            let _ = self.notifications.send(rt, Notification::Said(remark));
-        }
-    }
-
-    /// Tells an error of the bus.
-    pub(crate) fn take_error<R: Wait + Clock>(&self, rt: &R, error: CanError) {
-        let _ = self
-            .notifications
-            .send(rt, Notification::Said(Remark::Error(error)));
+        self.say(rt, remark);
+        self.say(rt, doubled);
     }
 }

@@ -143,7 +143,7 @@ impl<'n, W: Wire, K: RunName, J: Recorder> Book<'n, W, K, J> {
             Closed {
                 history,
                 lists,
-                wire,
+                wire: wire.into_wire(),
                 manager,
             },
             recorder,
@@ -237,7 +237,7 @@ impl<'n, W: Wire, K: RunName, J: Recorder> Book<'n, W, K, J> {
         } = self;
         Abandoned {
             history,
-            wire,
+            wire: wire.into_wire(),
             recorder,
         }
     }

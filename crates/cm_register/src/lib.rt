@@ -19,6 +19,7 @@ mod compare;
 mod fault;
 mod made;
 mod opened;
+mod recorded_wire;
 mod register;
 mod run_name;
 mod seat;

@@ -95,11 +95,15 @@ fn give<R: Wait + Clock + Abort>(
     let (heard, _heard) = crossbeam_channel::unbounded(alloc)
         .ok()
         .expect(rt, "a channel");
+    let (said, _said) = crossbeam_channel::unbounded(alloc)
+        .ok()
+        .expect(rt, "a channel");
     let routes = Routes {
         listed: listed(rt, alloc),
         listening,
         workers,
         heard,
+        said,
         notifications,
     };
     let source = Source::<Brand, Lines>::new(Lines { left }, Format::CanUtils);
@@ -179,8 +183,8 @@ fn hear<R: Wait + Clock + Clone + Drop + Abort>(
     wait_there(rt, &one.heard, first);
     wait_there(rt, &other.heard, second);
     // all bytes were read: what stands in them is late for the next question
-    sure(rt, one.received() == HEARD.len() as u64);
-    sure(rt, other.received() == HEARD.len() as u64);
+    sure(rt, one.received().bytes() == HEARD.len() as u64);
+    sure(rt, other.received().bytes() == HEARD.len() as u64);
 }
 
 #[test]

@@ -1,10 +1,10 @@
-use Rattle.std.proofs.Common.{◌∙◌, refl, sym, subst, arith}
+use Rattle.std.proofs.Common.{◌∙◌, [], refl, sym, subst, arith}
 use Rattle.std.specs.Prelude.{Option}
 use Rattle.cm_bus.specs.Receiving.{IsGiven}
 use Rattle.cm_bus.specs.Talk.{answer_in}
 use Rattle.cm_bus.specs.declared.bus.Reply.{Reply}
 use Rattle.cm_bus.proofs.Giving.{given_frame, given_silent}
-use Rattle.cm_bus.proofs.Waiting.{passed_answered, passed_more}
+use Rattle.cm_bus.proofs.Waiting.{passed_answered, passed_more, passed_over}
 use Rattle.cm_bus.proofs.bus.wait_for.Goals as goal
 
 pub returns-in-Some-answered_by-clause-waited : goal.returns-in-Some-answered_by-clause-waited
@@ -30,9 +30,18 @@ loop-passed-preserved g c = (
       (λ a h. let e = (c.answered_by.ensures a).1 h in let d = c.in_default-answered_by.is in cc),
   c.push_reserved.ensures.capacity ∙ c.loop-passed.invariant.1,
   omega (arith, c.loop-passed.invariant.2),
+  g.met.P.Port.sends_more c.args.port.now c.loop-passed.port c.hear.new.self [] [] c.loop-passed.invariant.3 c.hear.ensures,
 )
 
 pub returns-in_default-clause-given : goal.returns-in_default-clause-given
 returns-in_default-clause-given g c =
     subst (λ (r : Option Reply). IsGiven g.B.BusName.format g.B.BusName.text c.args.id c.args.question.now (answer_in r) c.args.begun c.args.last.now c.loop-passed.last) (sym c.expire.ensures.none)
     (given_silent g.B.BusName.format g.B.BusName.text c.args.id c.args.question.now c.args.begun c.args.last.now c.loop-passed.last c.loop-passed.last c.loop-passed.invariant.2 refl)
+
+pub loop-passed-preserved-then-place-last : goal.loop-passed-preserved-then-place-last
+loop-passed-preserved-then-place-last g c = (
+  passed_over c.args.id c.args.question.now c.loop-passed.passed c.args.log.now.items c.loop-passed.log.items c.loop-passed.invariant.0,
+  c.loop-passed.invariant.1,
+  c.loop-passed.invariant.2,
+  g.met.P.Port.sends_more c.args.port.now c.loop-passed.port c.hear.new.self [] [] c.loop-passed.invariant.3 c.hear.ensures,
+)

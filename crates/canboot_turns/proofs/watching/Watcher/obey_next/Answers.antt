@@ -1,4 +1,3 @@
-use Rattle.std.proofs.Common.{inr}
 use Rattle.canboot_turns.specs.Causes.{stand_of}
 use Rattle.canboot_turns.proofs.Going.{both_ok, quit_on}
 use Rattle.canboot_turns.proofs.watching.Watcher.obey_next.Goals as goal
@@ -6,7 +5,7 @@ use Rattle.canboot_turns.proofs.watching.Watcher.obey_next.Goals as goal
 pub returns-in-Ok-clause-obeyed : goal.returns-in-Ok-clause-obeyed
 returns-in-Ok-clause-obeyed g c = λ s past f.
     both_ok c.obey.result (c.obey.ensures.told s past f) (c.obey.ensures.made s past f)
-    (λ follows made. inr (record { place = c.in-Ok.line.place; line = c.in-Ok.line.line; stands = c.obey.ensures.stands; follows = follows; made = made }))
+    (λ follows made. record { place = c.in-Ok.line.place; line = c.in-Ok.line.line; stands = c.obey.ensures.stands; follows = follows; made = made })
 
 pub returns-in-Ok-clause-quits : goal.returns-in-Ok-clause-quits
 returns-in-Ok-clause-quits g c = λ e.

@@ -30,7 +30,7 @@ returns-then-not-look-clause-goes_on g c =
     let shown = c.show.new.self in
     let kept_up = course_stand c.keep_up.new.self shown.operator shown.heard_upto in
     let now = c.now-now.result in
-    let received = c.received.result in (
+    let received = c.bytes.result in (
       shown.pace,
       now,
       received,
@@ -45,7 +45,7 @@ returns-clause-goes_on g c =
     let shown = c.show.new.self in
     let kept_up = course_stand c.keep_up.new.self shown.operator shown.heard_upto in
     let now = c.now-now.result in
-    let received = c.received.result in (
+    let received = c.bytes.result in (
       shown.pace,
       now,
       received,

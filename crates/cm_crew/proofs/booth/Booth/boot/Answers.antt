@@ -23,7 +23,7 @@ invariant_of-self g c =
     let own : seat_of net seats c.args.id ≡ Some s.seat.number =
     ap (λ (w : ℕ). option_map (λ k. k + 2) (worker_of (listed_ids net) w c.args.id)) (sym workers)
     ∙ (ap (λ (ids : List ℕ). option_map (λ k. k + 2) (worker_of ids s.workers c.args.id)) (sym listed) ∙ (sym c.seat_of.ensures ∙ (equal_some c.seat_of.result c.from.result (sym c.ne.ensures ∙ c.if-ne.false) ∙ ap Some (c.from.ensures ∙ c.number.ensures.value)))) in (
-      round_received g.B.BusName.format g.B.BusName.text net c.args.id c.args.most c.live_round.result s.seat.list c.live_round.new.seat.list (record { log = []; heard = s.bus.heard; begun = s.bus.begun; goes_on = false }) c.live_round.new.bus refl round i.0,
+      round_received g.B.BusName.format g.B.BusName.text net g.P.Port.sends c.args.id c.args.most c.live_round.result s.seat.list c.live_round.new.seat.list (record { log = []; heard = s.bus.heard; begun = s.bus.begun; goes_on = false; port = s.bus.port }) c.live_round.new.bus refl round i.0,
       round_each IsMadeInBoot c.args.id (λ p r. tt) (λ p n a r. tt) _ _ net c.args.most c.live_round.result s.seat.list c.live_round.new.seat.list _ c.live_round.new.bus round i.1,
       subst (λ (n : ℕ). AreOfItsSeat net seats n c.live_round.new.seat.list) (sym c.live_round.ensures.number)
           (round_each (λ (m : Made). IsOfItsSeat net seats s.seat.number m.call) c.args.id (λ p r. tt) (λ p n a r. own) _ _ net c.args.most c.live_round.result s.seat.list c.live_round.new.seat.list _ c.live_round.new.bus round i.2),

@@ -1,6 +1,6 @@
 use Rattle.std.proofs.Common.{ℕ, List, arith, subst, sym}
 use Rattle.cm_can.specs.declared.format.Format.{Format}
-use Rattle.cm_receiving.specs.Places.{IsFrameLine}
+use Rattle.cm_receiving.specs.Places.{IsErrorIn, IsFrameLine}
 use Rattle.cm_receiving.proofs.BootUps.{no_frame_there, no_line, other_frame}
 use Rattle.cm_receiving.proofs.Lines.{counted_line, counted_more}
 use Rattle.cm_receiving.proofs.receiving.FrameCutter.take.Goals as goal
@@ -64,3 +64,13 @@ invariant_of-self-2 g c = (
   omega (arith, c.hear.ensures, c.take.ensures.taken, c.self.invariant.1),
   counted_more g.B.BusName.text c.args.self.now c.args.byte c.self.inside.lines c.take.new.self c.self.view_is c.requires.next c.take.ensures.counting c.self.invariant.2,
 )
+
+pub error-requires : goal.error-requires
+error-requires g c = record {
+  stands = λ t e.
+      let line = c.take.new.self.lines.line.items in (
+        line,
+        counted_line g.B.BusName.text c.args.self.now c.args.byte c.in-Some.place line c.self.inside.lines c.self.view_is c.requires.next c.in-Some.ensures.line c.self.invariant.2 t e,
+        subst (λ (f : Format). IsErrorIn f line c.in_ok-error.error) c.self.invariant.0 (subst (λ (l : List ℕ). IsErrorIn c.self.inside.format l c.in_ok-error.error) c.line-in_default-read_line.ensures c.in_ok-error.ensures.some),
+      );
+}
