@@ -21,7 +21,7 @@ use cm_can::ControlFrame;
 use cm_history::{CallFault, Entry};
 use cm_netlist::Network;
 use cm_nmt::NodeId;
-use cm_receiving::{BusName, HeardRemark, Notification};
+use cm_receiving::{BusName, Notification};
 use cm_register::{RunName, Seat};
 use cm_sequential::frames;
 use cm_telling::{Tried, Waiting};
@@ -284,33 +284,12 @@ impl<'w, 'a, 'n, R: Wait + Clock> LiveCourse<'w, 'a, 'n, R> {
         }
     }
 
-    /// Tells what else was said on the bus, as many remarks as wait by now.
-    fn tell_remarks<B: BusName, E: Write>(
-        &mut self,
-        err: &mut E,
-        said: &Receiver<HeardRemark<B>>,
-        now: u64,
-    )
-        ensures progress { self.new.progress ≡ self.old.progress }
-        ensures network { self.new.network ≡ self.old.network }
-    {
-        let rt = self.setting.rt;
-        for _ in 0..said.len() {
-            let Ok(heard) = said.try_recv(rt) else {
-                return;
-            };
-            let remark = heard.remark();
-            let _ = self.teller.tell_remark(err, rt, self.network, &remark, now);
-        }
-    }
-
     /// Tells what is to be told by now, and sends what is to be sent for error control. Where a frame or an entry was lost, the run ends.
     pub(crate) fn keep_up<K: RunName, B: BusName, E: Write, W: Write + Drop>(
         &mut self,
         err: &mut E,
         outlet: &mut CausedOutlet<W, B, ControlFrame>,
         versions: &mut VersionReader<K>,
-        said: &Receiver<HeardRemark<B>>,
         seat: &Seat<K>,
         now: u64,
     ) -> Result<(), Ending>
@@ -320,7 +299,6 @@ impl<'w, 'a, 'n, R: Wait + Clock> LiveCourse<'w, 'a, 'n, R> {
         ensures other { result ≡ Err Ending.Asked → ⊥ }
     {
         self.tell(err, versions, seat, false);
-        self.tell_remarks(err, said, now);
         let rt = self.setting.rt;
         let _ = self.teller.tell_left_out(err, rt, self.network, now);
         self.send_error_control(outlet, now)?;

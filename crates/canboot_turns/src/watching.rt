@@ -281,8 +281,28 @@ impl<'w, 'a, 'n, R: Wait + Clock + Drop, K: RunName, B: BusName, M: LiveRegister
         Ok(())
     }
 
+    /// Tells so many remarks, which wait, in words.
+    fn tell_remarks<E: Write>(&mut self, err: &mut E, count: usize)
+        ensures { stand_of self.new ≡ stand_of self.old }
+    {
+        let rt = self.course.setting.rt;
+        let now = self.course.setting.now();
+        for _ in 0..count {
+            let Ok(heard) = self.inputs.said.try_recv(rt) else {
+                return;
+            };
+            let remark = heard.remark();
+            let network = self.course.network;
+            let _ = self
+                .course
+                .teller
+                .tell_remark(err, rt, network, &remark, now);
+        }
+    }
+
     /// Takes what has happened, then each error control message that waits by then, behind all entries that were recorded before it, and
-    /// then what is typed, not so much that the network isn't watched meanwhile.
+    /// then what is typed, not so much that the network isn't watched meanwhile. What was said besides is told last: of a message of ours
+    /// that was heard the entry was taken before.
     fn take_all<E: Write>(
         &mut self,
         err: &mut E,
@@ -294,9 +314,11 @@ impl<'w, 'a, 'n, R: Wait + Clock + Drop, K: RunName, B: BusName, M: LiveRegister
         let wait_ms = if self.typing.is_empty() { TURN_MS } else { 0 };
         self.hear_all(err, notifications, wait_ms)?;
         let waiting = self.inputs.heard.len();
+        let said = self.inputs.said.len();
         self.hear_all(err, notifications, 0)?;
         self.hear_messages(waiting)?;
         self.obey_some(err)?;
+        self.tell_remarks(err, said);
         Ok(())
     }
 
@@ -336,14 +358,8 @@ impl<'w, 'a, 'n, R: Wait + Clock + Drop, K: RunName, B: BusName, M: LiveRegister
         let setting = self.course.setting;
         let now = setting.now();
         let seat = self.operator.as_seat();
-        self.course.keep_up(
-            err,
-            outlet,
-            &mut self.versions,
-            &self.inputs.said,
-            seat,
-            now,
-        )?;
+        self.course
+            .keep_up(err, outlet, &mut self.versions, seat, now)?;
         if !self.pace.look(now, setting.listening.received().bytes()) {
             return Ok(());
         }

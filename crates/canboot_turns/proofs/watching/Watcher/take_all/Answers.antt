@@ -1,4 +1,5 @@
-use Rattle.canboot_turns.specs.Causes.{stand_of}
+use Rattle.std.proofs.Common.{subst, sym}
+use Rattle.canboot_turns.specs.Causes.{GoesOn, stand_of}
 use Rattle.canboot_turns.specs.declared.ending.Ending.TheVariants.{Asked}
 use Rattle.canboot_turns.proofs.Going.{asked_on, on_and_on, passed_on}
 use Rattle.canboot_turns.proofs.watching.Watcher.take_all.Goals as goal
@@ -14,9 +15,10 @@ returns-clause-goes_on g c =
     let took = stand_of c.hear_all.new.self in
     let again = stand_of c.hear_all-2.new.self in
     let heard = stand_of c.hear_messages.new.self in
-    on_and_on g.B.BusName.format g.B.BusName.text g.B.BusName.typed began heard (stand_of c.obey_some.new.self)
+    subst (GoesOn g.B.BusName.format g.B.BusName.text g.B.BusName.typed began) (sym c.tell_remarks.ensures)
+    (on_and_on g.B.BusName.format g.B.BusName.text g.B.BusName.typed began heard (stand_of c.obey_some.new.self)
     (on_and_on g.B.BusName.format g.B.BusName.text g.B.BusName.typed began again heard (on_and_on g.B.BusName.format g.B.BusName.text g.B.BusName.typed began took again c.in_ok-hear_all.ensures.goes_on c.in_ok-hear_all-2.ensures.goes_on) c.in_ok-hear_messages.ensures.goes_on)
-    c.in_ok-obey_some.ensures.goes_on
+    c.in_ok-obey_some.ensures.goes_on)
 
 pub returns-in_err-obey_some-clause-quits : goal.returns-in_err-obey_some-clause-quits
 returns-in_err-obey_some-clause-quits g c = λ e.
